@@ -39,13 +39,14 @@ pub fn forget_at(
 }
 
 /// A path arrives at a state. If the state was kept already and is to be stored, the kept one is
-/// taken.
+/// taken; if not, it may share with the state that became pending last.
 pub fn arrive(
     alloc: Global,
     flow: &Flow<'_>,
     states: &mut StoredStates,
     state: &State,
     kept: &mut Option<Kept>,
+    pending: Option<&Kept>,
     scratch: &mut State,
 ) -> Result<Move, Refused>
     requires kept { IfSome kept.old (λ s. s ≡ state.now) }
@@ -73,7 +74,7 @@ pub fn arrive(
     if states.is_full {
         return Ok(Move::New(None));
     }
-    match states.store(alloc, state, kept) {
+    match states.store(alloc, state, kept, pending) {
         Ok(index) => Ok(Move::New(Some(index))),
         Err(_) => Err(NO_MEMORY),
     }

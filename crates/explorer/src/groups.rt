@@ -1,6 +1,6 @@
 //! Parts in groups, which kept states share with one another.
 
-ghost use Rattle.std.specs.Prelude.{◌≡◌, ◌++◌, [], IfOk, IsTrue, OnOk, option_to_list};
+ghost use Rattle.std.specs.Prelude.{◌≡◌, ◌++◌, [], IfOk, IfSome, IsTrue, OnOk, option_to_list};
 ghost use Rattle.std.specs.List.{All};
 ghost use Rattle.state_index.specs.Parts.{IsPartOf, all_written, register_part, slot_part};
 ghost use Rattle.explorer.specs.Groups.{whole, constant_of, others_of, few_of, groups_of};
@@ -108,18 +108,39 @@ fn first_group(parts: &[Part]) -> usize {
     count
 }
 
+/// The groups of two other states, some of which a state may share.
+#[derive(Clone, Copy)]
+pub struct OtherGroups<'a> {
+    pub first: &'a [SharedParts],
+    pub second: &'a [SharedParts],
+}
+
+/// One of the groups once more, if it has just these parts.
+fn shared_with(parts: &[Part], others: &[SharedParts]) -> Result<Option<SharedParts>, AllocError>
+    ensures { IfOk result (λ found. IfSome found (λ group. group ≡ parts.now)) }
+{
+    for index in 0..others.len() {
+        if are_same(others[index].parts(), parts) {
+            let group = others[index].share()?;
+            return Ok(Some(group));
+        }
+    }
+    Ok(None)
+}
+
 /// A group that has these parts: one of the others, where one has just these.
 fn group_with(
     alloc: Global,
     parts: &[Part],
-    others: &[SharedParts],
+    others: OtherGroups<'_>,
 ) -> Result<SharedParts, AllocError>
     ensures { IfOk result (λ group. group ≡ parts.now) }
 {
-    for index in 0..others.len() {
-        if are_same(others[index].parts(), parts) {
-            return others[index].share();
-        }
+    if let Some(group) = shared_with(parts, others.first)? {
+        return Ok(group);
+    }
+    if let Some(group) = shared_with(parts, others.second)? {
+        return Ok(group);
     }
     SharedParts::of(alloc, parts)
 }
@@ -139,7 +160,7 @@ fn push_group(
     alloc: Global,
     groups: &mut Vec<SharedParts>,
     parts: &[Part],
-    others: &[SharedParts],
+    others: OtherGroups<'_>,
 ) -> Result<(), AllocError>
     ensures { OnOk result (whole groups.new.items ≡ whole groups.old.items ++ parts.now) }
 {
@@ -161,12 +182,12 @@ pub enum KeptParts {
 }
 
 impl KeptParts {
-    /// The parts, in groups if they are more than `most`. The groups of another state that have the
+    /// The parts, in groups if they are more than `most`. The groups of other states that have the
     /// same parts are shared. Of an innermost frame, a constant that comes first is kept by itself.
     pub fn of(
         alloc: Global,
         parts: &[Part],
-        others: &[SharedParts],
+        others: OtherGroups<'_>,
         most: usize,
         is_innermost: bool,
     ) -> Result<Self, AllocError>
@@ -257,11 +278,11 @@ impl KeptParts {
     }
 }
 
-/// The parts in groups. Another state may share some of them.
+/// The parts in groups. Other states may share some of them.
 fn cut(
     alloc: Global,
     parts: &[Part],
-    others: &[SharedParts],
+    others: OtherGroups<'_>,
 ) -> Result<Vec<SharedParts>, AllocError>
     ensures { IfOk result (λ groups. whole groups.items ≡ parts.now) }
 {

@@ -1,6 +1,6 @@
 //! Abstract states, kept compactly.
 
-ghost use Rattle.std.specs.Prelude.{◌≡◌, IfOk, IsTrue};
+ghost use Rattle.std.specs.Prelude.{◌≡◌, IfOk, IfSome, IsTrue};
 ghost use Rattle.state_index.specs.Parts.{AreBlankBeside, AreParts};
 
 use crate::kept_frames::{KeptFrame, are_frames, keep_all, restore_all};
@@ -18,25 +18,71 @@ pub const PLACES: usize = 10 + STACK_SIZE / 8;
 /// How many words a state takes besides its call frames.
 const STATE_WORDS: u32 = 16;
 
+/// Two other states, with which a state may share what is the same.
+#[derive(Clone, Copy)]
+pub struct Others<'a> {
+    pub first: Option<&'a Kept>,
+    pub second: Option<&'a Kept>,
+}
+
+impl<'a> Others<'a> {
+    /// One other state, if there is one.
+    pub fn one(other: Option<&'a Kept>) -> Self {
+        Others {
+            first: other,
+            second: None,
+        }
+    }
+}
+
+/// The innermost frame of a state, if there is one.
+fn innermost_in(other: Option<&Kept>) -> Option<&KeptFrame> {
+    match other {
+        Some(other) => Some(&other.innermost),
+        None => None,
+    }
+}
+
+/// The callers of a state, if there is one.
+fn callers_in(other: Option<&Kept>) -> &[KeptFrame] {
+    match other {
+        Some(other) => other.callers.as_ref().as_slice(),
+        None => &[],
+    }
+}
+
+/// The callers of another state once more, if they are the same.
+fn shared_callers(
+    frames: &[AbstractFrame],
+    other: Option<&Kept>,
+) -> Result<Option<Rc<Vec<KeptFrame>>>, AllocError>
+    ensures { IfOk result (λ found. IfSome found (λ kept. kept.value.items ≡ frames.now)) }
+{
+    if let Some(other) = other {
+        if are_frames(other.callers.as_ref().as_slice(), frames) {
+            let callers = other.callers.clone()?;
+            return Ok(Some(callers));
+        }
+    }
+    Ok(None)
+}
+
 /// Keeps the callers of a state: those of another state, where they are the same.
 fn keep_callers(
     alloc: Global,
     frames: &[AbstractFrame],
     parts: &mut Vec<Part>,
-    other: Option<&Kept>,
+    others: Others<'_>,
 ) -> Result<Rc<Vec<KeptFrame>>, AllocError>
     ensures { IfOk result (λ kept. kept.value.items ≡ frames.now) }
 {
-    let others = match other {
-        Some(other) => {
-            let others = other.callers.as_ref().as_slice();
-            if are_frames(others, frames) {
-                return other.callers.clone();
-            }
-            others
-        }
-        None => &[],
-    };
+    if let Some(callers) = shared_callers(frames, others.first)? {
+        return Ok(callers);
+    }
+    if let Some(callers) = shared_callers(frames, others.second)? {
+        return Ok(callers);
+    }
+    let others = (callers_in(others.first), callers_in(others.second));
     let kept = keep_all(alloc, frames, parts, others)?;
     match Rc::new(alloc, kept) {
         Ok(kept) => Ok(kept),
@@ -101,7 +147,7 @@ impl Kept {
         ensures { IfOk result (λ kept. kept ≡ state.now) }
     {
         take_parts(parts, &state.innermost)?;
-        Kept::of_parts(alloc, state, parts, other)
+        Kept::of_parts(alloc, state, parts, Others::one(other))
     }
 
     /// The same for a state whose innermost call frame has only these stack slots about which
@@ -111,13 +157,13 @@ impl Kept {
         state: &State,
         stack_slots: SlotMask,
         parts: &mut Vec<Part>,
-        other: Option<&Kept>,
+        others: Others<'_>,
     ) -> Result<Self, AllocError>
         requires { AreBlankBeside stack_slots state.now.innermost.stack.slots }
         ensures { IfOk result (λ kept. kept ≡ state.now) }
     {
         take_parts_in(parts, &state.innermost, stack_slots)?;
-        Kept::of_parts(alloc, state, parts, other)
+        Kept::of_parts(alloc, state, parts, others)
     }
 
     /// Keeps a state whose innermost frame has these parts. The parts of its other frames are
@@ -126,7 +172,7 @@ impl Kept {
         alloc: Global,
         state: &State,
         parts: &mut Vec<Part>,
-        other: Option<&Kept>,
+        others: Others<'_>,
     ) -> Result<Self, AllocError>
         requires { AreParts parts.old.items state.now.innermost }
         ensures { IfOk result (λ kept. kept ≡ state.now) }
@@ -134,10 +180,7 @@ impl Kept {
         let Ok(slot) = u32::try_from(state.slot) else {
             return Err(AllocError);
         };
-        let like = match other {
-            Some(other) => Some(&other.innermost),
-            None => None,
-        };
+        let like = (innermost_in(others.first), innermost_in(others.second));
         let innermost = KeptFrame::with_parts(
             alloc,
             &state.innermost,
@@ -145,7 +188,7 @@ impl Kept {
             like,
             true,
         )?;
-        let callers = keep_callers(alloc, state.callers.as_slice(), parts, other)?;
+        let callers = keep_callers(alloc, state.callers.as_slice(), parts, others)?;
         let words = own_words(&innermost, &callers);
         Ok(Kept {
             slot,

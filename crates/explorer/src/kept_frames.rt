@@ -5,7 +5,7 @@ ghost use Rattle.stack_state.specs.Slots.{frame_slots};
 ghost use Rattle.state_index.specs.Parts.{AreParts, register_parts, slot_parts};
 
 use crate::blanks::clear_frame;
-use crate::groups::{FEW, KeptParts, Rest, may_cover_all, write_all};
+use crate::groups::{FEW, KeptParts, OtherGroups, Rest, SharedParts, may_cover_all, write_all};
 use arrayvec::ArrayVec;
 use reg_state::Kind;
 use stack_state::{AbstractFrame, FRAME_SLOTS, MAX_CALLERS, StackSlot};
@@ -38,21 +38,29 @@ impl Model for KeptFrame {
         ≡ few_of k.parts ++ whole (groups_of k.parts) };
 }
 
+/// The groups of a frame, if there is one.
+fn groups_in(frame: Option<&KeptFrame>) -> &[SharedParts] {
+    match frame {
+        Some(frame) => frame.parts.groups(),
+        None => &[],
+    }
+}
+
 impl KeptFrame {
-    /// Keeps a frame with these parts, in groups, some of which it may share with another frame.
+    /// Keeps a frame with these parts, in groups, some of which it may share with other frames.
     pub fn with_parts(
         alloc: Global,
         frame: &AbstractFrame,
         parts: &[Part],
-        other: Option<&KeptFrame>,
+        others: (Option<&KeptFrame>, Option<&KeptFrame>),
         is_innermost: bool,
     ) -> Result<Self, AllocError>
         requires { AreParts parts.now frame.now }
         ensures { IfOk result (λ kept. kept ≡ frame.now) }
     {
-        let others = match other {
-            Some(other) => other.parts.groups(),
-            None => &[],
+        let others = OtherGroups {
+            first: groups_in(others.0),
+            second: groups_in(others.1),
         };
         let parts = KeptParts::of(alloc, parts, others, FEW, is_innermost)?;
         Ok(KeptFrame {
@@ -215,7 +223,7 @@ pub fn keep_all(
     alloc: Global,
     frames: &[AbstractFrame],
     scratch: &mut Vec<Part>,
-    others: &[KeptFrame],
+    others: (&[KeptFrame], &[KeptFrame]),
 ) -> Result<Vec<KeptFrame>, AllocError>
     ensures { IfOk result (λ kept. kept.items ≡ frames.now) }
 {
@@ -223,7 +231,8 @@ pub fn keep_all(
     for index in 0..frames.len() {
         take_parts(scratch, &frames[index])?;
         let parts = scratch.as_slice();
-        let frame = KeptFrame::with_parts(alloc, &frames[index], parts, others.get(index), false)?;
+        let others = (others.0.get(index), others.1.get(index));
+        let frame = KeptFrame::with_parts(alloc, &frames[index], parts, others, false)?;
         kept.push(frame)?;
     }
     Ok(kept)

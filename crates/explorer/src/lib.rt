@@ -11,6 +11,7 @@ mod constants;
 mod groups;
 mod kept;
 mod kept_frames;
+mod latest;
 pub mod listened;
 mod listening;
 mod moves;

@@ -81,6 +81,7 @@ impl Search {
             &mut self.states,
             &self.current,
             &mut kept,
+            self.path.last_pending(),
             &mut self.scratch,
         )
     }
@@ -141,7 +142,8 @@ impl Search {
             Ways::Two => {
                 forget(flow, false, &mut self.scratch);
                 let mask = kept_slots(flow, self.scratch.slot);
-                match Kept::of_forgotten(alloc, &self.scratch, mask, parts, self.states.last()) {
+                let others = self.path.others_at(self.scratch.slot, self.states.last());
+                match Kept::of_forgotten(alloc, &self.scratch, mask, parts, others) {
                     Ok(other) => Some(other),
                     Err(_) => return Err(NO_MEMORY),
                 }

@@ -6,7 +6,7 @@ ghost use Rattle.state_index.specs.Parts.{AreBlankBeside, AreParts};
 ghost use Rattle.state_index.specs.Rooms.{HasShapeRoom};
 ghost use Rattle.explorer.specs.StoredStates.{IsStored, IsCovered, IsRepeated, StoredAt, GetsNumber};
 
-use crate::kept::{Kept, PLACES};
+use crate::kept::{Kept, Others, PLACES};
 use crate::state_trees::tree_of;
 use control_flow::SlotMask;
 use stack_state::State;
@@ -336,12 +336,13 @@ impl StoredStates {
     }
 
     /// Stores the state that was taken, and returns its index. If the state was kept before, the
-    /// kept one is stored.
+    /// kept one is stored; if not, it may share with the state that became pending last.
     pub fn store(
         &mut self,
         alloc: Global,
         state: &State,
         kept: &mut Option<Kept>,
+        pending: Option<&Kept>,
     ) -> Result<usize, AllocError>
         requires drawn { kept.old ≡ None
             → AreParts self.old.key.parts.items state.now.innermost }
@@ -359,8 +360,11 @@ impl StoredStates {
         let state = match kept.take() {
             Some(kept) => kept,
             None => {
-                let last = last_of(&self.states);
-                Kept::of_parts(alloc, state, &mut self.key.parts, last)?
+                let others = Others {
+                    first: last_of(&self.states),
+                    second: pending,
+                };
+                Kept::of_parts(alloc, state, &mut self.key.parts, others)?
             }
         };
         let words = match self.index.has_trees() {

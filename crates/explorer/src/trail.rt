@@ -3,14 +3,10 @@
 ghost use Rattle.std.specs.Prelude.{◌≡◌, ◌≤◌, ◌+◌, ◌++◌, ◌∷◌, [], length, MatchOption, OnOk, OnErr, IfOk, option_to_list, is_some};
 ghost use Rattle.explorer.specs.Trail.{one_if, TakesLastPending};
 
-use crate::kept::Kept;
+use crate::kept::{Kept, Others};
+use crate::latest::LatestPending;
 use std::alloc::{AllocError, Global};
 use std::marker::Model;
-
-/// How many words of 8 bytes the pending states of a path may take, shared ones not counted. A path
-/// that takes more is out of memory, however much the machine has, so that every machine gives the
-/// same verdict.
-const MOST_WORDS: u64 = 18_000_000;
 
 /// An instruction on the path, and what is still to be explored after it.
 #[derive(Drop)]
@@ -40,8 +36,7 @@ struct KeptVisit {
 pub struct Trail {
     visits: Vec<KeptVisit>,
     pending: Vec<Kept>,
-    /// How many words the pending states take.
-    words: u64,
+    latest: LatestPending,
 }
 
 impl Model for Trail {
@@ -82,25 +77,21 @@ fn as_usize(stored: Option<u32>) -> Option<usize>
 #[inline(always)]
 fn put_pending(
     pending: &mut Vec<Kept>,
-    words: &mut u64,
+    latest: &mut LatestPending,
     state: Option<Kept>,
 ) -> Result<(), AllocError>
     ensures items { OnOk result (pending.new.items ≡ pending.old.items ++ option_to_list state) }
     ensures err { OnErr result (pending.new.items ≡ pending.old.items) }
 {
     if let Some(state) = state {
-        let more = words.saturating_add(u64::from(state.words()));
-        if more > MOST_WORDS {
-            return Err(AllocError);
-        }
+        latest.push(state.slot(), pending.len())?;
         pending.push(state)?;
-        *words = more;
     }
     Ok(())
 }
 
 #[inline(always)]
-fn take_pending(pending: &mut Vec<Kept>, words: &mut u64, waits: bool) -> Option<Kept>
+fn take_pending(pending: &mut Vec<Kept>, latest: &mut LatestPending, waits: bool) -> Option<Kept>
     requires { one_if waits ≤ length pending.old.items }
     ensures items { pending.old.items ≡ pending.new.items ++ option_to_list result }
     ensures waits { waits ≡ is_some result }
@@ -110,7 +101,7 @@ fn take_pending(pending: &mut Vec<Kept>, words: &mut u64, waits: bool) -> Option
     }
     let state = pending.pop();
     if let Some(state) = &state {
-        *words = words.saturating_sub(u64::from(state.words()));
+        latest.pop(state.slot());
     }
     state
 }
@@ -124,7 +115,27 @@ impl Trail {
         Trail {
             visits: Vec::new(alloc),
             pending: Vec::new(alloc),
-            words: 0,
+            latest: LatestPending::new(alloc),
+        }
+    }
+
+    /// The state that became pending last, and still is.
+    #[inline(always)]
+    pub fn last_pending(&self) -> Option<&Kept> {
+        self.pending.last()
+    }
+
+    /// The states with which a state that becomes pending at the slot may share: the last pending
+    /// one; and the last one of that slot, or the stored one where there is none.
+    #[inline(always)]
+    pub fn others_at<'a>(&'a self, slot: usize, stored: Option<&'a Kept>) -> Others<'a> {
+        let second = match self.latest.index_at(slot) {
+            Some(index) => self.pending.get(index),
+            None => stored,
+        };
+        Others {
+            first: self.last_pending(),
+            second,
         }
     }
 
@@ -141,14 +152,14 @@ impl Trail {
         } = visit;
         let stored = as_u32(stored)?;
         let waits = pending.is_some();
-        put_pending(&mut self.pending, &mut self.words, pending)?;
+        put_pending(&mut self.pending, &mut self.latest, pending)?;
         let kept = KeptVisit {
             best,
             stored,
             waits,
         };
         let Ok(()) = self.visits.push(kept) else {
-            let _state = take_pending(&mut self.pending, &mut self.words, waits);
+            let _state = take_pending(&mut self.pending, &mut self.latest, waits);
             return Err(AllocError);
         };
         Ok(())
@@ -172,7 +183,7 @@ impl Trail {
             stored: kept.stored,
             waits: false,
         };
-        take_pending(&mut self.pending, &mut self.words, true)
+        take_pending(&mut self.pending, &mut self.latest, true)
     }
 
     /// Takes the last visit.
@@ -186,7 +197,7 @@ impl Trail {
         let Some(kept) = self.visits.pop() else {
             return None;
         };
-        let pending = take_pending(&mut self.pending, &mut self.words, kept.waits);
+        let pending = take_pending(&mut self.pending, &mut self.latest, kept.waits);
         Some(Visit {
             pending,
             best: kept.best,
