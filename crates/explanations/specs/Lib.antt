@@ -6,6 +6,7 @@ pub mod Loops
 pub mod Cases
 pub mod Flows
 pub mod Values
+pub mod Fronts
 pub mod Mismatches
 pub mod Turns
 pub mod Entries

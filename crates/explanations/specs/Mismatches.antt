@@ -1,11 +1,12 @@
 -- Why an entry of a table cannot be named for a successor, as text.
-use Rattle.std.specs.Prelude.{◌≡◌, ◌≢◌, ℕ, ◌-◌, ◌<◌, ◌≤◌, List, ◌++◌, length, Some, None, codes, decimal}
+use Rattle.std.specs.Prelude.{◌≡◌, ◌≢◌, ℕ, ◌+◌, ◌-◌, ◌<◌, ◌≤◌, List, ◌++◌, length, Some, None, codes, decimal}
 use Rattle.std.specs.Fmt.{signed_decimal}
 use Rattle.stack_state.specs.declared.states.State.{State}
 use Rattle.stack_state.specs.Meaning.{depth, abstract_frame_at, kinds_of, stack_slots_of, kind_at}
 use Rattle.stack_state.specs.Slots.{slot_at, frame_slots}
 use Rattle.table_entries.specs.Entries.{Entry}
 use Rattle.rechecking.specs.Tables.{EntryAt}
+use Rattle.explanations.specs.Fronts.{FrontCovers, FrontIsOpen}
 use Rattle.explanations.specs.Kinds.{calls_up, kind_words}
 use Rattle.explanations.specs.Slots.{offset_of, slot_words}
 use Rattle.explanations.specs.declared.mismatches.Mismatch.{Mismatch}
@@ -20,6 +21,13 @@ IsInBoth e a (Register frame register) = (frame < depth e) × (frame < depth a)
 IsInBoth e a (Stack frame slot) = (frame < depth e) × (frame < depth a) × (slot < frame_slots)
 IsInBoth e a m = Unit {0}
 
+-- the front of e before a register or stack slot covers a, and the one with it does not, as far as
+-- registers and stack slots show it
+pub record IsFirstApart (e a : State) (last registers slots more_registers more_slots : ℕ)
+    : Type 0 where
+  pub before : FrontCovers e a last registers slots
+  pub apart : FrontIsOpen e a last more_registers more_slots
+
 -- the state of the entry, and a successor
 abbrev pub Differs : State → State → Mismatch → Type 0
 Differs e a Missing = ⊥
@@ -28,7 +36,8 @@ Differs e a Slot = e.slot ≢ a.slot
 Differs e a Frames = depth e ≢ depth a
 Differs e a (Returns frame) =
     (abstract_frame_at e frame).return_slot ≢ (abstract_frame_at a frame).return_slot
-Differs e a m = IsInBoth e a m
+Differs e a (Register frame register) = IsFirstApart e a frame register 0 (register + 1) 0
+Differs e a (Stack frame slot) = IsFirstApart e a frame 10 slot 10 (slot + 1)
 
 -- the entry of that index is there with this state and a smaller number, and differs so
 pub record IsThere (t : EntryAt) (number index : ℕ) (e a : State) (m : Mismatch) : Type 0 where
@@ -37,6 +46,7 @@ pub record IsThere (t : EntryAt) (number index : ℕ) (e a : State) (m : Mismatc
   pub state_is : entry.state ≡ e
   pub smaller : entry.number < number
   pub differs : Differs e a m
+  pub inside : IsInBoth e a m
 
 -- its number is this one
 pub record EntryHasNumber (t : EntryAt) (number index other : ℕ) : Type 0 where

@@ -5,6 +5,7 @@ mod cases;
 mod differences;
 mod entries;
 mod flows;
+mod fronts;
 mod kinds;
 mod lines;
 mod loops;

@@ -1,14 +1,15 @@
 //! Why an entry of a table cannot be named for a successor.
 
-ghost use Rattle.std.specs.Prelude.{◌≡◌, ◌<◌, IfSome};
+ghost use Rattle.std.specs.Prelude.{◌≡◌, ◌<◌, ◌+◌, IfSome, None};
 ghost use Rattle.stack_state.specs.Meaning.{depth, abstract_frame_at};
 ghost use Rattle.stack_state.specs.Slots.{frame_slots};
 ghost use Rattle.table_entries.specs.Tables.{entry_at};
+ghost use Rattle.explanations.specs.Fronts.{FrontCovers};
 ghost use Rattle.explanations.specs.Mismatches.{IsInBoth, Differs, IsMismatch};
 
+use crate::fronts::front_of;
 use image::Image;
-use reg_state::Kind;
-use stack_state::{AbstractFrame, FRAME_SLOTS, StackState, State};
+use stack_state::{AbstractFrame, FRAME_SLOTS, State};
 use state_cover::covers;
 use table_entries::Table;
 
@@ -25,9 +26,9 @@ pub enum Mismatch {
     Frames,
     /// This frame returns to another slot.
     Returns(usize),
-    /// It does not cover this register of this frame; it does cover all before it.
+    /// It does not cover this register of this frame, and covers all before it.
     Register(usize, usize),
-    /// It does not cover this stack slot of this frame; it does cover all before it.
+    /// It does not cover this stack slot of this frame, and covers all before it.
     Stack(usize, usize),
 }
 
@@ -42,82 +43,48 @@ pub fn frame_of(state: &State, frame: usize) -> &AbstractFrame
     }
 }
 
-/// The front of a frame: as many registers and stack slots as these. Nothing is known of others.
-fn front_of(whole: &AbstractFrame, register_count: usize, slot_count: usize) -> AbstractFrame {
-    let registers = &whole.registers;
-    let mut kinds = [Kind::Unset; 10];
-    for index in 0..register_count.min(10) {
-        kinds[index] = registers[index];
-    }
-    let slots = whole.stack.slots();
-    let mut stack = StackState::new();
-    for index in 0..slot_count.min(FRAME_SLOTS) {
-        stack.set(index, slots[index]);
-    }
-    AbstractFrame {
-        return_slot: whole.return_slot,
-        registers: kinds,
-        stack,
-    }
-}
-
-/// All frames before one, and the front of that: as many registers and stack slots as these.
-/// Nothing is known of all others.
-fn part_of(state: &State, frame: usize, register_count: usize, slot_count: usize) -> State {
-    let mut part = State::start();
-    part.slot = state.slot;
-    let callers = state.callers.as_slice();
-    for index in 0..callers.len() {
-        let caller = &callers[index];
-        let front = if index < frame {
-            caller.copy()
-        } else if index == frame {
-            front_of(caller, register_count, slot_count)
-        } else {
-            front_of(caller, 0, 0)
-        };
-        let _ = part.callers.try_push(front);
-    }
-    part.innermost = if callers.len() == frame {
-        front_of(&state.innermost, register_count, slot_count)
-    } else {
-        front_of(&state.innermost, 0, 0)
-    };
-    part
-}
-
-/// The first register of a frame that is not covered.
-fn first_register(entry: &State, state: &State, frame: usize) -> Option<usize> {
+/// The first register of a frame that is not covered, where all before this frame are.
+fn first_register(entry: &State, state: &State, frame: usize) -> Option<usize>
+    requires { FrontCovers entry.now state.now frame 0 0 }
+    ensures found { IfSome result (λ register. Differs entry.now state.now
+        (Mismatch.Register frame register)) }
+    ensures none { result ≡ None → FrontCovers entry.now state.now frame 10 0 }
+{
     for register in 0..10usize {
-        if !covers(&part_of(entry, frame, register + 1, 0), state) {
+        if !covers(&front_of(entry, frame, register + 1, 0), state) {
             return Some(register);
         }
     }
     None
 }
 
-/// The first stack slot of a frame that is not covered.
+/// The first stack slot of a frame that is not covered, where all before this frame and its
+/// registers are.
 fn first_slot(entry: &State, state: &State, frame: usize) -> Option<usize>
-    ensures { IfSome result (λ slot. slot < frame_slots) }
+    requires { FrontCovers entry.now state.now frame 10 0 }
+    ensures found { IfSome result (λ slot. Differs entry.now state.now
+        (Mismatch.Stack frame slot)) }
+    ensures inside { IfSome result (λ slot. slot < frame_slots) }
+    ensures none { result ≡ None → FrontCovers entry.now state.now frame 10 frame_slots }
 {
-    for slot in 0..64usize {
-        if !covers(&part_of(entry, frame, 10, slot + 1), state) {
+    for slot in 0..FRAME_SLOTS {
+        if !covers(&front_of(entry, frame, 10, slot + 1), state) {
             return Some(slot);
         }
     }
     None
 }
 
-/// The first register or stack slot of a frame that is not covered.
+/// The first register or stack slot of a frame that is not covered, where all before this frame
+/// are.
 fn first_place(entry: &State, state: &State, frame: usize) -> Option<Mismatch>
     requires entry { frame < depth entry.now }
     requires state { frame < depth state.now }
-    ensures { IfSome result
+    requires before { FrontCovers entry.now state.now frame 0 0 }
+    ensures found { IfSome result
         (λ found. Differs entry.now state.now found × IsInBoth entry.now state.now found) }
+    ensures none { result ≡ None → FrontCovers entry.now state.now (frame + 1) 0 0 }
 {
-    if frame_of(entry, frame).return_slot != frame_of(state, frame).return_slot {
-        return Some(Mismatch::Returns(frame));
-    }
     if let Some(register) = first_register(entry, state, frame) {
         return Some(Mismatch::Register(frame, register));
     }
@@ -125,6 +92,20 @@ fn first_place(entry: &State, state: &State, frame: usize) -> Option<Mismatch>
         Some(slot) => Some(Mismatch::Stack(frame, slot)),
         None => None,
     }
+}
+
+/// The first frame that returns to another slot.
+fn first_return(entry: &State, state: &State) -> Option<usize>
+    requires { depth entry.now ≡ depth state.now }
+    ensures found { IfSome result (λ frame. Differs entry.now state.now (Mismatch.Returns frame)) }
+    ensures inside { IfSome result (λ frame. frame < depth entry.now) }
+{
+    for frame in 0..entry.callers.len() + 1 {
+        if frame_of(entry, frame).return_slot != frame_of(state, frame).return_slot {
+            return Some(frame);
+        }
+    }
+    None
 }
 
 /// In what the state of an entry differs from another one that it does not cover.
@@ -137,6 +118,12 @@ fn difference(entry: &State, state: &State) -> Option<Mismatch>
     }
     if entry.callers.len() != state.callers.len() {
         return Some(Mismatch::Frames);
+    }
+    if let Some(frame) = first_return(entry, state) {
+        return Some(Mismatch::Returns(frame));
+    }
+    if !covers(&front_of(entry, 0, 0, 0), state) {
+        return None;
     }
     for frame in 0..entry.callers.len() + 1 {
         if let Some(found) = first_place(entry, state, frame) {

@@ -24,9 +24,8 @@ use Rattle.control_flow.specs.declared.slot_masks.SlotMask.{SlotMask}
 use Rattle.control_flow.specs.Masks.{HasRegister, HasSlot, no_registers}
 use Rattle.control_flow.specs.Flows.{IsJoin}
 use Rattle.control_flow.specs.Liveness.{InRegister, InSlot, IsSlotLive}
-use Rattle.control_flow.specs.Endings.{EndsPlainly}
 use Rattle.control_flow.specs.TestedNumbers.{MayForgetNumbers, IsNumberTested}
-use Rattle.walks.specs.Forgetting.{slots_in, IsSlotDeadAt, MayForgetNumber, AreNumbersKept, AreSpilledNumbersKept, DeadForgotten, NumbersForgotten, Forgets, KnowsTestedNumbers, KnowsNoNumber, ForgetsNumber, ForgetsSpilled, ForgetsUnless, ForgetsIf, ForgetsNumbersBeside, ForgetsNumbersIn, AreNumberRegisters}
+use Rattle.walks.specs.Forgetting.{slots_in, IsSlotDeadAt, MayForgetAll, MayForgetNumber, AreNumbersKept, AreSpilledNumbersKept, DeadForgotten, NumbersForgotten, Forgets, KnowsTestedNumbers, KnowsNoNumber, ForgetsNumber, ForgetsSpilled, ForgetsUnless, ForgetsIf, ForgetsNumbersBeside, ForgetsNumbersIn, AreNumberRegisters}
 use Rattle.walks.proofs.OnNumbers.{below_ten}
 use Rattle.walks.proofs.DeadForgottenLaws.{DeadForgotten-forgotten}
 use Rattle.walks.proofs.NumbersForgottenLaws.{numbers_stay}
@@ -245,10 +244,10 @@ chosen_of_tested p slot live tested chosen lives tests those j = (
 -- ---- what is left
 
 -- what is not kept may be forgotten
-pub AreNumbersKept-beside : (p : Program) (slot : ℕ) (Kept : Reg → Type 0) (old new : List Kind)
-    → ((r : Reg) → (Kept r → ⊥) → MayForgetNumber p slot (InRegister r))
-    → ForgetsNumbersBeside Kept old new → AreNumbersKept p slot old new
-AreNumbersKept-beside p slot Kept old new may h = record {
+pub AreNumbersKept-beside : (p : Program) (s : State) (Kept : Reg → Type 0) (new : List Kind)
+    → ((r : Reg) → (Kept r → ⊥) → MayForgetNumber p s (InRegister r))
+    → ForgetsNumbersBeside Kept (registers_of s) new → AreNumbersKept p s new
+AreNumbersKept-beside p s Kept new may h = record {
   ten = h.ten;
   each = λ r own. elim (h.each r own) [
     | inl kept ↦ inl kept.1
@@ -259,11 +258,11 @@ AreNumbersKept-beside p slot Kept old new may h = record {
   ];
 }
 
-pub AreSpilledNumbersKept-in : (p : Program) (slot : ℕ) (Chosen : ℕ → Type 0)
-    (old new : List StackSlot)
-    → ((j : ℕ) → Chosen j → MayForgetNumber p slot (InSlot j))
-    → ForgetsNumbersIn Chosen old new → AreSpilledNumbersKept p slot old new
-AreSpilledNumbersKept-in p slot Chosen old new may h = record {
+pub AreSpilledNumbersKept-in : (p : Program) (s : State) (Chosen : ℕ → Type 0)
+    (new : List StackSlot)
+    → ((j : ℕ) → Chosen j → MayForgetNumber p s (InSlot j))
+    → ForgetsNumbersIn Chosen (slots_in s) new → AreSpilledNumbersKept p s new
+AreSpilledNumbersKept-in p s Chosen new may h = record {
   all = h.all;
   each = λ j below. elim (h.each j below) [
     | inl gone ↦ elim gone.1 [
@@ -337,11 +336,11 @@ forgets_both p a m ks slots may join dead registers own = record {
   numbers = record {
     rest = refl;
     registers =
-        AreNumbersKept-beside p m.slot (λ r. IsNumberTested p (InRegister r) m.slot)
-        (registers_of m) ks (λ r free. (may, join, inl free)) registers;
+        AreNumbersKept-beside p m (λ r. IsNumberTested p (InRegister r) m.slot) ks
+        (λ r free. (may, join, inl free)) registers;
     slots =
-        AreSpilledNumbersKept-in p m.slot
-        (λ j. IsSlotLive p j m.slot × (IsNumberTested p (InSlot j) m.slot → ⊥)) (slots_in m) slots
+        AreSpilledNumbersKept-in p m
+        (λ j. IsSlotLive p j m.slot × (IsNumberTested p (InSlot j) m.slot → ⊥)) slots
         (λ j chosen. (may, join, inl chosen.1)) own;
   };
 }
@@ -367,18 +366,17 @@ forgets_dead p a b dead = record {
 
 -- all numbers are forgotten
 pub all_forgotten : (p : Program) (m : State) (kept : RegisterMask) (ks : List Kind)
-    (slots : List StackSlot) (Chosen : ℕ → Type 0) → MayForgetNumbers p → IsJoin p m.slot
-    → EndsPlainly p m.slot → ForgetsNumbersBeside (HasRegister kept) (registers_of m) ks
+    (slots : List StackSlot) (Chosen : ℕ → Type 0) → MayForgetAll p m
+    → ForgetsNumbersBeside (HasRegister kept) (registers_of m) ks
     → ForgetsNumbersIn Chosen (slots_in m) slots
     → NumbersForgotten p m (with_frame m ks slots)
-all_forgotten p m kept ks slots Chosen may join ends registers own = record {
+all_forgotten p m kept ks slots Chosen all registers own = record {
   rest = refl;
   registers =
-      AreNumbersKept-beside p m.slot (HasRegister kept) (registers_of m) ks
-      (λ r free. (may, join, inr ends)) registers;
+      AreNumbersKept-beside p m (HasRegister kept) ks (λ r free. (all.may, all.join, inr all))
+      registers;
   slots =
-      AreSpilledNumbersKept-in p m.slot Chosen (slots_in m) slots
-      (λ j chosen. (may, join, inr ends)) own;
+      AreSpilledNumbersKept-in p m Chosen slots (λ j chosen. (all.may, all.join, inr all)) own;
 }
 
 pub knows_none : (m : State) (kept : RegisterMask) (ks : List Kind) (slots : List StackSlot)

@@ -24,9 +24,11 @@ use Rattle.stack_state.proofs.MeaningLaws.{abstract_frame_at-caller, FrameKeeps,
 use Rattle.stack_state.proofs.PlaceLaws.{kind_of-registers}
 use Rattle.branch_refine.specs.Refining.{IsNumberKind}
 use Rattle.control_flow.specs.Flows.{IsJoin}
-use Rattle.control_flow.specs.TestedNumbers.{MayForgetNumbers}
+use Rattle.control_flow.specs.Endings.{EndsPlainly}
+use Rattle.control_flow.specs.Liveness.{Home, InRegister, InSlot, IsLive}
+use Rattle.control_flow.specs.TestedNumbers.{MayForgetNumbers, IsNumberTested}
 use Rattle.transfer.specs.Following.{returns_of}
-use Rattle.walks.specs.Forgetting.{IsNumberKept, IsSpilledNumberKept, slots_in, NumbersForgotten}
+use Rattle.walks.specs.Forgetting.{IsNumberKept, IsSpilledNumberKept, slots_in, MayForgetAll, MayForgetNumber, NumbersForgotten}
 use Rattle.walks.proofs.DeadForgottenLaws.{frame_keeps, frames_keep}
 
 -- ---- what stays
@@ -60,10 +62,10 @@ NumbersForgotten-returns p a b f =
 -- ---- what is known of registers
 
 pub NumbersForgotten-each : (p : Program) (a b : State) (r : Reg) → NumbersForgotten p a b
-    → r ≢ R10 → IsNumberKept p a.slot r (kind_of a r) (kind_of b r)
+    → r ≢ R10 → IsNumberKept p a r (kind_of a r) (kind_of b r)
 NumbersForgotten-each p a b r f own =
-    subst (λ k. IsNumberKept p a.slot r k (kind_of b r)) (sym (kind_of-registers a r own))
-    (subst (λ k. IsNumberKept p a.slot r (kind_at (registers_of a) (reg_number r)) k)
+    subst (λ k. IsNumberKept p a r k (kind_of b r)) (sym (kind_of-registers a r own))
+    (subst (λ k. IsNumberKept p a r (kind_at (registers_of a) (reg_number r)) k)
     (sym (kind_of-registers b r own)) (f.registers.each r own))
 
 any_number : (k : Kind) → IsAnyNumber k → IsNumberKind k
@@ -131,10 +133,10 @@ number_allows e (Number old) (Number new) v number any h = (h.0, h.1, any h.0 h.
 number_allows e (Number old) after v number any h = absurd any
 number_allows e before after v number any h = absurd number
 
-kept_allows : (p : Program) (slot : ℕ) (r : Reg) (e : Assigned) (before after : Kind) (v : Value)
-    → IsNumberKept p slot r before after → Allows e before v → Allows e after v
-kept_allows p slot r e before after v (inl same) h = subst (λ k. Allows e k v) (sym same) h
-kept_allows p slot r e before after v (inr gone) h =
+kept_allows : (p : Program) (s : State) (r : Reg) (e : Assigned) (before after : Kind) (v : Value)
+    → IsNumberKept p s r before after → Allows e before v → Allows e after v
+kept_allows p s r e before after v (inl same) h = subst (λ k. Allows e k v) (sym same) h
+kept_allows p s r e before after v (inr gone) h =
     number_allows e before after v gone.1 gone.2 h
 
 -- the cells of a spilled number are number bytes
@@ -145,21 +147,21 @@ spilled_means e (Spilled (Number numbers)) cs number h =
 spilled_means e (Spilled k) cs number h = absurd number
 spilled_means e (Written marks) cs number h = absurd number
 
-stack_slot_kept_means : (p : Program) (slot j : ℕ) (e : Assigned) (before after : StackSlot)
+stack_slot_kept_means : (p : Program) (s : State) (j : ℕ) (e : Assigned) (before after : StackSlot)
     (cs : List Cell)
-    → IsSpilledNumberKept p slot j before after → SlotMeans e before cs → SlotMeans e after cs
-stack_slot_kept_means p slot j e before after cs (inl same) h =
-    subst (λ s. SlotMeans e s cs) (sym same) h
-stack_slot_kept_means p slot j e before after cs (inr gone) h =
-    subst (λ s. SlotMeans e s cs) (sym gone.2) (spilled_means e before cs gone.1 h)
+    → IsSpilledNumberKept p s j before after → SlotMeans e before cs → SlotMeans e after cs
+stack_slot_kept_means p s j e before after cs (inl same) h =
+    subst (λ x. SlotMeans e x cs) (sym same) h
+stack_slot_kept_means p s j e before after cs (inr gone) h =
+    subst (λ x. SlotMeans e x cs) (sym gone.2) (spilled_means e before cs gone.1 h)
 
 innermost_keeps : (p : Program) (a b : State) (e : Assigned) → NumbersForgotten p a b
     → FrameKeeps e e a.innermost b.innermost
 innermost_keeps p a b e f =
     frame_keeps a.innermost b.innermost e f.registers.ten
-    (λ r v own. kept_allows p a.slot r e (kind_at (registers_of a) (reg_number r))
+    (λ r v own. kept_allows p a r e (kind_at (registers_of a) (reg_number r))
     (kind_at (registers_of b) (reg_number r)) v (f.registers.each r own))
-    (λ k cs within. stack_slot_kept_means p a.slot k e (slot_at (slots_in a) k)
+    (λ k cs within. stack_slot_kept_means p a k e (slot_at (slots_in a) k)
     (slot_at (slots_in b) k) cs (f.slots.each k within))
 
 caller_keeps : (p : Program) (a b : State) (e : Assigned) → NumbersForgotten p a b
@@ -193,51 +195,82 @@ numbers_stay p a ten all = record {
 
 -- ---- twice
 
-number_kept_twice : (p : Program) (slot : ℕ) (r : Reg) (a b c : Kind)
-    → IsNumberKept p slot r a b → IsNumberKept p slot r b c → IsNumberKept p slot r a c
-number_kept_twice p slot r a b c (inl same) (inl again) = inl (again ∙ same)
-number_kept_twice p slot r a b c (inl same) (inr gone) =
-    inr (gone.0, subst IsNumberKind same gone.1, gone.2)
-number_kept_twice p slot r a b c (inr gone) (inl again) =
-    inr (gone.0, gone.1, subst IsAnyNumber (sym again) gone.2)
-number_kept_twice p slot r a b c (inr gone) (inr more) = inr (gone.0, gone.1, more.2)
+-- a live register that is a number once numbers are forgotten was one before
+MayForgetAll-before : (p : Program) (a b : State) → NumbersForgotten p a b → MayForgetAll p b
+    → MayForgetAll p a
+MayForgetAll-before p a b f all =
+    let slot = NumbersForgotten-slot p a b f in record {
+      may = all.may;
+      join = subst (IsJoin p) slot all.join;
+      ends = subst (EndsPlainly p) slot all.ends;
+      numbers = λ r live.
+          let own = all.numbers r (subst (IsLive p r) (sym slot) live) in
+          elim (f.registers.each r own.0) [
+            | inl same ↦ (own.0, subst IsNumberKind same own.1)
+            | inr gone ↦ (own.0, gone.1)
+          ];
+    }
 
-spilled_kept_twice : (p : Program) (slot j : ℕ) (a b c : StackSlot)
-    → IsSpilledNumberKept p slot j a b → IsSpilledNumberKept p slot j b c
-    → IsSpilledNumberKept p slot j a c
-spilled_kept_twice p slot j a b c (inl same) (inl again) = inl (again ∙ same)
-spilled_kept_twice p slot j a b c (inl same) (inr gone) =
-    inr (gone.0, subst (λ (x : StackSlot). IsNumberKind (kind_in x)) same gone.1, gone.2)
-spilled_kept_twice p slot j a b c (inr gone) (inl again) = inr (gone.0, gone.1, again ∙ gone.2)
-spilled_kept_twice p slot j a b c (inr gone) (inr more) = inr (gone.0, gone.1, more.2)
+MayForgetNumber-before : (p : Program) (a b : State) (h : Home) → NumbersForgotten p a b
+    → MayForgetNumber p b h → MayForgetNumber p a h
+MayForgetNumber-before p a b h f (may, join, why) =
+    let slot = NumbersForgotten-slot p a b f in (
+      may,
+      subst (IsJoin p) slot join,
+      elim why [
+        | inl free ↦ inl (λ tested. free (subst (IsNumberTested p h) (sym slot) tested))
+        | inr all ↦ inr (MayForgetAll-before p a b f all)
+      ],
+    )
+
+number_kept_twice : (p : Program) (s t : State) (r : Reg) (a b c : Kind) → NumbersForgotten p s t
+    → IsNumberKept p s r a b → IsNumberKept p t r b c → IsNumberKept p s r a c
+number_kept_twice p s t r a b c f (inl same) (inl again) = inl (again ∙ same)
+number_kept_twice p s t r a b c f (inl same) (inr gone) =
+    inr (
+      MayForgetNumber-before p s t (InRegister r) f gone.0,
+      subst IsNumberKind same gone.1,
+      gone.2,
+    )
+number_kept_twice p s t r a b c f (inr gone) (inl again) =
+    inr (gone.0, gone.1, subst IsAnyNumber (sym again) gone.2)
+number_kept_twice p s t r a b c f (inr gone) (inr more) = inr (gone.0, gone.1, more.2)
+
+spilled_kept_twice : (p : Program) (s t : State) (j : ℕ) (a b c : StackSlot)
+    → NumbersForgotten p s t → IsSpilledNumberKept p s j a b → IsSpilledNumberKept p t j b c
+    → IsSpilledNumberKept p s j a c
+spilled_kept_twice p s t j a b c f (inl same) (inl again) = inl (again ∙ same)
+spilled_kept_twice p s t j a b c f (inl same) (inr gone) =
+    inr (
+      MayForgetNumber-before p s t (InSlot j) f gone.0,
+      subst (λ (x : StackSlot). IsNumberKind (kind_in x)) same gone.1,
+      gone.2,
+    )
+spilled_kept_twice p s t j a b c f (inr gone) (inl again) = inr (gone.0, gone.1, again ∙ gone.2)
+spilled_kept_twice p s t j a b c f (inr gone) (inr more) = inr (gone.0, gone.1, more.2)
 
 -- what is forgotten in two steps
 pub NumbersForgotten-twice : (p : Program) (a b c : State) → NumbersForgotten p a b
     → NumbersForgotten p b c → NumbersForgotten p a c
-NumbersForgotten-twice p a b c f g =
-    let slot = NumbersForgotten-slot p a b f in record {
-      rest =
-          g.rest ∙ ap (λ (x : State). record x {
-            innermost = record x.innermost {
-              registers = registers_of c;
-              stack = record { slots = slots_in c };
-            };
-          }) f.rest;
-      registers = record {
-        ten = g.registers.ten;
-        each = λ r own.
-            number_kept_twice p a.slot r (kind_at (registers_of a) (reg_number r))
-            (kind_at (registers_of b) (reg_number r)) (kind_at (registers_of c) (reg_number r))
-            (f.registers.each r own)
-            (subst (λ (n : ℕ). IsNumberKept p n r (kind_at (registers_of b) (reg_number r))
-            (kind_at (registers_of c) (reg_number r))) slot (g.registers.each r own));
-      };
-      slots = record {
-        all = g.slots.all;
-        each = λ j below.
-            spilled_kept_twice p a.slot j (slot_at (slots_in a) j) (slot_at (slots_in b) j)
-            (slot_at (slots_in c) j) (f.slots.each j below)
-            (subst (λ (n : ℕ). IsSpilledNumberKept p n j (slot_at (slots_in b) j)
-            (slot_at (slots_in c) j)) slot (g.slots.each j below));
-      };
-    }
+NumbersForgotten-twice p a b c f g = record {
+  rest =
+      g.rest ∙ ap (λ (x : State). record x {
+        innermost = record x.innermost {
+          registers = registers_of c;
+          stack = record { slots = slots_in c };
+        };
+      }) f.rest;
+  registers = record {
+    ten = g.registers.ten;
+    each = λ r own.
+        number_kept_twice p a b r (kind_at (registers_of a) (reg_number r))
+        (kind_at (registers_of b) (reg_number r)) (kind_at (registers_of c) (reg_number r)) f
+        (f.registers.each r own) (g.registers.each r own);
+  };
+  slots = record {
+    all = g.slots.all;
+    each = λ j below.
+        spilled_kept_twice p a b j (slot_at (slots_in a) j) (slot_at (slots_in b) j)
+        (slot_at (slots_in c) j) f (f.slots.each j below) (g.slots.each j below);
+  };
+}

@@ -102,32 +102,43 @@ pub record DeadForgotten (p : Program) (a b : State) : Type 0 where
 
 -- ---- numbers
 
--- the slot is a join, from which no path tests the number that is there, or only plain code follows
-abbrev pub MayForgetNumber : Program → ℕ → Home → Type 0
-MayForgetNumber p slot h =
-    MayForgetNumbers p × IsJoin p slot × ((¬ IsNumberTested p h slot) ⊎ EndsPlainly p slot)
+-- all numbers may be forgotten, and nothing that follows is refused for it: only plain code
+-- follows, and each register that is live is a number
+pub record MayForgetAll (p : Program) (s : State) : Type 0 where
+  pub may : MayForgetNumbers p
+  pub join : IsJoin p s.slot
+  pub ends : EndsPlainly p s.slot
+  pub numbers : (r : Reg) → IsLive p r s.slot
+      → (r ≢ R10) × IsNumberKind (kind_at (registers_of s) (reg_number r))
 
--- what is known of a register stays known; or it is a number, and may be any number
-abbrev pub IsNumberKept : Program → ℕ → Reg → Kind → Kind → Type 0
-IsNumberKept p slot r before after =
+-- the state is at a join, from which no path tests the number that is there, or all numbers of the
+-- state may be forgotten
+abbrev pub MayForgetNumber : Program → State → Home → Type 0
+MayForgetNumber p s h =
+    MayForgetNumbers p × IsJoin p s.slot × ((¬ IsNumberTested p h s.slot) ⊎ MayForgetAll p s)
+
+-- what is known of a register of a state stays known; or it is a number, and may be any number
+abbrev pub IsNumberKept : Program → State → Reg → Kind → Kind → Type 0
+IsNumberKept p s r before after =
     (after ≡ before)
-    ⊎ (MayForgetNumber p slot (InRegister r) × IsNumberKind before × IsAnyNumber after)
+    ⊎ (MayForgetNumber p s (InRegister r) × IsNumberKind before × IsAnyNumber after)
 
 -- what is known of a stack slot stays known; or a number was spilled there, and it is eight bytes
 -- of any number
-abbrev pub IsSpilledNumberKept : Program → ℕ → ℕ → StackSlot → StackSlot → Type 0
-IsSpilledNumberKept p slot j before after =
+abbrev pub IsSpilledNumberKept : Program → State → ℕ → StackSlot → StackSlot → Type 0
+IsSpilledNumberKept p s j before after =
     (after ≡ before)
-    ⊎ (MayForgetNumber p slot (InSlot j) × IsNumberKind (kind_in before) × (after ≡ Written 255))
+    ⊎ (MayForgetNumber p s (InSlot j) × IsNumberKind (kind_in before) × (after ≡ Written 255))
 
-pub record AreNumbersKept (p : Program) (slot : ℕ) (old new : List Kind) : Type 0 where
+pub record AreNumbersKept (p : Program) (s : State) (new : List Kind) : Type 0 where
   pub ten : length new ≡ 10
   pub each : (r : Reg) → r ≢ R10
-      → IsNumberKept p slot r (kind_at old (reg_number r)) (kind_at new (reg_number r))
+      → IsNumberKept p s r (kind_at (registers_of s) (reg_number r)) (kind_at new (reg_number r))
 
-pub record AreSpilledNumbersKept (p : Program) (slot : ℕ) (old new : List StackSlot) : Type 0 where
+pub record AreSpilledNumbersKept (p : Program) (s : State) (new : List StackSlot) : Type 0 where
   pub all : length new ≡ 64
-  pub each : (j : ℕ) → j < 64 → IsSpilledNumberKept p slot j (slot_at old j) (slot_at new j)
+  pub each : (j : ℕ) → j < 64
+      → IsSpilledNumberKept p s j (slot_at (slots_in s) j) (slot_at new j)
 
 -- b is a without some numbers of the innermost call frame that do not matter
 pub record NumbersForgotten (p : Program) (a b : State) : Type 0 where
@@ -135,8 +146,8 @@ pub record NumbersForgotten (p : Program) (a b : State) : Type 0 where
     innermost =
         record a.innermost { registers = registers_of b; stack = record { slots = slots_in b } };
   }
-  pub registers : AreNumbersKept p a.slot (registers_of a) (registers_of b)
-  pub slots : AreSpilledNumbersKept p a.slot (slots_in a) (slots_in b)
+  pub registers : AreNumbersKept p a (registers_of b)
+  pub slots : AreSpilledNumbersKept p a (slots_in b)
 
 -- ---- both
 
@@ -157,15 +168,6 @@ KnowsTestedNumbers p s =
     → ¬ IsNumberKind (kind_in (slot_at (slots_in s) j)))
 
 -- ---- all numbers
-
--- all numbers may be forgotten, and nothing that follows is refused for it: only plain code
--- follows, and each register that is live is a number
-pub record MayForgetAll (p : Program) (s : State) : Type 0 where
-  pub may : MayForgetNumbers p
-  pub join : IsJoin p s.slot
-  pub ends : EndsPlainly p s.slot
-  pub numbers : (r : Reg) → IsLive p r s.slot
-      → (r ≢ R10) × IsNumberKind (kind_at (registers_of s) (reg_number r))
 
 -- no number is known in the innermost call frame
 abbrev pub KnowsNoNumber : State → Type 0

@@ -2,10 +2,7 @@
 
 ghost use Rattle.std.specs.Prelude.{◌≡◌, ◌↔◌, ℕ, ◌<◌, IsTrue};
 ghost use Rattle.stack_state.specs.Slots.{AreKnownFrom};
-ghost use Rattle.control_flow.specs.Endings.{EndsPlainly};
-ghost use Rattle.control_flow.specs.Flows.{IsJoin};
 ghost use Rattle.control_flow.specs.Masks.{HasSlot};
-ghost use Rattle.control_flow.specs.TestedNumbers.{MayForgetNumbers};
 ghost use Rattle.walks.specs.Forgetting.{AreKept, AreSlotsLeft, AreSlotsKept, CallersForgotten, DeadForgotten, Forgets, IsSlotDeadAt, KnowsNoNumber, KnowsTestedNumbers, MayForgetAll, NumbersForgotten};
 
 use crate::numbers::{are_numbers, forget_registers_beside, forget_slots_of, forget_untested};
@@ -132,11 +129,9 @@ pub fn may_forget_all(flow: &Flow<'_>, state: &State) -> bool
         && are_numbers(flow.live(state.slot), &state.innermost.registers)
 }
 
-/// Forgets all numbers of a state's innermost call frame.
+/// Forgets all numbers of a state's innermost call frame, which [`may_forget_all`] allows.
 pub fn forget_all(flow: &Flow<'_>, state: &mut State)
-    requires forgets { MayForgetNumbers flow.now }
-    requires join { IsJoin flow.now state.old.slot }
-    requires ends { EndsPlainly flow.now state.old.slot }
+    requires { MayForgetAll flow.now state.old }
     ensures forgets { NumbersForgotten flow.now state.old state.new }
     ensures all { KnowsNoNumber state.new }
 {

@@ -15,6 +15,4 @@ returns-then-is_none-clause-forgets c =
     c.forget.ensures.forgets c.forget_all.ensures.forgets
 
 pub forget_all-requires : goal.forget_all-requires
-forget_all-requires c =
-    let all = c.may_forget_all.ensures.0 (search rules) in
-    record { forgets = all.may; join = all.join; ends = all.ends }
+forget_all-requires c = c.may_forget_all.ensures.0 (search rules)

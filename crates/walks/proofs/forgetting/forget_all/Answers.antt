@@ -6,8 +6,7 @@ pub returns-clause-forgets : goal.returns-clause-forgets
 returns-clause-forgets c =
     all_forgotten c.args.flow.now c.args.state.now c.none.result
     c.forget_registers_beside.new.registers c.forget_slots_of.new.stack.slots (HasSlot c.all.result)
-    c.requires.forgets c.requires.join c.requires.ends c.forget_registers_beside.ensures
-    c.forget_slots_of.ensures
+    c.requires c.forget_registers_beside.ensures c.forget_slots_of.ensures
 
 pub returns-clause-all : goal.returns-clause-all
 returns-clause-all c =
