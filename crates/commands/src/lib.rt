@@ -15,4 +15,4 @@ mod verdicts;
 
 pub use executing::{execute, execute_given};
 pub use requests::serve;
-pub use task_outcomes::{Ending, FileForm, Rejection, TaskOutcome, buffered};
+pub use task_outcomes::{Ending, FileForm, Rejection, TaskOutcome, buffered, is_unwatched};

@@ -13,7 +13,7 @@ use std::alloc::Global;
 use std::io::Write;
 use std::rt::{Clock, Files};
 use task_outcomes::{
-    Ending, TaskOutcome, accepted, bound_line, create_table, load_image, read_file, run_on,
+    Ending, TaskOutcome, accepted, bound_line, create_table, load_image, read_table, run_on,
 };
 use words::{RunPaths, TablePaths};
 
@@ -34,7 +34,7 @@ fn load_shown<'a, R: Files, W: Write>(
         Ok(image) => image,
         Err(outcome) => return Err(Ending::plain(outcome)),
     };
-    match read_file(rt, alloc, paths.table) {
+    match read_table(rt, alloc, &image, paths.table) {
         Ok(bytes) => shown(alloc, image, bytes.as_slice(), out),
         Err(error) => Err(Ending::plain(TaskOutcome::of_read(paths.table, &error))),
     }

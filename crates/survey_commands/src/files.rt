@@ -1,4 +1,4 @@
-//! Reading a file: all of it, or as much as an image can have.
+//! Reading as much of a file as an image can have.
 
 use isa_model::{MAX_MAPS, MAX_SLOTS};
 use std::alloc::Global;
@@ -13,11 +13,6 @@ fn read_all<S: Read + Drop>(alloc: Global, mut source: S) -> io::Result<Vec<u8>>
     let mut bytes = Vec::new(alloc);
     source.read_to_end(&mut bytes)?;
     Ok(bytes)
-}
-
-/// All bytes of a file.
-pub fn read_file<R: Files>(rt: &R, alloc: Global, path: &str) -> io::Result<Vec<u8>> {
-    read_all(alloc, fs::open(rt, path)?)
 }
 
 /// The first bytes of a file, at most one more than the longest image has.

@@ -1,12 +1,12 @@
 //! Writing the rows of a survey.
 
 use crate::failures::SurveyError;
-use crate::files::read_file;
 use crate::folders::NamedPath;
 use exact_io::write_bytes;
 use std::alloc::{AllocError, Global};
 use std::io::Write;
 use std::rt::Files;
+use std::{fs, io};
 use survey_rows::{
     COLUMNS, Column, EarlierError, Grid, Row, RowLayout, changes_since, csv_text, grid_of,
     grid_text, json_text, shown_width, sort,
@@ -133,12 +133,15 @@ fn compared<R: Files>(
     path: &str,
     rows: &[Row],
 ) -> Result<Grid, SurveyError> {
-    let bytes = match read_file(rt, alloc, path) {
-        Ok(bytes) => bytes,
+    let source = match fs::open(rt, path) {
+        Ok(source) => source,
         Err(error) => return Err(SurveyError::of_file(alloc, "read", path, &error)),
     };
-    match changes_since(alloc, bytes.as_slice(), rows) {
+    match changes_since(alloc, source, rows) {
         Ok(grid) => Ok(grid),
+        Err(EarlierError::Unread(kind)) => {
+            Err(SurveyError::of_file(alloc, "read", path, &io::Error::from(kind)))
+        }
         Err(EarlierError::Memory) => Err(SurveyError::Memory),
         Err(EarlierError::NoSurvey) => {
             let line = format!(in alloc; "cannot compare with {path}: it is no survey as csv\n")?;

@@ -7,6 +7,7 @@ use crate::rows::Row;
 use csv::ByteRecord;
 use indexmap::IndexSet;
 use std::alloc::{AllocError, Global};
+use std::io::Read;
 
 const HEADS: [ColumnHead; 5] = [
     ColumnHead {
@@ -106,9 +107,9 @@ fn add_column(
 }
 
 /// Adds what changed for an image, in all columns but its file and the times.
-fn add_changes(
+fn add_changes<S: Read + Drop>(
     alloc: Global,
-    earlier: &Earlier,
+    earlier: &Earlier<S>,
     old_row: &ByteRecord,
     row: &Row,
     rows: &mut Vec<Vec<RowCell>>,
@@ -133,9 +134,9 @@ fn add_new(alloc: Global, row: &Row, rows: &mut Vec<Vec<RowCell>>) -> Result<(),
 }
 
 /// Adds that an image is gone.
-fn add_gone(
+fn add_gone<S: Read + Drop>(
     alloc: Global,
-    earlier: &Earlier,
+    earlier: &Earlier<S>,
     old_row: &ByteRecord,
     rows: &mut Vec<Vec<RowCell>>,
 ) -> Result<(), AllocError> {
@@ -157,57 +158,106 @@ fn files_of(alloc: Global, surveyed: &[Row]) -> Result<IndexSet<&[u8]>, AllocErr
     Ok(files)
 }
 
-/// Adds what changed for each image, and each image that is new.
-fn add_surveyed(
+/// The rows of an earlier survey, as far as they matter for the images that were surveyed.
+#[derive(Drop)]
+struct Matched {
+    /// The first row of each file, by the file's index.
+    old: Vec<Option<ByteRecord>>,
+    /// A row for each image that is gone.
+    gone: Vec<Vec<RowCell>>,
+}
+
+/// No row yet of each of this many files.
+fn none_yet(alloc: Global, count: usize) -> Result<Vec<Option<ByteRecord>>, AllocError> {
+    let mut old = Vec::with_capacity(alloc, count)?;
+    for _ in 0..count {
+        old.push(None)?;
+    }
+    Ok(old)
+}
+
+/// Keeps the first row of a file.
+fn keep_first(old: &mut [Option<ByteRecord>], index: usize, row: ByteRecord) {
+    if let Some(kept) = old.get_mut(index) {
+        if kept.is_none() {
+            *kept = Some(row);
+        }
+    }
+}
+
+/// Reads the rows of an earlier survey, and keeps those of these files.
+fn match_rows<S: Read + Drop>(
     alloc: Global,
-    earlier: &Earlier,
+    earlier: &mut Earlier<S>,
+    files: &IndexSet<&[u8]>,
+) -> Result<Matched, EarlierError> {
+    let mut old = none_yet(alloc, files.len())?;
+    let mut gone = Vec::new(alloc);
+    for _ in 0..u64::MAX {
+        let Some(row) = earlier.next(alloc)? else {
+            break;
+        };
+        match files.get_index_of(earlier.file(&row)) {
+            Some(index) => keep_first(old.as_mut_slice(), index, row),
+            None => add_gone(alloc, earlier, &row, &mut gone)?,
+        }
+    }
+    Ok(Matched { old, gone })
+}
+
+/// The row of a file, if the earlier survey has one.
+fn old_row<'a>(
+    old: &'a [Option<ByteRecord>],
+    files: &IndexSet<&[u8]>,
+    file: &[u8],
+) -> Option<&'a ByteRecord> {
+    match old.get(files.get_index_of(file)?) {
+        Some(Some(row)) => Some(row),
+        _ => None,
+    }
+}
+
+/// Adds what changed for each image, and each image that is new.
+fn add_surveyed<S: Read + Drop>(
+    alloc: Global,
+    earlier: &Earlier<S>,
+    old: &[Option<ByteRecord>],
+    files: &IndexSet<&[u8]>,
     surveyed: &[Row],
     rows: &mut Vec<Vec<RowCell>>,
 ) -> Result<(), AllocError> {
-    let by_file = earlier.by_file(alloc)?;
     for row in surveyed {
-        match by_file.get(row.file.as_bytes()) {
-            Some(old_row) => add_changes(alloc, earlier, *old_row, row, rows)?,
+        match old_row(old, files, row.file.as_bytes()) {
+            Some(found) => add_changes(alloc, earlier, found, row, rows)?,
             None => add_new(alloc, row, rows)?,
         }
     }
     Ok(())
 }
 
-/// Adds each image that is gone.
-fn add_all_gone(
+/// The differences from an earlier survey, which is read from its CSV: a row for each cell that
+/// changed, for each image that is new, and for each one that is gone. Times are not compared.
+///
+/// Of the earlier survey the rows of images that were surveyed are kept, and no row that is longer
+/// than 1 MiB is read to its end.
+pub fn changes_since<S: Read + Drop>(
     alloc: Global,
-    earlier: &Earlier,
+    source: S,
     surveyed: &[Row],
-    rows: &mut Vec<Vec<RowCell>>,
-) -> Result<(), AllocError> {
+) -> Result<Grid, EarlierError> {
+    let mut earlier = Earlier::begin(alloc, source)?;
     let files = files_of(alloc, surveyed)?;
-    for old_row in earlier.rows() {
-        if !files.contains(earlier.file(old_row)) {
-            add_gone(alloc, earlier, old_row, rows)?;
-        }
-    }
-    Ok(())
-}
-
-/// A row for each cell that changed, for each image that is new, and for each one that is gone.
-fn rows_since(
-    alloc: Global,
-    earlier: &Earlier,
-    surveyed: &[Row],
-) -> Result<Vec<Vec<RowCell>>, AllocError> {
+    let mut found = match_rows(alloc, &mut earlier, &files)?;
     let mut rows = Vec::new(alloc);
-    add_surveyed(alloc, earlier, surveyed, &mut rows)?;
-    add_all_gone(alloc, earlier, surveyed, &mut rows)?;
-    Ok(rows)
-}
-
-/// The differences from an earlier survey, which is given as the bytes of its CSV: a row for each
-/// cell that changed, for each image that is new, and for each one that is gone. Times are not
-/// compared.
-pub fn changes_since(alloc: Global, bytes: &[u8], surveyed: &[Row]) -> Result<Grid, EarlierError> {
-    let earlier = Earlier::read(alloc, bytes)?;
-    let rows = rows_since(alloc, &earlier, surveyed)?;
+    add_surveyed(
+        alloc,
+        &earlier,
+        found.old.as_slice(),
+        &files,
+        surveyed,
+        &mut rows,
+    )?;
+    rows.append(&mut found.gone)?;
     let heads = Vec::from_slice(alloc, &HEADS)?;
     Ok(Grid { heads, rows })
 }

@@ -1,16 +1,21 @@
-//! An earlier survey, read from its CSV.
+//! An earlier survey, read row by row from its CSV.
 
 use crate::columns::Column;
-use csv::{ByteRecord, Error, ErrorKind, Reader, ReaderBuilder};
-use indexmap::IndexMap;
+use csv::{ByteRecord, Error, Reader, ReaderBuilder};
 use std::alloc::{AllocError, Global};
 use std::io;
+use std::io::{ErrorKind, Read};
+
+/// More bytes than a row of a survey has, of which the longest field is a path.
+const PAST_ANY_ROW: usize = 1 << 20;
 
 /// Why a survey cannot be compared with an earlier one.
 #[derive(Clone, Copy, Drop)]
 pub enum EarlierError {
     /// It is not CSV, or has no column `file`.
     NoSurvey,
+    /// It cannot be read.
+    Unread(ErrorKind),
     Memory,
 }
 
@@ -25,37 +30,60 @@ impl From<AllocError> for EarlierError {
     }
 }
 
-/// An earlier survey: the names of its columns, and a row for each image.
+/// A source of rows. A row that is longer than any of a survey is no data: its read fails.
 #[derive(Drop)]
-pub struct Earlier {
-    names: ByteRecord,
-    rows: Vec<ByteRecord>,
+struct RowSource<S> {
+    source: S,
+    /// How many bytes came after the last end of a line.
+    length: usize,
+}
+
+/// How many bytes come after the last end of a line, if `length` of them came before these.
+fn length_after(length: usize, bytes: &[u8]) -> usize {
+    match bytes
+        .iter()
+        .rposition(|byte| matches!(*byte, b'\n' | b'\r'))
+    {
+        Some(at) => bytes.len() - at,
+        None => length.saturating_add(bytes.len()),
+    }
+}
+
+impl<S: Read> Read for RowSource<S> {
+    fn read(&mut self, buffer: &mut [u8]) -> io::Result<usize> {
+        let count = self.source.read(buffer)?;
+        self.length = length_after(self.length, &buffer[..count]);
+        if self.length > PAST_ANY_ROW {
+            return Err(io::Error::from(ErrorKind::InvalidData));
+        }
+        Ok(count)
+    }
 }
 
 fn error_of(error: &Error) -> EarlierError {
-    match error.kind() {
+    let kind = match error.kind() {
+        csv::ErrorKind::OutOfMemory => ErrorKind::OutOfMemory,
+        csv::ErrorKind::Io(error) => error.kind(),
+        _ => ErrorKind::InvalidData,
+    };
+    match kind {
         ErrorKind::OutOfMemory => EarlierError::Memory,
-        ErrorKind::Io(error) => match error.kind() {
-            io::ErrorKind::OutOfMemory => EarlierError::Memory,
-            _ => EarlierError::NoSurvey,
-        },
-        _ => EarlierError::NoSurvey,
+        ErrorKind::InvalidData => EarlierError::NoSurvey,
+        kind => EarlierError::Unread(kind),
     }
 }
 
 /// The next row, if there is one.
-fn next(alloc: Global, reader: &mut Reader<&[u8]>) -> Result<Option<ByteRecord>, EarlierError> {
+fn next_of<S: Read>(
+    alloc: Global,
+    reader: &mut Reader<RowSource<S>>,
+) -> Result<Option<ByteRecord>, EarlierError> {
     let mut row = ByteRecord::new(alloc);
     match reader.read_byte_record(&mut row) {
         Ok(true) => Ok(Some(row)),
         Ok(false) => Ok(None),
         Err(error) => Err(error_of(&error)),
     }
-}
-
-fn keep(rows: &mut Vec<ByteRecord>, row: ByteRecord) -> Result<(), AllocError> {
-    rows.push(row)?;
-    Ok(())
 }
 
 /// The index of a column among names.
@@ -70,48 +98,31 @@ fn index_of(names: &ByteRecord, column: Column) -> Option<usize> {
     None
 }
 
-/// The names of the columns, which are in the first row.
-fn names_in(alloc: Global, reader: &mut Reader<&[u8]>) -> Result<ByteRecord, EarlierError> {
-    let Some(names) = next(alloc, reader)? else {
-        return Err(EarlierError::NoSurvey);
-    };
-    if index_of(&names, Column::File).is_none() {
-        return Err(EarlierError::NoSurvey);
-    }
-    Ok(names)
+/// An earlier survey: the names of its columns, and what is left to read of it.
+#[derive(Drop)]
+pub struct Earlier<S> {
+    reader: Reader<RowSource<S>>,
+    names: ByteRecord,
 }
 
-/// The next rows: `most` of them, or all that are left if those are fewer.
-fn rows_in(
-    alloc: Global,
-    reader: &mut Reader<&[u8]>,
-    most: usize,
-) -> Result<Vec<ByteRecord>, EarlierError> {
-    let mut rows = Vec::new(alloc);
-    for _ in 0..most {
-        match next(alloc, reader)? {
-            Some(row) => keep(&mut rows, row)?,
-            None => break,
-        }
-    }
-    Ok(rows)
-}
-
-impl Earlier {
-    /// The survey that bytes spell.
-    pub fn read(alloc: Global, bytes: &[u8]) -> Result<Self, EarlierError> {
+impl<S: Read + Drop> Earlier<S> {
+    /// The survey that a source begins with. The names of its columns are read.
+    pub fn begin(alloc: Global, source: S) -> Result<Self, EarlierError> {
         let mut reader = ReaderBuilder::new()
             .has_headers(false)
-            .from_reader(alloc, bytes);
-        let names = names_in(alloc, &mut reader)?;
-        // Each row has at least one byte.
-        let rows = rows_in(alloc, &mut reader, bytes.len())?;
-        Ok(Earlier { names, rows })
+            .from_reader(alloc, RowSource { source, length: 0 });
+        let Some(names) = next_of(alloc, &mut reader)? else {
+            return Err(EarlierError::NoSurvey);
+        };
+        if index_of(&names, Column::File).is_none() {
+            return Err(EarlierError::NoSurvey);
+        }
+        Ok(Earlier { reader, names })
     }
 
-    /// All rows.
-    pub fn rows(&self) -> &[ByteRecord] {
-        self.rows.as_slice()
+    /// The next row, if there is one.
+    pub fn next(&mut self, alloc: Global) -> Result<Option<ByteRecord>, EarlierError> {
+        next_of(alloc, &mut self.reader)
     }
 
     /// The field of a row in a column.
@@ -122,17 +133,5 @@ impl Earlier {
     /// The file of a row.
     pub fn file<'a>(&self, row: &'a ByteRecord) -> &'a [u8] {
         self.field(row, Column::File).unwrap_or(b"")
-    }
-
-    /// The row of each file; if a file has two, the first.
-    pub fn by_file(&self, alloc: Global) -> Result<IndexMap<&[u8], &ByteRecord>, AllocError> {
-        let mut all = IndexMap::new(alloc);
-        for row in &self.rows {
-            let file = self.file(row);
-            if !all.contains_key(file) {
-                all.insert(file, row)?;
-            }
-        }
-        Ok(all)
     }
 }

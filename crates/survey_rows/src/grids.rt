@@ -104,15 +104,6 @@ fn shown_texts(alloc: Global, row: &[RowCell]) -> Result<Vec<String>, AllocError
     Ok(texts)
 }
 
-/// The texts of all rows.
-fn all_texts(alloc: Global, rows: &[Vec<RowCell>]) -> Result<Vec<Vec<String>>, AllocError> {
-    let mut texts = Vec::new(alloc);
-    for row in rows {
-        texts.push(shown_texts(alloc, row.as_slice())?)?;
-    }
-    Ok(texts)
-}
-
 /// The least widths of the columns, by their heads.
 fn least_widths(alloc: Global, heads: &[ColumnHead]) -> Result<Vec<usize>, AllocError> {
     let mut widths = Vec::new(alloc);
@@ -126,13 +117,13 @@ fn least_widths(alloc: Global, heads: &[ColumnHead]) -> Result<Vec<usize>, Alloc
 pub fn grid_text(alloc: Global, grid: &Grid, has_header: bool) -> Result<String, AllocError> {
     let heads = grid.heads.as_slice();
     let names = head_texts(alloc, heads)?;
-    let texts = all_texts(alloc, grid.rows.as_slice())?;
     let mut widths = least_widths(alloc, heads)?;
     if has_header {
         widen(widths.as_mut_slice(), names.as_slice());
     }
-    for row in &texts {
-        widen(widths.as_mut_slice(), row.as_slice());
+    for row in &grid.rows {
+        let texts = shown_texts(alloc, row.as_slice())?;
+        widen(widths.as_mut_slice(), texts.as_slice());
     }
     let mut lines = String::new(alloc);
     if has_header {
@@ -144,8 +135,15 @@ pub fn grid_text(alloc: Global, grid: &Grid, has_header: bool) -> Result<String,
             widths.as_slice(),
         )?;
     }
-    for row in &texts {
-        put_row(alloc, &mut lines, heads, row.as_slice(), widths.as_slice())?;
+    for row in &grid.rows {
+        let texts = shown_texts(alloc, row.as_slice())?;
+        put_row(
+            alloc,
+            &mut lines,
+            heads,
+            texts.as_slice(),
+            widths.as_slice(),
+        )?;
     }
     Ok(lines)
 }

@@ -19,16 +19,16 @@ use Rattle.table_entries.specs.KnownBytes.{SpellsFrame, SpellsSlots}
 
 -- ---- a function of several arguments that are the same
 
-same2 : {A B Z : Type 0} (f : A → B → Z) {a b : A} {c d : B} → a ≡ b → c ≡ d → f a c ≡ f b d
+pub same2 : {A B Z : Type 0} (f : A → B → Z) {a b : A} {c d : B} → a ≡ b → c ≡ d → f a c ≡ f b d
 same2 f p q = rw (p, q) refl
 
-same4 : {A B C D Z : Type 0} (f : A → B → C → D → Z) {a b : A} {c d : B} {e g : C} {h i : D}
+pub same4 : {A B C D Z : Type 0} (f : A → B → C → D → Z) {a b : A} {c d : B} {e g : C} {h i : D}
     → a ≡ b → c ≡ d → e ≡ g → h ≡ i → f a c e h ≡ f b d g i
 same4 f p q u v = rw (p, q, u, v) refl
 
 -- ---- fields, which are in the first n bytes
 
-abbrev IsOfFront : {X : Type 0} → ℕ → (List ℕ → X) → Type 0
+abbrev pub IsOfFront : {X : Type 0} → ℕ → (List ℕ → X) → Type 0
 IsOfFront n fields =
     (front r s : List ℕ) → n ≤ length front → fields (front ++ r) ≡ fields (front ++ s)
 
@@ -42,7 +42,7 @@ little_from-front (suc n) i front r s le =
     (little_from-front n (suc i) front r s (omega arith))
 
 -- a number of w bytes after d others
-number-front : (w d : ℕ) (front r s : List ℕ) → d + w ≤ length front
+pub number-front : (w d : ℕ) (front r s : List ℕ) → d + w ≤ length front
     → little_number w (drop d (front ++ r)) ≡ little_number w (drop d (front ++ s))
 number-front w d front r s le =
     let size = length-drop d front in
@@ -139,12 +139,14 @@ null-front rows front r s le =
 
 -- ---- readings
 
--- the bytes that were read are read in the same way, whatever comes after them
-abbrev ReadsFront : {X : Type 0} → (List ℕ → Read X) → List ℕ → Read X → Type 0
+-- the bytes that were read are read in the same way, whatever comes after them; so are those up to
+-- a byte without a meaning
+abbrev pub ReadsFront : {X : Type 0} → (List ℕ → Read X) → List ℕ → Read X → Type 0
 ReadsFront one bytes (Ok x) =
     (front : List ℕ) × (bytes ≡ front ++ x.1)
     × ((rest : List ℕ) → one (front ++ rest) ≡ Ok (x.0, rest))
-ReadsFront one bytes (Err stop) = Unit {0}
+ReadsFront one bytes (Err Short) = Unit {0}
+ReadsFront one bytes (Err Meaningless) = (more : List ℕ) → one (bytes ++ more) ≡ Err Meaningless
 
 sized-again : {X : Type 0} (n : ℕ) (fields : List ℕ → Option X) → IsOfFront n fields
     → (bytes rest : List ℕ) → n ≤ length bytes
@@ -157,7 +159,7 @@ sized-again n fields h bytes rest long =
     rw (le-ltb (length (take n bytes ++ rest)) n (omega arith))
     (same2 (λ (x : Option _) (r : List ℕ). Ok (x, r)) same (drop_at (take n bytes) rest n size))
 
-ReadsFront-sized : {X : Type 0} (n : ℕ) (fields : List ℕ → Option X) → IsOfFront n fields
+pub ReadsFront-sized : {X : Type 0} (n : ℕ) (fields : List ℕ → Option X) → IsOfFront n fields
     → (bytes : List ℕ) → ReadsFront (sized n fields) bytes (sized n fields bytes)
 ReadsFront-sized n fields h bytes = of (nat_lt (length bytes) n) refl where
   of : (b : Bool) → nat_lt (length bytes) n ≡ b
@@ -180,28 +182,34 @@ then_more one next bytes front x others (Ok y) whole each (more, follows, again)
   λ rest. ap (λ b. then_read (one b) next) (append_assoc front more rest)
       ∙ ap (λ r. then_read r next) (each (more ++ rest)) ∙ again rest,
 )
-then_more one next bytes front x others (Err stop) whole each h = tt
+then_more one next bytes front x others (Err Short) whole each h = tt
+then_more one next bytes front x others (Err Meaningless) whole each h =
+    λ more. ap (λ b. then_read (one (b ++ more)) next) whole
+    ∙ ap (λ b. then_read (one b) next) (append_assoc front others more)
+    ∙ ap (λ r. then_read r next) (each (others ++ more)) ∙ h more
 
-ReadsFront-then : {X Y : Type 0} (one : List ℕ → Read X) (next : Option X → List ℕ → Read Y)
+pub ReadsFront-then : {X Y : Type 0} (one : List ℕ → Read X) (next : Option X → List ℕ → Read Y)
     (bytes : List ℕ) (r : Read X) → ReadsFront one bytes r
     → ((x : Option X) (rest : List ℕ) → ReadsFront (next x) rest (next x rest))
     → ReadsFront (λ b. then_read (one b) next) bytes (then_read r next)
 ReadsFront-then one next bytes (Ok x) (front, whole, each) second =
     then_more one next bytes front x.0 x.1 (next x.0 x.1) whole each (second x.0 x.1)
-ReadsFront-then one next bytes (Err stop) first second = tt
+ReadsFront-then one next bytes (Err Short) first second = tt
+ReadsFront-then one next bytes (Err Meaningless) first second =
+    λ more. ap (λ r. then_read r next) (first more)
 
-ReadsFront-if : {X : Type 0} (b : Bool) (one two : List ℕ → Read X) (bytes : List ℕ)
+pub ReadsFront-if : {X : Type 0} (b : Bool) (one two : List ℕ → Read X) (bytes : List ℕ)
     → ReadsFront one bytes (one bytes) → ReadsFront two bytes (two bytes)
     → ReadsFront (λ c. if b then one c else two c) bytes (if b then one bytes else two bytes)
 ReadsFront-if true one two bytes first second = first
 ReadsFront-if false one two bytes first second = second
 
 -- nothing is read
-ReadsFront-nothing : {X : Type 0} (x : Option X) (bytes : List ℕ)
+pub ReadsFront-nothing : {X : Type 0} (x : Option X) (bytes : List ℕ)
     → ReadsFront (λ b. Ok (x, b)) bytes (Ok (x, bytes))
 ReadsFront-nothing x bytes = ([], refl, λ rest. refl)
 
-ReadsFront-many : {X : Type 0} (one : ℕ → List ℕ → Read X)
+pub ReadsFront-many : {X : Type 0} (one : ℕ → List ℕ → Read X)
     → ((k : ℕ) (bytes : List ℕ) → ReadsFront (one k) bytes (one k bytes))
     → (n k : ℕ) (bytes : List ℕ) → ReadsFront (many one n k) bytes (many one n k bytes)
 unfolding many
@@ -257,15 +265,17 @@ ReadsFront-fields rows holder kind bytes =
     (ReadsFront-sized 9 (value_in rows) (value-front rows) bytes)
     (ReadsFront-if (kind == 8) (sized 5 (null_in rows)) none bytes
     (ReadsFront-sized 5 (null_in rows) (null-front rows) bytes)
-    tt))))))))
+    (λ more. refl)))))))))
 
 -- after a byte
-ReadsFront-byte : {X : Type 0} (one all : List ℕ → Read X) (x : ℕ) (bytes : List ℕ) (r : Read X)
+pub ReadsFront-byte : {X : Type 0} (one all : List ℕ → Read X) (x : ℕ) (bytes : List ℕ) (r : Read X)
     → ((c : List ℕ) → all (x ∷ c) ≡ one c) → ReadsFront one bytes r
     → ReadsFront all (x ∷ bytes) r
 ReadsFront-byte one all x bytes (Ok y) same (front, whole, each) =
     (x ∷ front, ap (λ c. x ∷ c) whole, λ rest. same (front ++ rest) ∙ each rest)
-ReadsFront-byte one all x bytes (Err stop) same h = tt
+ReadsFront-byte one all x bytes (Err Short) same h = tt
+ReadsFront-byte one all x bytes (Err Meaningless) same h =
+    λ more. same (bytes ++ more) ∙ h more
 
 ReadsFront-kind : (rows holder : ℕ) (bytes : List ℕ)
     → ReadsFront (kind_in rows holder) bytes (kind_in rows holder bytes)
@@ -293,7 +303,7 @@ ReadsFront-slot rows holder (tag ∷ bytes) =
     (λ c. Err Meaningless) bytes
     (ReadsFront-then (kind_in rows holder) (λ k rest. Ok (spilled k, rest)) bytes
     (kind_in rows holder bytes) (ReadsFront-kind rows holder bytes)
-    (λ k rest. ReadsFront-nothing (spilled k) rest)) tt))
+    (λ k rest. ReadsFront-nothing (spilled k) rest)) (λ more. refl)))
 
 -- ---- call frames
 
@@ -327,7 +337,7 @@ unfolding frame_in
 frame-parts rows holder outer a b bytes =
     rw (le-ltb (length (a ∷ (b ∷ bytes))) 2 (omega arith)) refl
 
-ReadsFront-frame : (rows holder : ℕ) (outer : Bool) (bytes : List ℕ)
+pub ReadsFront-frame : (rows holder : ℕ) (outer : Bool) (bytes : List ℕ)
     → ReadsFront (frame_in rows holder outer) bytes (frame_in rows holder outer bytes)
 unfolding frame_in
 ReadsFront-frame rows holder outer [] = tt

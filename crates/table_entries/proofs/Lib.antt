@@ -12,6 +12,7 @@ pub mod NumberStackSlots
 pub mod KindLaws
 pub mod GrowingLaws
 pub mod Fronts
+pub mod Extending
 pub mod Below
 pub mod KnownBytesLaws
 pub mod PassedLaws

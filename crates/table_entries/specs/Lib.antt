@@ -9,3 +9,4 @@ pub mod Entries
 pub mod Tables
 pub mod Growing
 pub mod Messages
+pub mod Settled

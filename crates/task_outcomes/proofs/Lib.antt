@@ -5,3 +5,4 @@ pub mod StatusesLaws
 pub mod MessagesLaws
 pub mod FilesLaws
 pub mod Silence
+mod SettledBytes

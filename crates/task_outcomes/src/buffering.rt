@@ -8,7 +8,7 @@ use std::alloc::Global;
 use std::io;
 use std::io::Write;
 
-// How many bytes of standard output are written at a time, if it is a file on a disk.
+// How many bytes of standard output are written at a time, if nobody sees when they come.
 const BUFFER: usize = 64 * 1024;
 
 // Standard output without a buffer: each write goes through immediately, and no memory is taken.
@@ -21,20 +21,20 @@ fn unbuffered<W: Write + Drop>(alloc: Global, out: W) -> io::Result<PromptWriter
     PromptWriter::new(alloc, 0, usize::MAX, out)
 }
 
-/// Puts the buffer in front of standard output. If that is a file on a disk, it is written in parts
-/// of 64 KiB; otherwise each write goes through immediately, so that a reader sees it.
+/// Puts the buffer in front of standard output. If nobody sees when bytes come, as with a file on a
+/// disk, they are written in parts of 64 KiB; otherwise each write goes through immediately.
 pub fn buffered<W: Write + Drop>(
     alloc: Global,
-    is_file: bool,
+    is_unwatched: bool,
     out: W,
 ) -> io::Result<PromptWriter<W>>
     ensures behind { IfOk result (λ w. behind w ≡ out) }
     ensures empty { IfOk result (λ w. waiting w ≡ []) }
     ensures prompt { IfOk result
-        (λ w. prompt_left w ≡ (if is_file then 0 else usize.MAX)) }
+        (λ w. prompt_left w ≡ (if is_unwatched then 0 else usize.MAX)) }
     ensures sound { IfOk result (λ w. failure_of w ≡ None) }
 {
-    if is_file {
+    if is_unwatched {
         PromptWriter::new(alloc, BUFFER, 0, out)
     } else {
         unbuffered(alloc, out)

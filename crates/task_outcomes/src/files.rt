@@ -16,6 +16,7 @@ use super::same::is_same_file;
 use super::screens::Screen;
 use super::streams::{run_stream, store_image};
 use super::verdicts::{assembled, image_of, say_text, size_line};
+use super::watching::{is_null_device, is_plain_file};
 use bounds::Verified;
 use exact_io::PromptWriter;
 use image::Image;
@@ -63,6 +64,17 @@ fn create_file<'a, R: Files>(
     }
 }
 
+// How many bytes of the frames out are written to the file at once. Packet frames that do not come
+// from a file on a disk may come one by one: then all bytes, so that each frame is handed on before
+// the next one is waited for, unless nobody can see it.
+fn prompt_bytes<R: Files>(rt: &R, paths: RunPaths<'_>) -> usize {
+    if is_plain_file(rt, paths.frames) || is_null_device(rt, paths.out) {
+        MAGIC
+    } else {
+        usize::MAX
+    }
+}
+
 /// The image in a file, or how the task ends without it.
 pub fn load_image<'a, R: Files, W: Write>(
     rt: &R,
@@ -104,7 +116,7 @@ pub fn open_streams<'a, 'b, R: Files + Clock>(
         return Err(TaskOutcome::NoMemory);
     };
     let file = create_file(rt, paths.out, read)?;
-    let Ok(file) = PromptWriter::new(alloc, BUFFER, MAGIC, file) else {
+    let Ok(file) = PromptWriter::new(alloc, BUFFER, prompt_bytes(rt, paths), file) else {
         return Err(TaskOutcome::NoMemory);
     };
     let (source, form) = read_ahead(source);

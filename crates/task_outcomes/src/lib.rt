@@ -21,6 +21,7 @@ mod screens;
 mod streams;
 mod texts;
 mod verdicts;
+mod watching;
 
 pub use buffering::buffered;
 pub use endings::Ending;
@@ -29,8 +30,9 @@ pub use forms::FileForm;
 pub use fronts::{Ahead, Watched};
 pub use lines::table_line;
 pub use outcomes::TaskOutcome;
-pub use reading::read_file;
+pub use reading::read_table;
 pub use rejections::Rejection;
 pub use screens::Screen;
 pub use streams::outcome_of;
 pub use verdicts::{accepted, bound_line, say_line, say_made, say_refused, say_unwritten};
+pub use watching::is_unwatched;

@@ -1,11 +1,20 @@
-//! Reading a file: all of it, or its first bytes.
+//! Reading a file: all of it, its first bytes, or as far as they decide what is said of it.
 
 ghost use Rattle.std.specs.Prelude.{◌≡◌, IfOk, IfSome, take};
+ghost use Rattle.table_entries.specs.Tables.{table_read};
 
+use image::Image;
 use std::alloc::Global;
-use std::io::Read;
+use std::io::{ErrorKind, Read};
 use std::rt::Files;
 use std::{fs, io};
+use table_entries::is_settled;
+
+// How many bytes of a table are read at a time, at most.
+const PART: usize = 64 * 1024;
+
+// How many bytes of a table are looked at first: the magic and the count of entries.
+const HEAD: usize = 8;
 
 /// All bytes of a source. If they cannot be read to the end, or memory runs out, this returns an
 /// error.
@@ -25,6 +34,33 @@ fn read_first<S: Read + Drop>(alloc: Global, source: S, most: u64) -> io::Result
     read_all(alloc, source.take(most))
 }
 
+/// The bytes of a source, which may spell a table of the image. Once those that were read settle
+/// that it is refused, and for what, no more are read. They are looked at when there are four times
+/// as many as before.
+fn read_settled<S: Read + Drop>(alloc: Global, image: &Image, mut source: S) -> io::Result<Vec<u8>>
+    ensures { IfOk result (λ bytes. IfSome (S.remaining source)
+        (λ held. table_read image.now held ≡ table_read image.now bytes.items)) }
+{
+    let mut bytes = Vec::new(alloc);
+    let mut buffer = [0; PART];
+    let mut enough = HEAD;
+    'parts: loop {
+        let count = source.read(&mut buffer)?;
+        if count == 0 {
+            return Ok(bytes);
+        }
+        if bytes.extend_from_slice(&buffer[..count]).is_err() {
+            return Err(io::Error::from(ErrorKind::OutOfMemory));
+        }
+        if bytes.len() >= enough {
+            if is_settled(image, bytes.as_slice()) {
+                return Ok(bytes);
+            }
+            enough = bytes.len().saturating_mul(4);
+        }
+    }
+}
+
 /// All bytes of a file.
 pub fn read_file<R: Files>(rt: &R, alloc: Global, path: &str) -> io::Result<Vec<u8>> {
     read_all(alloc, fs::open(rt, path)?)
@@ -33,4 +69,14 @@ pub fn read_file<R: Files>(rt: &R, alloc: Global, path: &str) -> io::Result<Vec<
 /// The first bytes of a file, at most this many.
 pub fn read_start<R: Files>(rt: &R, alloc: Global, path: &str, most: u64) -> io::Result<Vec<u8>> {
     read_first(alloc, fs::open(rt, path)?, most)
+}
+
+/// The bytes of a file, which may be a table of the image, as far as they decide what is said of it.
+pub fn read_table<R: Files>(
+    rt: &R,
+    alloc: Global,
+    image: &Image,
+    path: &str,
+) -> io::Result<Vec<u8>> {
+    read_settled(alloc, image, fs::open(rt, path)?)
 }

@@ -1,9 +1,9 @@
 //! What a terminal shows of work that takes over a second.
 
+use super::watching::is_terminal;
 use exact_io::write_bytes;
 use std::alloc::Global;
 use std::fs;
-use std::os::unix::fs::{FileTypeExt, MetadataExt};
 use std::rt::{Clock, Files};
 use std::time::Instant;
 
@@ -28,18 +28,6 @@ pub struct Screen<'a, R: Files + Clock> {
     /// After how many milliseconds the next line is shown.
     due: u128,
     terminal: Option<R::File>,
-}
-
-/// Whether a path is a terminal. Linux gives consoles and serial lines the major number 4, the
-/// terminal of a process and the system's console 5, and the pseudoterminals 136 to 143.
-fn is_terminal<R: Files>(rt: &R, path: &str) -> bool {
-    match fs::metadata(rt, path) {
-        Ok(output) => {
-            output.file_type().is_char_device()
-                && matches!((output.rdev() >> 8) & 0xfff, 4 | 5 | 136..=143)
-        }
-        Err(_) => false,
-    }
 }
 
 impl<'a, R: Files + Clock> Screen<'a, R> {

@@ -6,25 +6,16 @@
 #![tactic(auto)]
 
 pub use commands::execute;
-use commands::{TaskOutcome, buffered, execute_given};
-use std::fs;
+use commands::{TaskOutcome, buffered, execute_given, is_unwatched};
 use std::process::ExitCode;
-use std::rt::Files;
 use words::given_words;
-
-// Whether standard output is a file on a disk. If the system does not have this path, standard
-// output is written at once, as to someone who watches.
-fn is_file<R: Files>(rt: &R) -> bool {
-    match fs::metadata(rt, "/dev/stdout") {
-        Ok(output) => output.is_file(),
-        Err(_) => false,
-    }
-}
 
 fn main(rt: HostRuntime) -> ExitCode {
     let mut err = rt.stderr();
-    ExitCode::from(match buffered(rt.alloc(), is_file(&rt), rt.stdout()) {
-        Ok(mut out) => execute_given(&rt, given_words(&rt), &mut out, &mut err),
-        Err(_) => TaskOutcome::NoMemory.tell(&mut err),
-    })
+    ExitCode::from(
+        match buffered(rt.alloc(), is_unwatched(&rt, "/dev/stdout"), rt.stdout()) {
+            Ok(mut out) => execute_given(&rt, given_words(&rt), &mut out, &mut err),
+            Err(_) => TaskOutcome::NoMemory.tell(&mut err),
+        },
+    )
 }

@@ -9,17 +9,8 @@ use std::os::unix::fs::FileTypeExt;
 use std::process::ExitCode;
 use std::rt::Files;
 use survey_commands::execute_given;
-use task_outcomes::buffered;
+use task_outcomes::{buffered, is_unwatched};
 use words::given_words;
-
-// Whether standard output is a file on a disk. If the system does not have this path, standard
-// output is written at once, as to someone who watches.
-fn is_file<R: Files>(rt: &R) -> bool {
-    match fs::metadata(rt, "/dev/stdout") {
-        Ok(output) => output.is_file(),
-        Err(_) => false,
-    }
-}
 
 // Whether standard error is a terminal, or another device that takes characters.
 fn has_terminal<R: Files>(rt: &R) -> bool {
@@ -31,11 +22,19 @@ fn has_terminal<R: Files>(rt: &R) -> bool {
 
 fn main(rt: HostRuntime) -> ExitCode {
     let mut err = rt.stderr();
-    ExitCode::from(match buffered(rt.alloc(), is_file(&rt), rt.stdout()) {
-        Ok(mut out) => execute_given(&rt, given_words(&rt), has_terminal(&rt), &mut out, &mut err),
-        Err(_) => {
-            let _ = write_bytes(&mut err, b"out of memory\n");
-            5
-        }
-    })
+    ExitCode::from(
+        match buffered(rt.alloc(), is_unwatched(&rt, "/dev/stdout"), rt.stdout()) {
+            Ok(mut out) => execute_given(
+                &rt,
+                given_words(&rt),
+                has_terminal(&rt),
+                &mut out,
+                &mut err,
+            ),
+            Err(_) => {
+                let _ = write_bytes(&mut err, b"out of memory\n");
+                5
+            }
+        },
+    )
 }

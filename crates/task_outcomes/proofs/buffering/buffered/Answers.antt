@@ -1,5 +1,5 @@
 use Rattle.std.proofs.Common.{rules}
 use Rattle.task_outcomes.proofs.buffering.buffered.Goals as goal
 
-pub returns-then-is_file-clause-prompt : goal.returns-then-is_file-clause-prompt
-returns-then-is_file-clause-prompt g c = search rules
+pub returns-then-is_unwatched-clause-prompt : goal.returns-then-is_unwatched-clause-prompt
+returns-then-is_unwatched-clause-prompt g c = search rules

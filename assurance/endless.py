@@ -1,0 +1,120 @@
+#!/usr/bin/env python3
+"""Inputs without an end, or of terabytes, are refused at their first bytes.
+
+usage: python3 assurance/endless.py [PROGRAM [SURVEY]]
+
+Proof tables, program texts and earlier surveys that are devices without an end, or files of
+terabytes on no disk, or a right one with such bytes behind it: each has to be refused as the bytes
+at its beginning are, within a second of the processor and 64 MB. PROGRAM and SURVEY are the programs
+that `rt run` leaves in crates/xdpvm and crates/xdpvm_survey (the default: those in out/ there). The
+exit status is 0 if it is so, and 1 if not.
+"""
+import os
+import subprocess
+import sys
+import tempfile
+
+TOP = os.path.dirname(os.path.dirname(os.path.abspath(__file__)))
+PROGRAM = os.path.abspath(sys.argv[1] if len(sys.argv) > 1 else os.path.join(TOP, "crates/xdpvm/out/xdpvm"))
+SURVEY = os.path.abspath(sys.argv[2] if len(sys.argv) > 2 else os.path.join(TOP, "crates/xdpvm_survey/out/xdpvm_survey"))
+IMAGE = os.path.join(TOP, "examples/filter.image")
+FRAMES = os.path.join(TOP, "examples/numbers.frames")
+TERABYTES = 1 << 42
+# At most so many KiB of memory, and seconds of the processor. A command that takes far longer is ended.
+MEMORY = 64 * 1024
+SECONDS = 1
+LONGEST = 60
+
+
+def run(words):
+    """A command's status, standard output and standard error, its memory in KiB and its seconds."""
+    read, write = os.pipe()
+    errors = tempfile.TemporaryFile()
+    program = subprocess.Popen(["timeout", "-s", "KILL", str(LONGEST), *words], stdin=subprocess.DEVNULL, stdout=write, stderr=errors)
+    os.close(write)
+    with os.fdopen(read, "rb") as file:
+        out = file.read()
+    _, status, used = os.wait4(program.pid, 0)
+    program.returncode = os.waitstatus_to_exitcode(status)
+    errors.seek(0)
+    with errors:
+        return program.returncode, out.decode(), errors.read().decode(), used.ru_maxrss, used.ru_utime + used.ru_stime
+
+
+def tell(words, status, line):
+    """Whether a command ends with this status, after this line of its output, within the limits."""
+    ended, out, errors, memory, seconds = run(words)
+    said = (out + errors).splitlines()
+    is_right = ended == status and line in said and memory <= MEMORY and seconds <= SECONDS
+    if not is_right:
+        print(f"{' '.join(words[1:])}: status {ended}, {said}, {memory} KiB, {seconds:.2f} s")
+    return is_right
+
+
+def sparse(path, beginning):
+    """A file of terabytes that begins with these bytes and has zeros behind them."""
+    with open(path, "wb") as file:
+        file.write(beginning)
+        file.truncate(TERABYTES)
+    return path
+
+
+def contents(words, path):
+    """The bytes that a command writes into a file."""
+    subprocess.run([*words, path], check=True, stdout=subprocess.DEVNULL)
+    with open(path, "rb") as file:
+        return file.read()
+
+
+def tables(folder):
+    """Proof tables, and the line that each is refused with."""
+    right = contents([PROGRAM, "prove", IMAGE], os.path.join(folder, "table"))
+    yield "/dev/zero", "refused P1"
+    yield "/dev/urandom", "refused P1"
+    yield sparse(os.path.join(folder, "zeros"), b""), "refused P1"
+    yield sparse(os.path.join(folder, "count"), b"XPT1"), "refused P4"
+    yield sparse(os.path.join(folder, "entries"), b"XPT1" + (1_000_000).to_bytes(4, "little")), "refused P5 entry 0"
+    yield sparse(os.path.join(folder, "right"), right), "refused P3"
+
+
+def tell_tables(folder):
+    sent = os.path.join(folder, "sent")
+    for path, line in tables(folder):
+        yield tell([PROGRAM, "recheck", IMAGE, path], 2, line)
+        yield tell([PROGRAM, "run", IMAGE, FRAMES, sent, "--table", path], 2, line)
+
+
+def tell_surveys(folder):
+    """Whether earlier surveys are refused that have no end."""
+    survey = subprocess.run([SURVEY, "--format", "csv", IMAGE], check=True, capture_output=True).stdout
+    paths = ["/dev/zero", "/dev/urandom", sparse(os.path.join(folder, "no survey"), b""),
+             sparse(os.path.join(folder, "survey"), survey), sparse(os.path.join(folder, "row"), survey + b"name,")]
+    for path in paths:
+        yield tell([SURVEY, "--compare", path, IMAGE], 4, f"cannot compare with {path}: it is no survey as csv")
+
+
+def tell_large_survey(folder):
+    """Whether an earlier survey of 36 MB takes at most three times as much memory."""
+    survey = subprocess.run([SURVEY, "--format", "csv", IMAGE], check=True, capture_output=True).stdout
+    head, row = survey.splitlines(keepends=True)
+    path, size = os.path.join(folder, "large"), 0
+    with open(path, "wb") as file:
+        file.write(head)
+        while size < 36_000_000:
+            size += file.write(b"old/%d/%s" % (size, row))
+    for words in (["--format", "csv"], []):
+        ended, out, errors, memory, seconds = run([SURVEY, *words, "--compare", path, IMAGE])
+        is_right = ended == 0 and out.count("\n") > size / 200 and memory * 1024 <= 3 * size
+        if not is_right:
+            print(f"an earlier survey of {size} bytes: status {ended}, {errors}, {memory} KiB, {seconds:.2f} s")
+        yield is_right
+
+
+def main():
+    with tempfile.TemporaryDirectory() as folder:
+        told = [*tell_tables(folder), *tell_surveys(folder), *tell_large_survey(folder)]
+    return 0 if all(told) else 1
+
+
+if __name__ == "__main__":
+    sys.exit(main())

@@ -1,0 +1,141 @@
+#!/usr/bin/env python3
+"""Whether a frame is handed on before the next one is waited for.
+
+usage: python3 assurance/pipes.py [PROGRAM]
+
+`run` and `trace` read frames from a pipe, into which they are written one by one; one is written in
+two parts. The line of each in the report has to come within a second, and then its record, if it is
+sent on, before the next frame is written: into a pipe, into a named pipe and into a file.
+
+A report into /dev/null, which nobody watches, and frames out into it, are written in as few calls
+as into a file; that is left out where the system does not count calls. PROGRAM is the program that
+`rt run` leaves in crates/xdpvm (the default: crates/xdpvm/out/xdpvm). The exit status is 0 if it is
+so, and 1 if not.
+"""
+import os
+import select
+import subprocess
+import sys
+import tempfile
+import time
+
+TOP = os.path.dirname(os.path.dirname(os.path.abspath(__file__)))
+PROGRAM = os.path.abspath(sys.argv[1] if len(sys.argv) > 1 else os.path.join(TOP, "crates/xdpvm/out/xdpvm"))
+IMAGE = os.path.join(TOP, "examples/filter.image")
+# For how many seconds something is waited for.
+WAIT = 1
+
+
+def record(interface, body):
+    """A frame of a stream: it came in on this interface."""
+    return bytes(8) + interface.to_bytes(4, "little") + bytes(4) + len(body).to_bytes(4, "little") + body
+
+
+def dropped(body):
+    return record(1, body)
+
+
+def passed(body):
+    return record(2, body)
+
+
+# What is written, part by part, and the line and the record that are due after each part.
+TURNS = [
+    (b"XPF1", b"", b"XPF1"),
+    (passed(b"ab"), b"0 PASS 2 5\n", passed(b"ab")),
+    (dropped(b"c"), b"1 DROP 1 4\n", b""),
+    (passed(b"") + passed(b"defg")[:9], b"2 PASS 0 5\n", passed(b"")),
+    (passed(b"defg")[9:], b"3 PASS 4 5\n", passed(b"defg")),
+    (dropped(b"h") + passed(4096 * b"i"), b"4 DROP 1 4\n5 PASS 4096 5\n", passed(4096 * b"i")),
+]
+
+
+def read_soon(file, wanted):
+    """As many bytes as are wanted, or those that come in time."""
+    found, end = b"", time.monotonic() + WAIT
+    while len(found) < len(wanted) and time.monotonic() < end:
+        if select.select([file], [], [], 0.01)[0]:
+            found += os.read(file, len(wanted) - len(found))
+    return found
+
+
+def is_prompt(name, command, sent, program, out):
+    """Whether all turns are handed on in time; `out` reads what the program writes into `sent`."""
+    for count, (part, line, frame) in enumerate(TURNS):
+        program.stdin.write(part)
+        program.stdin.flush()
+        for what, file, wanted in (("report", program.stdout.fileno(), line), ("frames out", out, frame)):
+            got = read_soon(file, wanted)
+            if got != wanted:
+                print(f"{command} into {name}: after part {count} the {what} had {got}, not {wanted}")
+                return False
+    program.stdin.close()
+    last = program.stdout.read()
+    if program.wait() != 0 or last != b"end 6\n":
+        print(f"{command} into {name}: status {program.returncode}, {last}")
+        return False
+    return True
+
+
+def tell_prompt(folder, command, name):
+    """Whether frames are handed on in time into a pipe, a named pipe or a file."""
+    sent = os.path.join(folder, f"{command} {name}")
+    if name == "a pipe":
+        out, into = os.pipe()
+        words, kept = f"/dev/fd/{into}", (into,)
+    else:
+        if name == "a named pipe":
+            os.mkfifo(sent)
+        else:
+            open(sent, "wb").close()
+        # A named pipe is opened for both, so that nobody waits for the other side.
+        out, words, kept = os.open(sent, os.O_RDWR), sent, ()
+    with subprocess.Popen([PROGRAM, command, IMAGE, "/dev/stdin", words], stdin=subprocess.PIPE,
+                          stdout=subprocess.PIPE, pass_fds=kept) as program:
+        for file in kept:
+            os.close(file)
+        is_right = is_prompt(name, command, sent, program, out)
+        program.stdin.close()
+        program.stdout.close()
+        program.kill()
+    os.close(out)
+    return is_right
+
+
+def calls(frames, out, report):
+    """How many calls wrote something in a run. `None`: the system does not count them."""
+    with open(report, "wb") as file, subprocess.Popen([PROGRAM, "run", IMAGE, frames, out], stdout=file) as program:
+        os.waitid(os.P_PID, program.pid, os.WEXITED | os.WNOWAIT)
+        try:
+            with open(f"/proc/{program.pid}/io", encoding="ascii") as counts:
+                return int(dict(line.split(": ") for line in counts)["syscw"])
+        except OSError:
+            return None
+
+
+def tell_unwatched(folder):
+    """Whether nothing is handed on frame by frame to where nobody sees it."""
+    frames = os.path.join(folder, "frames")
+    with open(frames, "wb") as file:
+        file.write(b"XPF1" + 1000 * passed(b"ab"))
+    sent = os.path.join(folder, "sent")
+    counts = [calls(frames, sent, os.path.join(folder, "report")), calls(frames, sent, "/dev/null"),
+              calls(frames, "/dev/null", "/dev/null")]
+    if None in counts:
+        print("calls are not counted here", file=sys.stderr)
+        return True
+    if max(counts) >= 100:
+        print(f"1000 frames into a file or /dev/null were written in {counts} calls")
+    return max(counts) < 100
+
+
+def main():
+    with tempfile.TemporaryDirectory() as folder:
+        told = [tell_prompt(folder, command, name) for command in ("run", "trace")
+                for name in ("a pipe", "a named pipe", "a file")]
+        told.append(tell_unwatched(folder))
+    return 0 if all(told) else 1
+
+
+if __name__ == "__main__":
+    sys.exit(main())
