@@ -193,7 +193,7 @@ def answered(given: argparse.Namespace) -> int:
 
 def arguments() -> argparse.Namespace:
     text = named(__doc__ or "")
-    usage = "\n".join(it[7:] for it in text.split("\n\n")[1].splitlines())
+    usage = text.split("\n\n")[1].removeprefix("usage: ")
     words = argparse.ArgumentParser(description=text, usage=usage, formatter_class=argparse.RawDescriptionHelpFormatter)
     words.add_argument("files", nargs="*", help=argparse.SUPPRESS)
     action = words.add_mutually_exclusive_group()

@@ -1,11 +1,11 @@
 #!/usr/bin/env python3
 """Runs a filter on a capture: compiles or assembles it, verifies it, runs it, and says what it did.
 
-usage: python3 tools/xdp.py FILTER [CAPTURE [OUT]] [--trace [--limit N]] [--reasons] [--all] [--to KIND] [--xdpvm PROGRAM]
+usage: python3 tools/xdp.py FILTER|-e EXPRESSION [CAPTURE [OUT]] [--trace [--limit N]] [--reasons] [--all] [--to KIND] [--xdpvm PROGRAM]
                             [--section NAME] [--program NAME] [--btf FILE] [--clang COMPILER] [-- FLAG ..]
 
 FILTER is C (NAME.c, compiled by clang, or by the COMPILER that is named, as bpf-gcc; the flags after `--` go to it), an
-object file, an image, or a text. CAPTURE is a capture (pcap, pcapng), a frame stream, or a text of frames; without one
+object file, an image, or a text; with -e it is made of an EXPRESSION of tcpdump, in one word, as filter.py does. CAPTURE is a capture (pcap, pcapng), a frame stream, or a text of frames; without one
 the filter is only verified. OUT gets the frames that are sent on, in the format that its name ends
 in (.pcap, .pcapng, .frames, .txt), or in the KIND that --to names. With --reasons the frames carry reasons: why each was
 dropped, in and out. Options may stand anywhere among the files.
@@ -22,6 +22,7 @@ each frame's line too, and takes a program that `verify` refuses; --limit is its
 
 examples:
     python3 tools/xdp.py examples/firewall.text examples/firewall.pcapng sent.pcapng
+    python3 tools/xdp.py -e 'udp port 53' examples/firewall.pcapng dns.pcapng
     python3 tools/xdp.py examples/talkers.bpf.c examples/talkers.pcapng -- -mcpu=v3
     tcpdump -U -w - | python3 tools/xdp.py filter.text - - | tcpdump -r -
 
@@ -40,6 +41,9 @@ import tempfile
 import threading
 from typing import BinaryIO, Iterable, Iterator
 
+from classic import Failed as NotTranslated
+from classic import asks_for_length, classic_program, compiled
+from expressions import Options, translated
 from inputs import named
 from outputs import IsRead, end_by_signal, is_plain, refuse_inputs
 from sources import HERE, Choice, Failed, Source, TextRefused, begin_of, image_of, the_xdpvm
@@ -47,6 +51,7 @@ from sources import HERE, Choice, Failed, Source, TextRefused, begin_of, image_o
 FRAMES = os.path.join(HERE, "frames.py")
 KINDS = ("pcap", "pcapng", "frames", "txt")
 SENT = "what is sent on"
+CUT = "cut when they were captured"  # what frames.py says where there are such frames
 
 
 # ---- what is said
@@ -139,12 +144,14 @@ def traced(lines: Iterable[str]) -> Iterator[str]:
 
 # ---- the frames
 
-def converted(source: str, made: str, name: str, *words: str) -> None:
-    """Converts frames. `name` is what messages call the source if that is a temporary file."""
+def converted(source: str, made: str, name: str, *words: str) -> str:
+    """Converts frames; the result is what is said of them. `name` is what messages call the source if that is a temporary
+    file."""
     ran = subprocess.run([sys.executable, FRAMES, *words, source, made], stderr=subprocess.PIPE, text=True, errors="replace", check=False)
     sys.stderr.write(ran.stderr.replace(source, name))
     if ran.returncode:
         raise Failed(f"{name} cannot be converted")
+    return ran.stderr
 
 
 def kind_of(out: str, to: str | None) -> str:
@@ -272,7 +279,9 @@ def run(given: argparse.Namespace, image: str, source: Source, folder: str) -> i
     if begin_of(given.capture)[:3] == b"XPF":
         frames = given.capture
     else:
-        converted(given.capture, frames, given.capture, *reasons)
+        said = converted(given.capture, frames, given.capture, *reasons)
+        if given.asks_for_length and CUT in said:
+            print("the expression asks for the length: tcpdump takes that on the wire, and here it is that of the bytes", file=sys.stderr)
     with subprocess.Popen(command_on(given, image, frames, sent), stdout=subprocess.PIPE) as ran:
         lines = told_lines(ran)
         tell_report(traced(lines) if given.trace else lines, source, given.all)
@@ -288,10 +297,9 @@ def arguments() -> argparse.Namespace:
     words = sys.argv[1:]
     flags = words[words.index("--") + 1:] if "--" in words else []
     parser = argparse.ArgumentParser(description=named(__doc__ or ""), formatter_class=argparse.RawDescriptionHelpFormatter,
-                                     usage=named("python3 tools/xdp.py FILTER [CAPTURE [OUT]] [--trace] [--reasons] [--all] [--xdpvm PROGRAM] .."))
-    parser.add_argument("filter", metavar="FILTER")
-    parser.add_argument("capture", metavar="CAPTURE", nargs="?")
-    parser.add_argument("out", metavar="OUT", nargs="?")
+                                     usage=named("python3 tools/xdp.py FILTER|-e EXPRESSION [CAPTURE [OUT]] [--trace] [--reasons] [--all] [--xdpvm PROGRAM] .."))
+    parser.add_argument("files", metavar="FILTER [CAPTURE [OUT]]", nargs="*")
+    parser.add_argument("-e", "--expression", metavar="EXPRESSION")
     parser.add_argument("--trace", action="store_true")
     parser.add_argument("--limit", metavar="N")
     parser.add_argument("--reasons", action="store_true")
@@ -304,15 +312,31 @@ def arguments() -> argparse.Namespace:
     parser.add_argument("--clang", default="clang")
     given = parser.parse_intermixed_args(words[:words.index("--")] if "--" in words else words)
     given.flags = flags
+    files = [None, *given.files] if given.expression is not None else given.files
+    if not 1 <= len(files) <= 3:
+        parser.error("the files are FILTER, or -e EXPRESSION, and then a CAPTURE and OUT, if they are wanted")
+    given.filter, given.capture, given.out = (*files, None, None)[:3]
+    given.asks_for_length = False
     if given.limit and not given.trace:
         parser.error("--limit goes with --trace")
     return given
 
 
+def text_of(given: argparse.Namespace, folder: str) -> str:
+    """The file of the program text of an expression."""
+    path = os.path.join(folder, "expression.text")
+    program = classic_program(compiled(given.expression))
+    given.asks_for_length = asks_for_length(program)
+    with open(path, "w", encoding="utf-8") as file:
+        file.write(translated(program, given.expression, Options()))
+    return path
+
+
 def tried(given: argparse.Namespace, folder: str) -> int:
     """Verifies the filter, and runs it if there is a capture."""
     choice = Choice(given.xdpvm, given.section, given.program, given.clang, given.flags, given.btf)
-    image, source = image_of(given.filter, choice, folder)
+    path = given.filter or text_of(given, folder)
+    image, source = image_of(path, choice, folder)
     verdict = subprocess.run([given.xdpvm, "verify", image], capture_output=True, text=True, errors="replace", check=False)
     tell_refusal(source, verdict)
     if given.capture is None or verdict.returncode and not given.trace:
@@ -340,7 +364,7 @@ def main() -> int:
         return 1
     except OSError as why:
         sys.exit(f"xdp.py: {why.filename}: {why.strerror}" if why.filename else f"xdp.py: {why}")
-    except (Failed, IsRead, struct.error) as why:
+    except (Failed, NotTranslated, IsRead, struct.error) as why:
         sys.exit(f"xdp.py: {why}")
 
 
