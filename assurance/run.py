@@ -269,5 +269,4 @@ def main():
     sys.exit(1 if left else 0)
 
 
-if __name__ == "__main__":
-    main()
+main()
