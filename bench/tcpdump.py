@@ -2,7 +2,7 @@
 """Compares the speed of filters of tcpdump's expressions with tcpdump's own: processor time a frame, on the same
 frames.
 
-usage: python3 bench/expressions.py [--program XDPVM] [--frames N] [--turns N] [EXPRESSION ..]
+usage: python3 bench/tcpdump.py [--program XDPVM] [--frames N] [--turns N] [EXPRESSION ..]
 
 N frames (1,000,000) of generated traffic are written to a capture and to a stream, which stay in the page cache. In
 each turn (5) `tcpdump -r CAPTURE -w /dev/null EXPRESSION` and `xdpvm run` of the filter run one after the other, the
