@@ -1,6 +1,6 @@
 #!/usr/bin/env python3
-"""Expressions of tcpdump: those of tests/expressions/man.txt, which are the man page's (names replaced by numbers of generated
-frames) and some by hand, and composed ones.
+"""Expressions of tcpdump: those of tests/expressions/man.txt, which are the man page's (names replaced by numbers of
+generated frames) and some by hand, and composed ones.
 
 usage: python3 assurance/expression_corpus.py [SEED [COUNT]]
 """

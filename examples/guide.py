@@ -10,6 +10,7 @@ leaves in crates/xdpvm_survey (crates/xdpvm_survey/out/xdpvm_survey). Without th
 The first word after the backquotes of a code block says how the block is tried:
 
     console     commands after `$`, each followed by its standard output
+    tcpdump     the same, where tcpdump 4.99 with libpcap 1.10 is installed
     NAME.text   a program text; it is written to that file, for the commands that follow it on the page
     program     a program text; `asm` assembles it, and `verify` answers what the comment says
     trace       a program text; the first frame of examples/two.frames, traced, has the lines that the comment says
@@ -104,6 +105,11 @@ def traced():
     return line(report, 0) + why.split("frame 1,")[0]
 
 
+def has_tcpdump():
+    """Whether the tcpdump of the pages is installed: others compile some expressions otherwise."""
+    return re.search(r"tcpdump version 4\.99\..*libpcap version 1\.10\.", shell("tcpdump --version 2>&1"), re.S) is not None
+
+
 def answer_of(kind, body):
     """The result for a block whose first comment says what is wanted."""
     if kind == "program":
@@ -124,7 +130,7 @@ def tries(kind, body):
     """The examples of a block: what is tried, what is wanted, and the result."""
     if kind.endswith(".text"):
         write(kind, body)
-    elif kind == "console" and ("survey" not in body or os.path.exists(SURVEY)):
+    elif kind == "console" and ("survey" not in body or os.path.exists(SURVEY)) or kind == "tcpdump" and has_tcpdump():
         for command, wanted in COMMAND.findall(body):
             yield command, wanted, shell(command)
     elif kind in ("program", "trace", "image", "stream", "table", "entries"):

@@ -9,6 +9,7 @@ crates/xdpvm (the default: crates/xdpvm/out/xdpvm). The exit status is 0 if each
 result, else 1.
 """
 import os
+import shlex
 import subprocess
 import sys
 import tempfile
@@ -174,6 +175,55 @@ def rows(folder):
     for words, line in WORDS:
         out, err = run(*words)
         yield words, (line, ""), (err[0], "")
+    yield from expressions()
+
+
+def expressions():
+    """What filter.py says, and what xdp.py says of an expression: with a tcpdump that refuses, or without any."""
+    path = os.environ["PATH"]
+    for words, given, line in EXPRESSIONS:
+        with tempfile.TemporaryDirectory() as folder:
+            if given.startswith("tcpdump: "):
+                with open(f"{folder}/tcpdump", "w") as file:
+                    file.write(f"#!/bin/sh\necho {shlex.quote(given)} >&2\nexit 1\n")
+                os.chmod(f"{folder}/tcpdump", 0o755)
+            os.environ["PATH"] = folder
+            try:
+                tool = os.path.join(TOP, f"tools/{words[0]}.py")
+                ran = subprocess.run([sys.executable, tool, *words[1:]], input=given, capture_output=True, text=True, check=False)
+            finally:
+                os.environ["PATH"] = path
+        yield words, (line, ""), (ran.stderr.splitlines()[-1], "")
+
+
+CLASSIC = ("filter", "--classic", "-")
+# What filter.py or xdp.py is asked for, with what is on its standard input (a tcpdump that refuses says a line that begins
+# with its name), and the last line of standard error.
+EXPRESSIONS = (
+    (("filter", "udp prt 53"), "tcpdump: can't parse filter expression: syntax error",
+     "filter.py: 'udp prt 53': can't parse filter expression: syntax error"),
+    (("filter", "host nosuch.invalid"), "tcpdump: unknown host 'nosuch.invalid'",
+     "filter.py: 'host nosuch.invalid': unknown host 'nosuch.invalid'"),
+    (("filter", "ip and not ip"), "tcpdump: expression rejects all packets", "filter.py: 'ip and not ip': expression rejects all packets"),
+    (("xdp", "--xdpvm", PROGRAM, "-e", "udp prt 53"), "tcpdump: can't parse filter expression: syntax error",
+     "xdp.py: 'udp prt 53': can't parse filter expression: syntax error"),
+    (("filter", "ip"), "", "filter.py: there is no tcpdump to compile the expression; Debian's package tcpdump has it"),
+    (("xdp", "--xdpvm", PROGRAM, "-e", "ip"), "", "xdp.py: there is no tcpdump to compile the expression; Debian's package tcpdump has it"),
+    (CLASSIC, "ip\n", "filter.py: this is not what `tcpdump -ddd` writes: a count, and then four numbers on each line"),
+    (CLASSIC, "2\n6 0 0 0\n", "filter.py: this is not what `tcpdump -ddd` writes: a count, and then four numbers on each line"),
+    (CLASSIC, "1\n6 0 0 4294967296\n", "filter.py: this is not what `tcpdump -ddd` writes: a count, and then four numbers on each line"),
+    (CLASSIC, "1\n255 0 0 0\n", "filter.py: instruction 0 has the code 0xff, which is none of the classic packet filter"),
+    (CLASSIC, "1\n21 5 0 0\n", "filter.py: instruction 0 leads out of the program"),
+    (CLASSIC, "2\n2 0 0 16\n6 0 0 0\n", "filter.py: instruction 0 names M[16], and there are 16"),
+    (CLASSIC, "3\n40 0 0 4294963204\n21 0 0 0\n6 0 0 1\n",
+     "filter.py: inbound and outbound ask for the direction of a frame: every frame of XDP comes in"),
+    (CLASSIC, "2\n48 0 0 4294963248\n22 0 0 0\n", "filter.py: the tag that a card has removed is not known here: compile without an interface"),
+    (CLASSIC, "2\n48 0 0 4294963201\n22 0 0 0\n", "filter.py: instruction 0 asks the kernel for field 1"),
+    (("filter",), "", "filter.py: error: one EXPRESSION is wanted, in quotes, or --classic FILE, and then at most one TEXT"),
+    (("filter", "--reason", "7", "--other", "TX", "ip"), "", "filter.py: error: --reason says why a frame is dropped, and --other sends it on"),
+    (("filter", "--turns", "1153", "ip"), "", "filter.py: error: argument --turns: '1153': a number from 0 to 1152 is wanted"),
+    (("filter", "--classic", "/nowhere/it"), "", "filter.py: /nowhere/it: No such file or directory"),
+)
 
 
 def main():
