@@ -3,7 +3,7 @@
 
 usage: python3 assurance/endless.py [PROGRAM [SURVEY]]
 
-Proof tables, program texts and earlier surveys that are devices without an end, or files of
+Proof tables and earlier surveys that are devices without an end, or files of
 terabytes on no disk, or a right one with such bytes behind it: each has to be refused as the bytes
 at its beginning are, within a second of the processor and 64 MB. PROGRAM and SURVEY are the programs
 that `rt run` leaves in crates/xdpvm and crates/xdpvm_survey (the default: those in out/ there). The

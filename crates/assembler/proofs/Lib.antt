@@ -14,6 +14,7 @@ pub mod NearDistances
 pub mod NameUses
 pub mod ZeroedTokens
 pub mod ReadingLoop
+pub mod LongStatements
 pub mod PlainReads
 pub mod PlainTextReads
 pub mod MapLaws

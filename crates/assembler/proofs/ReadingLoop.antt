@@ -7,6 +7,8 @@ use Rattle.lexer.specs.declared.tokens.Lexeme.{Lexeme}
 use Rattle.lexer.specs.Lexing.{lexeme_at, unknown_at}
 use Rattle.assembler.specs.Operands.{◌>>=◌}
 use Rattle.assembler.specs.Assembling.{ReadSoFar, accept, at_end, next_lexeme, read_on}
+use Rattle.assembler.specs.Drafts.{accept_short}
+use Rattle.assembler.proofs.LongStatements.{accept-short}
 
 -- bytes that are passed over
 skip : (bs : List ℕ) (k at : ℕ) (s : ReadSoFar)
@@ -56,24 +58,25 @@ loop_turn-none bs at s more e = loop_turn bs at s more
     (ok_or found (record { kind = UnknownByte; offset = at + unknown_at bs }))) e
 
 taken : (bs : List ℕ) (at : ℕ) (s : ReadSoFar) (x : Lexeme) (n : ℕ) (r : Result ReadSoFar Refusal)
-    → 0 < length bs → lexeme_at bs ≡ Some (x, n) → accept s x (at, take n bs) ≡ r
+    → 0 < length bs → lexeme_at bs ≡ Some (x, n) → accept_short s x (at, take n bs) ≡ r
     → read_on bs 0 at s ≡ (r >>= λ t. read_on (drop 1 bs) (n - 1) (at + 1) t)
 taken bs at s x n r more e h =
     loop_turn bs at s more
     ∙ ap (λ found. from_lexeme bs at s
     (ok_or found (record { kind = UnknownByte; offset = at + unknown_at bs }))) e
+    ∙ accept-short s x (at, take n bs) (drop 1 bs) (n - 1) (at + 1)
     ∙ ap (λ (o : Result ReadSoFar Refusal). o >>= λ t. read_on (drop 1 bs) (n - 1) (at + 1) t) h
 
 -- the statement ends there and is refused
 pub loop_turn-refused : (bs : List ℕ) (at : ℕ) (s : ReadSoFar) (x : Lexeme) (n : ℕ) (e : Refusal)
-    → 0 < length bs → lexeme_at bs ≡ Some (x, n) → accept s x (at, take n bs) ≡ Err e
+    → 0 < length bs → lexeme_at bs ≡ Some (x, n) → accept_short s x (at, take n bs) ≡ Err e
     → read_on bs 0 at s ≡ Err e
 loop_turn-refused bs at s x n e more found h = taken bs at s x n (Err e) more found h
 
 -- the lexeme is accepted, and the loop goes on
 pub loop_turn-taken : (bs : List ℕ) (all : ℕ) (s : ReadSoFar) (x : Lexeme) (n : ℕ) (t : ReadSoFar)
     → 0 < length bs → length bs ≤ all → lexeme_at bs ≡ Some (x, n)
-    → accept s x (all - length bs, take n bs) ≡ Ok t
+    → accept_short s x (all - length bs, take n bs) ≡ Ok t
     → read_on bs 0 (all - length bs) s
     ≡ read_on (drop (n - 1) (drop 1 bs)) 0 (all - length (drop (n - 1) (drop 1 bs))) t
 loop_turn-taken bs all s x n t more few found h =

@@ -5,8 +5,8 @@ ghost use Rattle.lexer.specs.declared.tokens.Lexeme.TheVariants as Lexeme;
 ghost use Rattle.assembler.specs.declared.errors.AsmErrorKind.TheVariants as AsmErrorKind;
 ghost use Rattle.assembler.specs.declared.readings.Statement.TheVariants as Statement;
 ghost use Rattle.assembler.specs.Labelled.{is_label, label_length, has_form};
-ghost use Rattle.assembler.specs.Assembling.{start, accept, at_end, ended, added, named, is_first, with_use, refused_by, refusal_of, offset_or, IsAsWanted};
-ghost use Rattle.assembler.specs.Drafts.{span_of, progress_of};
+ghost use Rattle.assembler.specs.Assembling.{start, at_end, ended, added, named, is_first, with_use, refused_by, refusal_of, offset_or, IsAsWanted};
+ghost use Rattle.assembler.specs.Drafts.{span_of, progress_of, shortened, accept_short};
 ghost use Rattle.assembler.specs.Naming.{use_of};
 
 use super::code::AssembledCode;
@@ -23,6 +23,10 @@ use indexmap::IndexMap;
 use isa_model::{MapDef, Version};
 use lexer::{Lexeme, Sign, Token};
 use std::alloc::Global;
+
+// More tokens than a label and the longest form have, which are 15. Of a longer statement no more
+// are kept: its others are read, and change nothing.
+const MOST_TOKENS: usize = 16;
 
 /// Where a token begins in the text, and its bytes.
 #[derive(Clone, Copy)]
@@ -72,7 +76,7 @@ impl<'a> Draft<'a> {
     /// Takes the next lexeme of the text.
     pub fn accept(&mut self, lexeme: Lexeme, span: Span<'a>) -> Result<(), Refusal>
         ensures { IsAsWanted (λ _. progress_of self.new) result
-            (accept (progress_of self.old) lexeme (span_of span.entry)) }
+            (accept_short (progress_of self.old) lexeme (span_of span.entry)) }
     {
         match lexeme {
             Lexeme::Blank => Ok(()),
@@ -83,18 +87,31 @@ impl<'a> Draft<'a> {
 
     fn take(&mut self, token: Token, span: Span<'a>) -> Result<(), Refusal>
         ensures exact { IsAsWanted (λ _. progress_of self.new) result
-            (accept (progress_of self.old) (Lexeme.Solid token) (span_of span.entry)) }
+            (accept_short (progress_of self.old) (Lexeme.Solid token) (span_of span.entry)) }
         ensures offset { IfErr result
             (λ e. e.offset
             ≡ offset_or (slice_get (map span_of self.old.spans.items) 0) span.entry.offset) }
     {
         let offset = self.offset_of(0, span.offset);
         match (self.spans.push(span), self.tokens.push(token)) {
-            (Ok(()), Ok(())) => Ok(()),
+            (Ok(()), Ok(())) => {
+                self.shorten();
+                Ok(())
+            }
             _ => Err(Refusal {
                 kind: AsmErrorKind::Memory,
                 offset,
             }),
+        }
+    }
+
+    // Keeps the first tokens only.
+    fn shorten(&mut self)
+        ensures { progress_of self.new ≡ shortened (progress_of self.old) }
+    {
+        if self.tokens.len() > MOST_TOKENS {
+            self.tokens.truncate(MOST_TOKENS);
+            self.spans.truncate(MOST_TOKENS);
         }
     }
 

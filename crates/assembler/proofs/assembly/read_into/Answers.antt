@@ -4,8 +4,8 @@ use Rattle.lexer.specs.Lexing.{lexeme_at, unknown_at}
 use Rattle.lexer.proofs.LexingLaws.{unknown_at-within}
 use Rattle.assembler.specs.declared.errors.AsmErrorKind.TheVariants.{UnknownByte}
 use Rattle.assembler.specs.declared.refusals.Refusal.{Refusal}
-use Rattle.assembler.specs.Assembling.{ReadSoFar, IsAsWanted, accept, read_on}
-use Rattle.assembler.specs.Drafts.{progress_of}
+use Rattle.assembler.specs.Assembling.{ReadSoFar, IsAsWanted, read_on}
+use Rattle.assembler.specs.Drafts.{progress_of, accept_short}
 use Rattle.assembler.proofs.ReadingLoop.{loop_turn-none, loop_turn-taken, loop_turn-end}
 use Rattle.assembler.proofs.assembly.read_into.Goals as goal
 
@@ -18,11 +18,11 @@ loop-rest-preserved c =
     let bytes : take c.min.result c.loop-rest.rest.now ≡ take c.in-Ok.found.1 c.loop-rest.rest.now =
     ap (λ n. take n c.loop-rest.rest.now) c.min.ensures
     ∙ take_min c.in-Ok.found.1 c.loop-rest.rest.now in
-    let taken : accept (progress_of c.loop-rest.draft) c.in-Ok.found.0 (
+    let taken : accept_short (progress_of c.loop-rest.draft) c.in-Ok.found.0 (
       length c.args.text.now - length c.loop-rest.rest.now,
       take c.in-Ok.found.1 c.loop-rest.rest.now,
     ) ≡ Ok (progress_of c.accept.new.self) =
-    ap₂ (λ (o : ℕ) (bs : List ℕ). accept (progress_of c.loop-rest.draft) c.in-Ok.found.0 (o, bs))
+    ap₂ (λ (o : ℕ) (bs : List ℕ). accept_short (progress_of c.loop-rest.draft) c.in-Ok.found.0 (o, bs))
     (sym c.saturating_sub-offset.ensures) (sym bytes) ∙ c.in-Ok-accept.ensures
     in
     let less = c.after-rest.ensures.less in (
