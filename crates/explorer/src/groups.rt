@@ -19,7 +19,7 @@ pub const FEW: usize = 4;
 /// How many registers or stack slots a group has at most.
 const GROUP_REGISTERS: u8 = 3;
 
-const GROUP_SLOTS: u8 = 8;
+const GROUP_SLOTS: u8 = 4;
 
 /// How many words of 8 bytes a part takes, and a group besides its parts.
 const PART_WORDS: usize = 10;
@@ -88,7 +88,7 @@ impl SharedParts {
 fn group_of(part: &Part) -> u8 {
     match part {
         Part::InRegister(number, _) => *number / GROUP_REGISTERS,
-        Part::InSlot(index, _) => 16 + *index / GROUP_SLOTS % 8,
+        Part::InSlot(index, _) => 16 + *index / GROUP_SLOTS % 16,
     }
 }
 
@@ -108,34 +108,62 @@ fn first_group(parts: &[Part]) -> usize {
     count
 }
 
-/// The groups of two other states, some of which a state may share.
+/// The groups of two other states, some of which a state may share: those that are not passed yet.
 #[derive(Clone, Copy)]
 pub struct OtherGroups<'a> {
     pub first: &'a [SharedParts],
     pub second: &'a [SharedParts],
 }
 
-/// One of the groups once more, if it has just these parts.
+/// Which group parts are, if there are any.
+#[inline(always)]
+fn group_in(parts: &[Part]) -> u8 {
+    match parts {
+        [first, ..] => group_of(first),
+        [] => 0,
+    }
+}
+
+/// The groups from the one of this number on.
+fn groups_from(groups: &[SharedParts], number: u8) -> &[SharedParts] {
+    let mut rest = groups;
+    for _group in 0..groups.len() {
+        let [group, others @ ..] = rest else {
+            return rest;
+        };
+        if group_in(group.parts()) >= number {
+            return rest;
+        }
+        rest = others;
+    }
+    rest
+}
+
+/// The first of the groups once more, if it has just these parts.
 fn shared_with(parts: &[Part], others: &[SharedParts]) -> Result<Option<SharedParts>, AllocError>
     ensures { IfOk result (λ found. IfSome found (λ group. group ≡ parts.now)) }
 {
-    for index in 0..others.len() {
-        if are_same(others[index].parts(), parts) {
-            let group = others[index].share()?;
-            return Ok(Some(group));
-        }
+    let [group, ..] = others else {
+        return Ok(None);
+    };
+    if !are_same(group.parts(), parts) {
+        return Ok(None);
     }
-    Ok(None)
+    let group = group.share()?;
+    Ok(Some(group))
 }
 
 /// A group that has these parts: one of the others, where one has just these.
 fn group_with(
     alloc: Global,
     parts: &[Part],
-    others: OtherGroups<'_>,
+    others: &mut OtherGroups<'_>,
 ) -> Result<SharedParts, AllocError>
     ensures { IfOk result (λ group. group ≡ parts.now) }
 {
+    let number = group_in(parts);
+    others.first = groups_from(others.first, number);
+    others.second = groups_from(others.second, number);
     if let Some(group) = shared_with(parts, others.first)? {
         return Ok(group);
     }
@@ -160,7 +188,7 @@ fn push_group(
     alloc: Global,
     groups: &mut Vec<SharedParts>,
     parts: &[Part],
-    others: OtherGroups<'_>,
+    others: &mut OtherGroups<'_>,
 ) -> Result<(), AllocError>
     ensures { OnOk result (whole groups.new.items ≡ whole groups.old.items ++ parts.now) }
 {
@@ -287,16 +315,17 @@ fn cut(
     ensures { IfOk result (λ groups. whole groups.items ≡ parts.now) }
 {
     let mut groups = Vec::new(alloc);
+    let mut others = others;
     let mut rest = parts;
     for _group in 0..parts.len() {
         let (first, more) = split_first(rest);
-        push_group(alloc, &mut groups, first, others)?;
+        push_group(alloc, &mut groups, first, &mut others)?;
         rest = more;
         if rest.is_empty() {
             return Ok(groups);
         }
     }
-    push_group(alloc, &mut groups, rest, others)?;
+    push_group(alloc, &mut groups, rest, &mut others)?;
     Ok(groups)
 }
 
