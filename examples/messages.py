@@ -10,6 +10,7 @@ result, else 1.
 """
 import os
 import shlex
+import struct
 import subprocess
 import sys
 import tempfile
@@ -183,10 +184,14 @@ def expressions():
     path = os.environ["PATH"]
     for words, given, line in EXPRESSIONS:
         with tempfile.TemporaryDirectory() as folder:
-            if given.startswith("tcpdump: "):
+            if given.startswith("tcpdump: ") or words[0] == "xdp" and given:
+                how = ">&2\nexit 1" if given.startswith("tcpdump: ") else ""
                 with open(f"{folder}/tcpdump", "w") as file:
-                    file.write(f"#!/bin/sh\necho {shlex.quote(given)} >&2\nexit 1\n")
+                    file.write(f"#!/bin/sh\necho {shlex.quote(given)} {how}\n")
                 os.chmod(f"{folder}/tcpdump", 0o755)
+            with open(f"{folder}/cut.pcap", "wb") as file:
+                file.write(CUT)
+            words = [it.replace("FOLDER", folder) for it in words]
             os.environ["PATH"] = folder
             try:
                 tool = os.path.join(TOP, f"tools/{words[0]}.py")
@@ -197,8 +202,10 @@ def expressions():
 
 
 CLASSIC = ("filter", "--classic", "-")
+ON_CUT = ("xdp", "--xdpvm", PROGRAM, "-e", "an expression", "FOLDER/cut.pcap")
+CUT = struct.pack("<IHHiIIIIIII", 0xA1B2C3D4, 2, 4, 0, 0, 65535, 1, 1, 1, 20, 100) + bytes(20)  # 20 of 100 bytes
 # What filter.py or xdp.py is asked for, with what is on its standard input (a tcpdump that refuses says a line that begins
-# with its name), and the last line of standard error.
+# with its name; one for xdp.py says a classic program), and the last line of standard error.
 EXPRESSIONS = (
     (("filter", "udp prt 53"), "tcpdump: can't parse filter expression: syntax error",
      "filter.py: 'udp prt 53': can't parse filter expression: syntax error"),
@@ -209,6 +216,9 @@ EXPRESSIONS = (
      "xdp.py: 'udp prt 53': can't parse filter expression: syntax error"),
     (("filter", "ip"), "", "filter.py: there is no tcpdump to compile the expression; Debian's package tcpdump has it"),
     (("xdp", "--xdpvm", PROGRAM, "-e", "ip"), "", "xdp.py: there is no tcpdump to compile the expression; Debian's package tcpdump has it"),
+    (ON_CUT, "4\n128 0 0 0\n53 0 1 50\n6 0 0 9999\n6 0 0 0",
+     "the expression asks for the length: tcpdump takes that on the wire, and here it is that of the bytes"),
+    (ON_CUT, "4\n48 0 0 0\n53 0 1 50\n6 0 0 9999\n6 0 0 0", "1 frames were cut when they were captured: only those bytes are here"),
     (CLASSIC, "ip\n", "filter.py: this is not what `tcpdump -ddd` writes: a count, and then four numbers on each line"),
     (CLASSIC, "2\n6 0 0 0\n", "filter.py: this is not what `tcpdump -ddd` writes: a count, and then four numbers on each line"),
     (CLASSIC, "1\n6 0 0 4294967296\n", "filter.py: this is not what `tcpdump -ddd` writes: a count, and then four numbers on each line"),
