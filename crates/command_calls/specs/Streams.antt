@@ -1,7 +1,8 @@
 -- What the call returns for a run over a stream.
-use Rattle.std.specs.Prelude.{◌≡◌, ℕ, List, [], length, Option, Some, None, Ok}
+use Rattle.std.specs.Prelude.{◌≡◌, ◌≢◌, ℕ, List, [], length, Option, Some, None, Ok}
 use Rattle.isa_model.specs.declared.streams.Fault.{Fault}
 use Rattle.isa_model.specs.declared.streams.Fault.TheVariants.{BadMagic, TruncatedHead, TooLong, TruncatedBody, ReadFailed, TooManyRecords}
+use Rattle.isa_model.specs.Reporting.Streams.{ByEnd, stream_of}
 use Rattle.bounds.specs.Bounds.{Bounded}
 use Rattle.host.specs.declared.tallies.Tally.{Tally}
 use Rattle.host.specs.Accepted.{RunsWhole}
@@ -36,12 +37,17 @@ streamed_of tally report_size sent_size =
       fault = fault_field tally.fault;
     }
 
+-- no read failed
+abbrev pub IsReadWell : Tally → Type 0
+IsReadWell tally = (offset : ℕ) → tally.fault ≢ Some (ReadFailed, offset)
+
 -- a run of an accepted program over a stream of these bytes writes this report and these frames
--- out, and returns this tally
-abbrev pub WritesStream : Bounded → List ℕ → List ℕ → List ℕ → Tally → Type 0
-WritesStream a source report sent tally =
-    RunsWhole a (Some source) (record { report = Some []; sent = Some [] })
-    (record { report = Some report; sent = Some sent }) (Ok tally)
+-- out, and returns this tally; it is the stream of all these bytes, to their end
+pub record WritesStream (a : Bounded) (source report sent : List ℕ) (tally : Tally) : Type 0 where
+  pub runs : RunsWhole a (Some source) (record { report = Some []; sent = Some [] })
+      (record { report = Some report; sent = Some sent }) (Ok tally)
+  pub all : runs.found ≡ stream_of (record { bytes = source; ending = ByEnd })
+  pub no_failure : IsReadWell tally
 
 -- the bytes are an accepted image, and the buffers hold what a run of its program over the stream
 -- writes

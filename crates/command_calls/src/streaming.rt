@@ -1,9 +1,9 @@
 //! The call that runs an accepted program over a frame stream.
 
-ghost use Rattle.std.specs.Prelude.{◌≡◌, ◌≢◌, IfSome};
+ghost use Rattle.std.specs.Prelude.{◌≡◌, ◌≢◌, IfSome, false};
 ghost use Rattle.verdict_calls.specs.Crossing.{IsVerdictStatus};
 ghost use Rattle.verdict_calls.specs.Verdicts.{IsRefusedImage};
-ghost use Rattle.command_calls.specs.Streams.{WritesStream, RunsStream, fault_number, streamed_of};
+ghost use Rattle.command_calls.specs.Streams.{IsReadWell, WritesStream, RunsStream, fault_number, streamed_of};
 
 use bounds::Verified;
 use host::{Tally, run};
@@ -66,7 +66,16 @@ struct Written {
     tally: Tally,
 }
 
-// The report and the frames out of a run over a stream. None: memory ran out.
+// Whether a read failed.
+fn has_failed(tally: &Tally) -> bool
+    ensures { result ≡ false → IsReadWell tally.now }
+{
+    matches!(tally.fault, Some((Fault::ReadFailed, _)))
+}
+
+// The report and the frames out of a run over a stream. None: memory ran out. A read of bytes in
+// memory never fails; that `run`, which takes any source, returns no such fault of them is tested
+// here, since no clause of it says so.
 fn stream_written(alloc: Global, verified: Verified, stream: &[u8]) -> Option<Written>
     ensures { IfSome result (λ w. WritesStream verified stream.now
         w.report.items w.sent.items w.tally) }
@@ -74,11 +83,16 @@ fn stream_written(alloc: Global, verified: Verified, stream: &[u8]) -> Option<Wr
     let mut report = Vec::new(alloc);
     let mut sent = Vec::new(alloc);
     match run(alloc, verified, stream, &mut report, &mut sent) {
-        Ok(tally) => Some(Written {
-            report,
-            sent,
-            tally,
-        }),
+        Ok(tally) => {
+            if has_failed(&tally) {
+                return None;
+            }
+            Some(Written {
+                report,
+                sent,
+                tally,
+            })
+        }
         Err(_) => None,
     }
 }
@@ -96,6 +110,7 @@ pub fn run_stream(
 ) -> u32
     ensures ran { result ≡ 0 → RunsStream image.now stream.now
         report.old sent.old report.new sent.new out.new }
+    ensures read { result ≡ 0 → out.new.fault ≢ 5 }
     ensures refused { result ≡ 2 → IsRefusedImage image.now }
     ensures report_kept { result ≢ 0 → report.new ≡ report.old }
     ensures sent_kept { result ≢ 0 → sent.new ≡ sent.old }

@@ -4,11 +4,14 @@ use Rattle.isa_model.specs.Reporting.Reports.{starting_contents}
 use Rattle.machine.specs.Running.{Running}
 use Rattle.machine.specs.BetweenRuns.{row_at}
 use Rattle.rechecking.specs.Refusing.{ShowsBound}
+use Rattle.stack_state.specs.Starts.{start}
+use Rattle.walks.specs.Accepting.{BoundsAll}
+use Rattle.walks.specs.Counts.{HasNumber}
 use Rattle.verdict_calls.specs.Verdicts.{IsAcceptedImage}
 
--- the bytes are an accepted image, and the session holds its program, with starting maps
-pub record OpensSession (bytes : List ℕ) (held : Option Running) : Type 0 where
-  pub bound : ℕ
+-- the bytes are an accepted image, and the session holds its program, with this bound and starting
+-- maps
+pub record HoldsAccepted (bytes : List ℕ) (bound : ℕ) (held : Option Running) : Type 0 where
   pub accepts : IsAcceptedImage bytes bound
   pub is : held ≡ Some (record {
     program = accepts.program;
@@ -16,11 +19,19 @@ pub record OpensSession (bytes : List ℕ) (held : Option Running) : Type 0 wher
     contents = starting_contents accepts.program.maps;
   })
 
--- the same, where the bytes are a closed table of this program, and the bound is the number of its
--- first entry
+-- and the bound is the one that `xdpvm_verify` gives: the number of the program's start state, as
+-- small as `BoundsAll` says
+pub record OpensSession (bytes : List ℕ) (held : Option Running) : Type 0 where
+  pub bound : ℕ
+  pub holds : HoldsAccepted bytes bound held
+  pub number : HasNumber holds.accepts.program start bound
+  pub bounds : BoundsAll holds.accepts.program bound
+
+-- or the bytes are a closed table of this program, and the bound is the number of its first entry
 pub record OpensByTable (bytes table : List ℕ) (held : Option Running) : Type 0 where
-  pub opens : OpensSession bytes held
-  pub shows : ShowsBound opens.accepts.program table opens.bound
+  pub bound : ℕ
+  pub holds : HoldsAccepted bytes bound held
+  pub shows : ShowsBound holds.accepts.program table bound
 
 -- a session is open, and this holds of its machine
 pub record HoldsOpen (held : Option Running) (fact : Running → Type 0) : Type 0 where

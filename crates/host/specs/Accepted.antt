@@ -29,9 +29,10 @@ pub record RunsWhole (a : Bounded) (source : Option (List ℕ)) (old new : Outpu
   pub writes : WritesEach old new result pieces
   pub tells : IfOk result (λ tally. tally ≡ tally_of (length found.frames) found.finish)
 
--- An output failed at the magic or at a frame, and no more was read: the source begins with these
--- frames, where its bytes are known, and the runs of these exit. However its stream goes on and
--- ends, the outputs hold a beginning of that stream's report.
+-- An output failed at the magic or at a frame, or at the first byte of what comes after these
+-- frames, and no more was read: the source begins with these frames, where its bytes are known, and
+-- the runs of these exit. However its stream goes on and ends, the outputs hold a beginning of that
+-- stream's report.
 pub record RunsFront (a : Bounded) (source : Option (List ℕ)) (old new : Outputs)
     (error : HostError) : Type 0 where
   pub version : Version
@@ -44,8 +45,8 @@ pub record RunsFront (a : Bounded) (source : Option (List ℕ)) (old new : Outpu
       → WroteBefore old new pieces error
 
 -- The bound is from 1 to 1,000,000. What was written is the report of the program and the source's
--- stream; after a failed output it is a beginning of that report, and only where the failed piece
--- is the magic or one of a frame was the stream not read to its end or fault.
+-- stream; after a failed output it is a beginning of that report, and then the stream may not have
+-- been read to its end or fault.
 pub record ReportsRun (a : Bounded) (source : Option (List ℕ)) (old new : Outputs)
     (result : Result Tally HostError) : Type 0 where
   pub some : 1 ≤ a.bound

@@ -1,8 +1,9 @@
 //! The call that runs an open program on a packet.
 
-ghost use Rattle.std.specs.Prelude.{◌≡◌, ◌≢◌, ◌<◌, ◌↔◌, ◌⊎◌, length, None};
+ghost use Rattle.std.specs.Prelude.{◌≡◌, ◌≢◌, ◌<◌, ◌≤◌, ◌↔◌, ◌⊎◌, length, None};
 ghost use Rattle.isa_model.specs.{max_packet};
 ghost use Rattle.verdict_calls.specs.Crossing.{IsChange};
+ghost use Rattle.held_machines.specs.OpenSessions.{HoldsOpen};
 ghost use Rattle.session_calls.specs.Sessions.{RunsSession};
 
 use held_machines::Session;
@@ -25,6 +26,7 @@ pub fn run_session(
       interface = head.now.interface;
       queue = head.now.queue;
     }) packet.old (record { r0 = out.new.r0; steps = out.new.steps }) packet.new }
+    ensures within { result ≡ 0 → HoldsOpen session.old.held (λ m. out.new.steps ≤ m.bound) }
     ensures wrong { (result ≡ 1)
         ↔ ((session.old.held ≡ None) ⊎ (max_packet < length packet.old)) }
     ensures session_kept { result ≢ 0 → session.new.held ≡ session.old.held }

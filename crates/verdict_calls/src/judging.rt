@@ -22,9 +22,9 @@ use listeners::{NoBound, verify_within};
 use refusal_texts::{image_text, program_text};
 use std::alloc::Global;
 
-/// The verdict on an image: the most steps of a run if it is accepted, and otherwise the slot of
-/// the refusal, or 0 if it has none. `said` is how many bytes the text of a refusal has. What a
-/// verdict does not have is 0.
+/// The verdict on an image: the most steps of a run if it is accepted, and otherwise the slot at
+/// which its program is refused; for bytes that are no image the slot is 0. `said` is how many bytes
+/// the text of a refusal has. What a verdict does not have is 0.
 #[repr(C)]
 #[derive(Clone, Copy, Drop)]
 pub struct Verdict {
@@ -40,10 +40,13 @@ fn is_memory(refusal: Refusal) -> bool
     matches!(refusal, Refusal::Memory | Refusal::Flow(FlowError::Memory))
 }
 
-/// The program of an image, if it is accepted.
+/// The program of an image, if it is accepted, with the bound that `verify_image` gives.
 pub fn verified_of(alloc: Global, image: &[u8]) -> Result<Verified, NotAccepted>
     ensures spelled { IfOk result (λ verified. image.now ≡ image_bytes verified.program) }
     ensures verified { IfOk result IsVerified }
+    ensures number { IfOk result
+        (λ verified. HasNumber verified.program start verified.bound) }
+    ensures bounds { IfOk result (λ verified. BoundsAll verified.program verified.bound) }
     ensures refused { result ≡ Err NotAccepted.Refused → IsRefusedImage image.now }
 {
     let program = match Image::parse(alloc, image) {

@@ -78,6 +78,7 @@ pub extern "C" fn xdpvm_run_stream(
 ) -> u32
     ensures ran { result ≡ 0 → RunsStream image.now stream.now
         report.old sent.old report.new sent.new out.new }
+    ensures read { result ≡ 0 → out.new.fault ≢ 5 }
     ensures refused { result ≡ 2 → IsRefusedImage image.now }
     ensures report_kept { result ≢ 0 → report.new ≡ report.old }
     ensures sent_kept { result ≢ 0 → sent.new ≡ sent.old }

@@ -1,10 +1,10 @@
 //! Exports that open and close sessions, and run their programs.
 
-ghost use Rattle.std.specs.Prelude.{◌≡◌, ◌≢◌, ◌↔◌, None, ◌<◌, ◌⊎◌, length};
+ghost use Rattle.std.specs.Prelude.{◌≡◌, ◌≢◌, ◌↔◌, None, ◌<◌, ◌≤◌, ◌⊎◌, length};
 ghost use Rattle.isa_model.specs.{max_packet};
 ghost use Rattle.verdict_calls.specs.Crossing.{IsStatus, IsChange};
 ghost use Rattle.verdict_calls.specs.Verdicts.{IsRefusedImage};
-ghost use Rattle.held_machines.specs.OpenSessions.{OpensSession, OpensByTable};
+ghost use Rattle.held_machines.specs.OpenSessions.{HoldsOpen, OpensSession, OpensByTable};
 ghost use Rattle.session_calls.specs.Sessions.{RunsSession};
 ghost use Rattle.table_calls.specs.Tables.{IsRefusedTable};
 
@@ -59,6 +59,7 @@ pub extern "C" fn xdpvm_run(
       interface = head.now.interface;
       queue = head.now.queue;
     }) packet.old (record { r0 = out.new.r0; steps = out.new.steps }) packet.new }
+    ensures within { result ≡ 0 → HoldsOpen session.old.held (λ m. out.new.steps ≤ m.bound) }
     ensures wrong { (result ≡ 1)
         ↔ ((session.old.held ≡ None) ⊎ (max_packet < length packet.old)) }
     ensures session_kept { result ≢ 0 → session.new.held ≡ session.old.held }

@@ -1,6 +1,8 @@
-use Rattle.std.proofs.Common.{ℕ, List, length, ap, ◌∙◌}
+use Rattle.std.proofs.Common.{ℕ, List, length, ap, sym, ◌∙◌}
 use Rattle.verdict_calls.specs.Crossing.{filled}
 use Rattle.command_calls.specs.Streams.{streamed_of}
+use Rattle.command_calls.specs.declared.streaming.Streamed.{Streamed}
+use Rattle.command_calls.proofs.StreamLaws.{fault_other}
 use Rattle.command_calls.proofs.streaming.run_stream.Goals as goal
 
 pub returns-clause-ran : goal.returns-clause-ran
@@ -31,3 +33,9 @@ returns-clause-ran c = λ _.
           ∙ ap (λ (n : ℕ). streamed_of written.tally n c.fill-sent_out.result) report_size
           ∙ ap (λ (n : ℕ). streamed_of written.tally (length written.report.items) n) sent_size;
     }
+
+pub returns-clause-read : goal.returns-clause-read
+returns-clause-read c = λ _ five.
+    let written = c.in-Some.written in
+    fault_other written.tally.fault c.in-Some.ensures.no_failure
+    (sym (ap (λ (s : Streamed). s.fault) c.streamed_of.ensures) ∙ five)

@@ -2,9 +2,9 @@ use Rattle.held_machines.proofs.opening.open_with_table.Goals as goal
 
 pub returns-in-Ok-clause-opened : goal.returns-in-Ok-clause-opened
 returns-in-Ok-clause-opened c = λ ok. record {
-  opens =
+  bound = c.in-Ok.verified.bound;
+  holds =
       record {
-        bound = c.in-Ok.verified.bound;
         accepts =
             record {
               program = c.in-Ok.verified.program;

@@ -35,3 +35,15 @@ returns-clause-ran c = λ _.
           (λ _. t) c.run-exit.result c.run-exit.new.packet left (λ _. c.run-exit.new.clock.time))
           c.clock_at-clock.ensures c.run-exit.ensures.outcome;
     }
+
+pub returns-clause-within : goal.returns-clause-within
+returns-clause-within c = λ _.
+    let outcome = c.run-exit.ensures.outcome in
+    let steps = outcome.steps_are in
+    let few = outcome.few in
+    record {
+      machine = c.deref_mut.result.now;
+      is = sym c.in-Some.ensures.machine
+          ∙ ap (λ (r : Running). Some r) (sym c.deref_mut.ensures.value);
+      so = omega (arith, steps, few);
+    }
