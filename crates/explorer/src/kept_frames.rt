@@ -5,7 +5,8 @@ ghost use Rattle.stack_state.specs.Slots.{frame_slots};
 ghost use Rattle.state_index.specs.Parts.{AreParts, register_parts, slot_parts};
 
 use crate::blanks::clear_frame;
-use crate::groups::{FEW, KeptParts, OtherGroups, Rest, SharedParts, may_cover_all, write_all};
+use crate::groups::{FEW, KeptParts, Rest, may_cover_all, write_all};
+use crate::shared_parts::{OtherGroups, SharedParts};
 use arrayvec::ArrayVec;
 use reg_state::Kind;
 use stack_state::{AbstractFrame, FRAME_SLOTS, MAX_CALLERS, StackSlot};

@@ -16,6 +16,7 @@ pub mod listened;
 mod listening;
 mod moves;
 mod search;
+mod shared_parts;
 mod state_trees;
 mod stored_states;
 mod trail;

@@ -126,12 +126,12 @@ impl Trail {
     }
 
     /// The states with which a state that becomes pending at the slot may share: the last pending
-    /// one; and the last one of that slot, or the stored one where there is none.
+    /// one; and the last one of that slot, or the stored one where that is the same or there is none.
     #[inline(always)]
     pub fn others_at<'a>(&'a self, slot: usize, stored: Option<&'a Kept>) -> Others<'a> {
         let second = match self.latest.index_at(slot) {
-            Some(index) => self.pending.get(index),
-            None => stored,
+            Some(index) if index.saturating_add(1) < self.pending.len() => self.pending.get(index),
+            _ => stored,
         };
         Others {
             first: self.last_pending(),
