@@ -23,8 +23,8 @@ use refusal_texts::{image_text, program_text};
 use std::alloc::Global;
 
 /// The verdict on an image: the most steps of a run if it is accepted, and otherwise the slot at
-/// which its program is refused; for bytes that are no image the slot is 0. `said` is how many bytes
-/// the text of a refusal has. What a verdict does not have is 0.
+/// which its program is refused; for bytes that are no image the slot is 0. `said` is how many
+/// bytes the text of a refusal has. What a verdict does not have is 0.
 #[repr(C)]
 #[derive(Clone, Copy, Drop)]
 pub struct Verdict {
