@@ -93,26 +93,9 @@ def tell_surveys(folder):
         yield tell([SURVEY, "--compare", path, IMAGE], 4, f"cannot compare with {path}: it is no survey as csv")
 
 
-def tell_large_survey(folder):
-    """Whether an earlier survey of 36 MB takes at most three times as much memory."""
-    survey = subprocess.run([SURVEY, "--format", "csv", IMAGE], check=True, capture_output=True).stdout
-    head, row = survey.splitlines(keepends=True)
-    path, size = os.path.join(folder, "large"), 0
-    with open(path, "wb") as file:
-        file.write(head)
-        while size < 36_000_000:
-            size += file.write(b"old/%d/%s" % (size, row))
-    for words in (["--format", "csv"], []):
-        ended, out, errors, memory, seconds = run([SURVEY, *words, "--compare", path, IMAGE])
-        is_right = ended == 0 and out.count("\n") > size / 200 and memory * 1024 <= 3 * size
-        if not is_right:
-            print(f"an earlier survey of {size} bytes: status {ended}, {errors}, {memory} KiB, {seconds:.2f} s")
-        yield is_right
-
-
 def main():
     with tempfile.TemporaryDirectory() as folder:
-        told = [*tell_tables(folder), *tell_surveys(folder), *tell_large_survey(folder)]
+        told = [*tell_tables(folder), *tell_surveys(folder)]
     return 0 if all(told) else 1
 
 
