@@ -1,10 +1,11 @@
 #!/usr/bin/env python3
-"""Makes the pictures of the pages: the basic blocks of stored programs, as Graphviz draws them.
+"""Makes the pictures of the pages: the basic blocks of stored programs, and the crates, as Graphviz draws them.
 
 usage: python3 tools/pictures.py [--check] [PROGRAM]
 
 For each NAME below it writes docs/pictures/NAME.svg, from what `xdpvm_survey dis --dot
-examples/NAME.image` prints. With --check nothing is written, each picture has to be the one that is
+examples/NAME.image` prints; and docs/pictures/crates.svg, from crates.txt: an arrow leads from a crate to one that it builds
+on, and one that others imply is left out. With --check nothing is written, each picture has to be the one that is
 made, and the status is 1 if one is not. If there is no `dot`, or one of another version than the
 one that drew a picture, only the labels of the blocks and the number of edges are compared. PROGRAM
 is xdpvm_survey (the default: crates/xdpvm_survey/out/xdpvm_survey).
@@ -27,6 +28,32 @@ def graph_of(program, name):
     return subprocess.run(words, stdout=subprocess.PIPE, text=True, check=True).stdout
 
 
+def crates():
+    """Each crate of crates.txt, with the crates of this repository that it builds on."""
+    with open(os.path.join(TOP, "crates.txt"), encoding="utf-8") as file:
+        rows = [line.partition(":") for line in file if line.strip() and not line.startswith("#")]
+    found = {head.split()[0]: names.split() for head, _, names in rows}
+    return {crate: [name for name in names if name in found] for crate, names in found.items()}
+
+
+def all_below(graph, crate, known):
+    """The crates that a crate builds on, directly or not."""
+    if crate not in known:
+        known[crate] = set(graph[crate]).union(*(all_below(graph, it, known) for it in graph[crate]))
+    return known[crate]
+
+
+def graph_of_crates():
+    """The crates in dot's language, without the arrows that others imply."""
+    graph, known = crates(), {}
+    lines = ["digraph crates {", '  node [shape=box, fontname="monospace"];', "  rankdir=BT;"]
+    lines += [f'  {crate} [label="{crate}"];' for crate in graph]
+    for crate, below in graph.items():
+        implied = set().union(*(all_below(graph, it, known) for it in below))
+        lines += [f"  {crate} -> {it};" for it in below if it not in implied]
+    return "\n".join([*lines, "}", ""])
+
+
 def drawn(graph):
     """The picture of a graph. None: there is no dot."""
     if not shutil.which("dot"):
@@ -39,10 +66,12 @@ def version_of(picture):
 
 
 def has_parts(picture, graph):
-    """Whether a picture has the lines of all blocks of a graph, in their order, and as many edges."""
+    """Whether a picture has the lines of all blocks of a graph, in their order, or the crates in any, and as many edges."""
     labels = re.findall(r'label="((?:[^"\\]|\\.)*)"', graph)
     lines = [re.sub(r"\\(.)", r"\1", one) for label in labels for one in label.split("\\l") if one]
     texts = [html.unescape(one) for one in re.findall(r"<text[^>]*>(.*?)</text>", picture)]
+    if graph.startswith("digraph crates"):
+        texts, lines = sorted(texts), sorted(lines)
     return texts == lines and picture.count('class="edge"') == graph.count(" -> ")
 
 
@@ -61,9 +90,9 @@ def main():
     if not os.path.exists(asked.program):
         raise SystemExit(f"pictures.py: there is no {asked.program}")
     good = True
-    for name in NAMES:
+    graphs = {name: graph_of(os.path.abspath(asked.program), name) for name in NAMES} | {"crates": graph_of_crates()}
+    for name, graph in graphs.items():
         path = os.path.join(TOP, "docs/pictures", f"{name}.svg")
-        graph = graph_of(os.path.abspath(asked.program), name)
         if not asked.check:
             picture = drawn(graph)
             if picture is None:
