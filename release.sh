@@ -108,7 +108,7 @@ else
     survey=$gate/xdpvm_survey
     library=$gate/libxdpvm_c.a
 fi
-for file in "$program" "$program.o" "$survey" "$survey.o" "$library"; do
+for file in "$program" "$survey" "$library"; do
     [ -f "$file" ] || stop "there is no $file: bash .ci/run proves and builds it"
 done
 rt=$(command -v rt) || stop "rt, the toolchain's command, is not on the path"
@@ -133,8 +133,12 @@ printf 'XDPVM_%s {\n  global: xdpvm_*;\n  local: *;\n};\n' "${version%.*}" > "$w
 cc -shared -nostartfiles -o "$work/libxdpvm.so" -Wl,-soname,"libxdpvm.so.${version%%.*}" -Wl,--version-script="$work/versions" \
     -Wl,--build-id=none -Wl,-z,relro,-z,now -Wl,--whole-archive "$work/libxdpvm.a" -Wl,--no-whole-archive
 
-# The same objects without shared libraries, for any Linux on x86-64.
+# The same objects without shared libraries, for any Linux on x86-64. The object files are there where the programs were proved.
+statics=()
+[ -f "$program.o" ] && [ -f "$survey.o" ] || echo "release.sh: there are no object files of the programs, so no static ones" >&2
 for it in "$program" "$survey"; do
+    [ -f "$program.o" ] && [ -f "$survey.o" ] || continue
+    statics+=("$work/$(basename "$it")-static")
     cc -static-pie -Wl,--build-id=none -o "$work/$(basename "$it")-static" "$it.o" "$kit/c/libos_c.a" "$heap" "$kit/c/libos_c.a"
 done
 
@@ -170,13 +174,13 @@ END
         echo "toolchain $(rt version)"
         echo "gate none: this is a trial"
     fi
-    echo "needs libc.so.6 with $needs; the -static programs need nothing"
+    echo "needs libc.so.6 with $needs$([ ${#statics[@]} -eq 0 ] || echo '; the -static programs need nothing')"
     echo "formats images XBP1 XBP2, frame streams XPF1 XPF2, proof tables XPT1"
     echo "licence $([ -f "$top/LICENSE" ] && echo LICENSE || echo 'none: nobody has said what others may do with these files')"
     echo "rests bin/xdpvm: commands::execute_given; of its runs host::run: reports, of verify explorer::verify: verified, of recheck rechecking::recheck: verified"
     echo "rests bin/xdpvm_survey: survey_commands::execute_given; of a row surveys::judge: says"
     echo "rests lib/libxdpvm.a: the clauses of the exports of crates/xdpvm_c"
-    echo "linked bin/xdpvm-static, bin/xdpvm_survey-static, lib/libxdpvm.so: of the same objects by cc; that link is outside the proofs"
+    echo "linked lib/libxdpvm.so${statics[*]:+, bin/xdpvm-static, bin/xdpvm_survey-static}: of the same objects by cc; that link is outside the proofs"
     for it in "xdpvm/out/xdpvm" "xdpvm_survey/out/xdpvm_survey" "xdpvm_c/out/libxdpvm_c.a"; do
         file=${gate:+$gate/$(basename "$it")}
         echo "built $(sha256sum < "${file:-$top/crates/$it}" | cut -c -64) crates/$it"
@@ -195,7 +199,7 @@ Name: xdpvm
 Description: verifies and runs BPF programs of type XDP, proved
 Version: $version
 Cflags: -I\${includedir}
-Libs: -L\${libdir} -lxdpvm
+Libs: -L\${libdir} -l:libxdpvm.a
 END
 }
 
@@ -236,7 +240,7 @@ stamped() {
 tree=$work/$name
 bash "$top/install.sh" "$tree/bin" "$program" "$survey" > "$work/said"
 rm -rf "${tree:?}/lib" "${tree:?}/include"
-install -m 755 "$work/xdpvm-static" "$work/xdpvm_survey-static" "$tree/bin"
+if [ ${#statics[@]} -gt 0 ]; then install -m 755 "${statics[@]}" "$tree/bin"; fi
 put_library "$tree/include" "$tree/lib" "\${pcfiledir}/../.."
 rust_crate "$tree/share/xdpvm/rust"
 mkdir -p "$tree/share/xdpvm/examples/embed"

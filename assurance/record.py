@@ -6,7 +6,8 @@ usage: python3 assurance/record.py --write 'N passed, 0 failed' SECONDS
 
 --write is called by .ci/run at its end. It keeps crates/*/out's programs, their object files and the library in
 ~/.cache/xdpvm/gate/COMMIT, beside record.json: the commit, the toolchain, the date, the cores and seconds, what the gate said,
-and the SHA-256 of each. Nothing is kept of a tree with changes that are not committed. The five newest records stay. --find
+and the SHA-256 of each. The object files are there where the programs were proved in this run, and else are those of an
+earlier record with the same programs, if there is one. Nothing is kept of a tree with changes that are not committed. The five newest records stay. --find
 prints the folder of the commit that is checked out; its status is 1 if there is none, if the tree has changes, or if a file
 is not the one that the record names. So install.sh and release.sh take what was proved, and prove nothing again.
 """
@@ -20,13 +21,8 @@ import sys
 from pathlib import Path
 
 TOP = Path(__file__).resolve().parent.parent
-FILES = (
-    "crates/xdpvm/out/xdpvm",
-    "crates/xdpvm/out/xdpvm.o",
-    "crates/xdpvm_survey/out/xdpvm_survey",
-    "crates/xdpvm_survey/out/xdpvm_survey.o",
-    "crates/xdpvm_c/out/libxdpvm_c.a",
-)
+FILES = ("crates/xdpvm/out/xdpvm", "crates/xdpvm_survey/out/xdpvm_survey", "crates/xdpvm_c/out/libxdpvm_c.a")
+OBJECTS = ("crates/xdpvm/out/xdpvm", "crates/xdpvm_survey/out/xdpvm_survey")  # programs, beside which their object files may be
 MOST = 5
 
 
@@ -47,6 +43,17 @@ def toolchain() -> str:
     return ran.stdout.strip()
 
 
+def object_of(program: Path) -> Path | None:
+    """The object file of a program: the one beside it, or that of an earlier record with the same program."""
+    beside, wanted = program.with_name(program.name + ".o"), sum_of(program)
+    if beside.is_file():
+        return beside
+    for earlier in sorted(kept().glob(f"*/{program.name}.o")) if kept().is_dir() else []:
+        if sum_of(earlier.with_name(program.name)) == wanted:
+            return earlier
+    return None
+
+
 def write(said: str, seconds: str) -> int:
     if git("status", "--porcelain"):
         print("record.py: nothing is kept, since there are changes that are not committed", file=sys.stderr)
@@ -58,8 +65,10 @@ def write(said: str, seconds: str) -> int:
     commit = git("rev-parse", "HEAD")
     folder, part = kept() / commit, kept() / f".{commit}.{os.getpid()}"
     part.mkdir(parents=True)
-    for path in FILES:
-        shutil.copy2(TOP / path, part)
+    objects = {f"{Path(path).name}.o": object_of(TOP / path) for path in OBJECTS}
+    files = {Path(path).name: TOP / path for path in FILES} | {name: it for name, it in objects.items() if it}
+    for name, it in files.items():
+        shutil.copy2(it, part / name)
     record = {
         "commit": commit,
         "date": datetime.datetime.now(datetime.timezone.utc).strftime("%Y-%m-%dT%H:%M:%SZ"),
@@ -67,7 +76,7 @@ def write(said: str, seconds: str) -> int:
         "cores": len(os.sched_getaffinity(0)),
         "seconds": int(seconds),
         "gate": said,
-        "files": {os.path.basename(path): sum_of(TOP / path) for path in FILES},
+        "files": {name: sum_of(part / name) for name in files},
     }
     (part / "record.json").write_text(json.dumps(record, indent=2) + "\n", encoding="utf-8")
     shutil.rmtree(folder, ignore_errors=True)
