@@ -1,7 +1,7 @@
 #!/bin/bash
 # Makes a release of a commit that the gate has passed: an archive that installs without the toolchain, and Debian packages.
 # usage: bash release.sh FOLDER [--trial]       makes the archives in FOLDER
-#        bash release.sh --files FOLDER         compares an unpacked archive with its MANIFEST
+#        bash release.sh --files FOLDER         compares an unpacked archive with its MANIFEST, and its programs with the gate's
 #        bash release.sh --check ARCHIVE        builds the archive's commit again, proofs included, and compares the bytes
 # The programs and the library are those that .ci/run left with its record of this very commit (assurance/record.py); a tree
 # with changes that are not committed, or without a record, is refused. With --trial they are those in crates/*/out, and the
@@ -53,6 +53,12 @@ compare_files() {
     sed -n '/^files:$/,$p' "$1/MANIFEST" | sed 1d > "$work/wanted"
     list_files "$1" > "$work/found"
     diff "$work/wanted" "$work/found" > "$work/differs" || { cat "$work/differs" && wrong=1; }
+    # the programs are those that the gate built
+    for name in xdpvm xdpvm_survey; do
+        if ! grep -q "^built $(sha256sum < "$1/bin/$name" | cut -c -64) crates/$name/out/$name$" "$1/MANIFEST"; then
+            echo "bin/$name is not what the MANIFEST says that the gate built" && wrong=1
+        fi
+    done
     echo "$(wc -l < "$work/found") files, $(grep -c '^[<>]' "$work/differs" || true) differ from the MANIFEST"
     return $wrong
 }

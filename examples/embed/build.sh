@@ -19,7 +19,10 @@ if [ "${1:-}" = --short ]; then
     [ -f "${1:-$out/libxdpvm_c.a}" ] || { echo "build.sh: there is no library ${1:-$out/libxdpvm_c.a}" >&2; exit 1; }
 fi
 gate=$(python3 "$top/assurance/record.py" --find) || gate=
-[ -f "$out/libxdpvm_c.a" ] || [ -z "$gate" ] || out=$gate
+if [ ! -f "$out/libxdpvm_c.a" ] && [ -n "$gate" ]; then
+    out=$gate
+    echo "build.sh: the library is the one that the gate proved at this commit ($gate)" >&2
+fi
 archive=${1:-$out/libxdpvm_c.a}
 out=$top/crates/xdpvm_c/out
 program=${2:-$top/crates/xdpvm/out/xdpvm}
