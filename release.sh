@@ -257,7 +257,7 @@ notices > "$tree/NOTICES"
 find "$tree" -name __pycache__ -prune -exec rm -rf {} +
 manifest "$tree" > "$tree/MANIFEST"
 stamped "$tree"
-tar -C "$work" --sort=name --owner=0 --group=0 --numeric-owner --format=ustar -cf - "$name" | xz -9e -T1 > "$folder/$name.tar.xz.part"
+tar -C "$work" --sort=name --owner=0 --group=0 --numeric-owner --format=ustar -cf - "$name" | xz -9e --threads=1 > "$folder/$name.tar.xz.part"
 mv "$folder/$name.tar.xz.part" "$folder/$name.tar.xz"
 (cd "$folder" && sha256sum "$name.tar.xz")
 
