@@ -14,7 +14,7 @@ use Rattle.isa_model.specs.Running.Runs.{Turn, turn}
 use Rattle.isa_model.proofs.RunLaws.{turn-outcome}
 use Rattle.isa_model.specs.Reporting.Reports.{OutputPiece, ToReport, ToFrames, ReportForm, Rule, turns_pieces, contents_after, maps_pieces, last_line, report_of, checked_rule, checked_report, starting_contents, IsReport}
 use Rattle.isa_model.specs.Running.Outcomes.{AllExit}
-use Rattle.isa_model.proofs.ReportLaws.{IsReport-checked}
+use Rattle.isa_model.proofs.ReportLaws.{IsReportFrom-checked}
 use Rattle.image.proofs.Programs.{IsProgram-IsImage, IsImage-starting_contents}
 use Rattle.bounds.specs.Bounds.{Bounded, IsVerified}
 use Rattle.machine.specs.declared.machines.Exit.{Exit as TheExit}
@@ -124,7 +124,8 @@ reported : (a : Bounded) (found : Stream) → IsVerified a → AreOpen found.ver
     → IsReport a.program found (checked_report a.program a.bound found)
     × AllExit a.program a.bound (starting_contents a.program.maps) found.frames
 reported a found h open_here =
-    IsReport-checked a.program a.bound found (IsProgram-IsImage a.program h.image) h.ends
+    IsReportFrom-checked a.program a.bound (starting_contents a.program.maps) found
+    (IsProgram-IsImage a.program h.image) h.ends
     (IsImage-starting_contents a.program h.image) open_here.fit
 
 -- what was written of an accepted program's turns is its report

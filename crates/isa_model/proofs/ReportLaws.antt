@@ -22,7 +22,7 @@ use Rattle.isa_model.specs.Machine.MachineStates.{AreBytes, FitRows, IsProgram, 
 use Rattle.isa_model.proofs.ValueLaws.{slice_index_fits}
 use Rattle.isa_model.specs.Running.Outcomes.{StartsEnd, AllExit, ExitsOn}
 use Rattle.isa_model.proofs.OutcomesLaws.{ExitsWithin, ExitsWithin-StartsEnd, FitRows-HasOutcome}
-use Rattle.isa_model.specs.Reporting.Reports.{OutputPiece, ToReport, ToFrames, ReportForm, maps_pieces, last_line, frame_pieces, frame_line, skip_pieces, turn_pieces, contents_left, turns_pieces, contents_after, checked_rule, checked_report, turn_by, starting_contents, ReportsFrame, ReportsFrames, report_form_of, IsReport}
+use Rattle.isa_model.specs.Reporting.Reports.{OutputPiece, ToReport, ToFrames, ReportForm, maps_pieces, last_line, frame_pieces, frame_line, skip_pieces, turn_pieces, contents_left, turns_pieces, contents_after, checked_rule, checked_report_from, turn_by, ReportsFrame, ReportsFrames, report_form_of, IsReportFrom}
 
 reason_fits : (v : Version) (bytes : List ℕ) → AreBytes bytes → ReasonFits v (reason_field v bytes)
 reason_fits One bytes h = refl
@@ -190,21 +190,20 @@ runs_on p n form number contents v (f ∷ frames) program h fits each =
       ),
     )
 
--- where every run of the program exits within n steps, the checked report with that limit is the
--- report, and every frame's run exits within n steps
-pub IsReport-checked : (p : Program) (n : ℕ) (found : Stream) → IsProgram p → StartsEnd p n
-    → FitRows p.maps (starting_contents p.maps)
-    → AreFrames found
-    → IsReport p found (checked_report p n found)
-    × AllExit p n (starting_contents p.maps) found.frames
-IsReport-checked p n found program h fits each =
+-- where every run of the program exits within n steps, from contents that fit its rows on the checked
+-- report with that limit is the report, and every frame's run exits within n steps
+pub IsReportFrom-checked : (p : Program) (n : ℕ) (contents : List KeyValues) (found : Stream)
+    → IsProgram p → StartsEnd p n → FitRows p.maps contents → AreFrames found
+    → IsReportFrom p contents found (checked_report_from p n contents found)
+    × AllExit p n contents found.frames
+IsReportFrom-checked p n contents found program h fits each =
     let form = report_form_of p found in
     let (exits, reports) =
-    runs_on p n form 0 (starting_contents p.maps) found.version found.frames program h fits each in
+    runs_on p n form 0 contents found.version found.frames program h fits each in
     let rule = checked_rule p n in (
       record {
-        turns = turns_pieces (with_limit n form) rule 0 (starting_contents p.maps) found.frames;
-        last = contents_after rule (starting_contents p.maps) found.frames;
+        turns = turns_pieces (with_limit n form) rule 0 contents found.frames;
+        last = contents_after rule contents found.frames;
         frames = reports;
         whole = refl;
       },
@@ -247,12 +246,14 @@ ReportsFrames-same form p number contents (f ∷ frames) pieces others last end 
       ends,
     )
 
--- a program has at most one report of the same stream
-pub IsReport-same : (p : Program) (found : Stream) (pieces others : List OutputPiece)
-    → IsReport p found pieces → IsReport p found others → pieces ≡ others
-IsReport-same p found pieces others h k =
+-- a program has at most one report of the same stream, from the same contents on
+pub IsReportFrom-same : (p : Program) (contents : List KeyValues) (found : Stream)
+    (pieces others : List OutputPiece)
+    → IsReportFrom p contents found pieces → IsReportFrom p contents found others
+    → pieces ≡ others
+IsReportFrom-same p contents found pieces others h k =
     let (turns, last) = ReportsFrames-same (report_form_of p found) p 0
-    (starting_contents p.maps) found.frames h.turns k.turns h.last k.last h.frames k.frames in
+    contents found.frames h.turns k.turns h.last k.last h.frames k.frames in
     let last_pieces = ToReport (last_line (length found.frames) found.finish) ∷ [] in
     h.whole
     ∙ ap (λ (l : List OutputPiece). (ToFrames (stream_magic found.version) ∷ l)

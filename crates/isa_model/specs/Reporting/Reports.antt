@@ -244,10 +244,14 @@ report_of limit program rows rule contents found =
 abbrev pub checked_rule : Program → ℕ → Rule
 checked_rule p limit head body contents = turn p limit (λ k. head.time) head body contents
 
--- the checked report of a program, a limit, and a stream
+-- the checked report of a program, a limit, and a stream, from these contents of the maps on
+abbrev pub checked_report_from : Program → ℕ → List KeyValues → Stream → List OutputPiece
+checked_report_from p limit contents found =
+    report_of limit p.version p.maps (checked_rule p limit) contents found
+
+-- from new maps on
 abbrev pub checked_report : Program → ℕ → Stream → List OutputPiece
-checked_report p limit found =
-    report_of limit p.version p.maps (checked_rule p limit) (starting_contents p.maps) found
+checked_report p limit found = checked_report_from p limit (starting_contents p.maps) found
 
 -- the turn of a run that has this outcome
 abbrev pub turn_by : Outcome → Turn
@@ -284,11 +288,16 @@ ReportsFrames form p number contents (f ∷ frames) pieces last =
 abbrev pub report_form_of : Program → Stream → ReportForm
 report_form_of p found = record { limit = max_steps; program = p.version; stream = found.version }
 
--- the report of a program, and a stream: every run exits; `turns` are the turns' pieces of it
-pub record IsReport (p : Program) (found : Stream) (pieces : List OutputPiece) : Type 0 where
+-- the report of a program and a stream, from these contents of the maps on: every run exits;
+-- `turns` are the turns' pieces of it
+pub record IsReportFrom (p : Program) (contents : List KeyValues) (found : Stream)
+    (pieces : List OutputPiece) : Type 0 where
   pub turns : List OutputPiece
   pub last : List KeyValues
-  pub frames : ReportsFrames (report_form_of p found) p 0
-      (starting_contents p.maps) found.frames turns last
+  pub frames : ReportsFrames (report_form_of p found) p 0 contents found.frames turns last
   pub whole : pieces ≡ (ToFrames (stream_magic found.version) ∷ turns)
       ++ (maps_pieces 0 p.maps last ++ ToReport (last_line (length found.frames) found.finish) ∷ [])
+
+-- the report of a program and a stream, from new maps on
+abbrev pub IsReport : Program → Stream → List OutputPiece → Type 0
+IsReport p found pieces = IsReportFrom p (starting_contents p.maps) found pieces
