@@ -3,8 +3,6 @@
    usage: bridge IMAGE IN OUT [--table TABLE] [--maps MAPS] [--pcap FILE] [--both] [--seconds N] */
 #define _GNU_SOURCE
 #include "bridge.h"
-#include "filter.h"
-#include "link.h"
 #include <errno.h>
 #include <getopt.h>
 #include <linux/capability.h>
@@ -152,12 +150,10 @@ static int give_up_rights(void) {
 }
 
 static int open_link(struct link *link, const char *name, int receives) {
-    switch (link_open(link, name, receives)) {
-        case OPENED: return 0;
-        case NOT_PERMITTED: tell("%s: %s (it takes the capability CAP_NET_RAW)", name, strerror(errno)); return PERMISSION;
-        case NO_INTERFACE: tell("%s: there is no such interface", name); return INTERFACE;
-        default: tell("%s: %s", name, strerror(errno)); return INTERFACE;
-    }
+    const int status = link_open(link, name, receives);
+    if (status == PERMISSION) tell("%s: %s (it takes the capability CAP_NET_RAW)", name, strerror(errno));
+    if (status == INTERFACE) tell("%s: %s", name, link->index ? strerror(errno) : "there is no such interface");
+    return status;
 }
 
 /* A capture of frames of Ethernet with times in nanoseconds, as pcap(5) has it. */

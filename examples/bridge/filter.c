@@ -1,7 +1,6 @@
 /* A verified filter with its maps, by the library alone. */
-#include "filter.h"
+#define _GNU_SOURCE
 #include "bridge.h"
-#include <ctype.h>
 #include <errno.h>
 #include <stdlib.h>
 #include <string.h>
@@ -48,23 +47,19 @@ static int refused(const struct sources *from, const uint8_t *image, size_t size
     return REFUSED;
 }
 
-static int hexadecimal(const char *text, size_t length, uint8_t *bytes) {
-    for (size_t at = 0; at < length; at++) {
-        const char *digits = "0123456789abcdef", *digit = strchr(digits, tolower((unsigned char)text[at]));
-        if (!text[at] || !digit) return -1;
-        bytes[at / 2] = (uint8_t)((at % 2 ? bytes[at / 2] << 4 : 0) | (digit - digits));
-    }
-    return 0;
-}
-
 static int is_kept(const struct filter *filter, const struct filter *before, size_t map) {
     return before && map < before->maps && memcmp(&filter->rows[map], &before->rows[map], sizeof(struct row)) == 0;
 }
 
+/* The bytes that hexadecimal digits spell. */
+static void spell(const char *digits, size_t length, uint8_t *bytes) {
+    for (size_t at = 0; at < length; at++) sscanf(digits + 2 * at, "%2hhx", &bytes[at]);
+}
+
 /* Does what a line of a file of contents says; the result is what is wrong with it, or NULL. */
 static const char *fill(struct filter *filter, const char *line, const struct filter *before) {
-    static uint8_t key[MOST_KEY], value[MOST_VALUE];
     char keys[2 * MOST_KEY + 2], values[2 * MOST_VALUE + 2];
+    uint8_t key[MOST_KEY], value[MOST_VALUE];
     unsigned map = 0;
     int end = 0;
     if (!*line || strchr("#0123456789", *line) || !strncmp(line, "end", 3) || !strncmp(line, "fault", 5)) return NULL;
@@ -73,30 +68,27 @@ static const char *fill(struct filter *filter, const char *line, const struct fi
     const struct row *row = &filter->rows[map];
     if (strlen(keys) != 2u * row->key) return "the key has another size than the map's";
     if (strlen(values) != 2u * row->value) return "the value has another size than the map's";
-    hexadecimal(keys, 2u * row->key, key);
-    hexadecimal(values, 2u * row->value, value);
-    struct xdpvm_changed changed = {0};
     if (is_kept(filter, before, map)) return NULL;
+    struct xdpvm_changed changed = {0};
+    spell(keys, row->key, key);
+    spell(values, row->value, value);
     xdpvm_update(&filter->session, map, key, row->key, value, row->value, 0, &changed);
     return changed.answer ? "the map has no room for this key" : NULL;
 }
 
 static int fill_from(struct filter *filter, const char *path, const struct filter *before) {
-    size_t size = 0, number = 1;
-    uint8_t *text = read_file(path, &size);
-    if (!text) return UNREADABLE;
+    FILE *file = fopen(path, "r");
+    char *line = NULL;
+    size_t room = 0;
     int status = 0;
-    for (uint8_t *at = text, *end = text + size; at < end && !status; number++) {
-        uint8_t *line = memchr(at, '\n', (size_t)(end - at));
-        if (!line) line = end;
-        char *copy = strndup((char *)at, (size_t)(line - at));
-        const char *wrong = copy ? fill(filter, copy, before) : "out of memory";
-        if (wrong) tell("%s: line %zu: %s", path, number, wrong);
-        status = wrong ? copy ? REFUSED : NO_MEMORY : 0;
-        free(copy);
-        at = line + 1;
+    for (int number = 1; file && !status && getline(&line, &room, file) >= 0; number++) {
+        line[strcspn(line, "\n")] = 0;
+        const char *wrong = fill(filter, line, before);
+        if (wrong) tell("%s: line %d: %s", path, number, wrong), status = REFUSED;
     }
-    free(text);
+    if (!file || (!status && !feof(file))) tell("%s: %s", path, strerror(errno)), status = UNREADABLE;
+    if (file) fclose(file);
+    free(line);
     return status;
 }
 

@@ -1,7 +1,7 @@
 /* Frames of an interface by AF_PACKET, with a ring in memory that the kernel shares (packet(7), and packet_mmap in the kernel's
    documents). Each frame is in the ring as soon as it has come: the third version of rings hands on blocks of frames, and a frame
    alone waits there for a timer. */
-#include "link.h"
+#include "bridge.h"
 #include <arpa/inet.h>
 #include <errno.h>
 #include <linux/if_ether.h>
@@ -37,18 +37,18 @@ static int receive(struct link *link) {
     return link->ring ? 0 : -1;
 }
 
-enum opened link_open(struct link *link, const char *name, int receives) {
+int link_open(struct link *link, const char *name, int receives) {
     const int yes = 1;
     *link = (struct link){.name = name, .index = if_nametoindex(name), .socket = -1};
-    if (!link->index) return NO_INTERFACE;
+    if (!link->index) return INTERFACE;
     link->socket = socket(AF_PACKET, SOCK_RAW | SOCK_CLOEXEC, 0);
-    if (link->socket < 0) return errno == EPERM || errno == EACCES ? NOT_PERMITTED : NOT_OPENED;
+    if (link->socket < 0) return errno == EPERM || errno == EACCES ? PERMISSION : INTERFACE;
     const struct sockaddr_ll there = {.sll_family = AF_PACKET, .sll_protocol = receives ? htons(ETH_P_ALL) : 0, .sll_ifindex = (int)link->index};
     if (setsockopt(link->socket, SOL_PACKET, PACKET_VNET_HDR, &yes, sizeof yes) || (receives && receive(link)) ||
         bind(link->socket, (const struct sockaddr *)&there, sizeof there)) {
-        return errno == EPERM ? NOT_PERMITTED : errno == ENODEV ? NO_INTERFACE : NOT_OPENED;
+        return errno == EPERM ? PERMISSION : INTERFACE;
     }
-    return OPENED;
+    return 0;
 }
 
 int link_has_next(const struct link *link) {
