@@ -225,16 +225,17 @@ def tagged(frame: bytes, beside: list[tuple[int, int, bytes]]) -> bytes:
 
 
 def frames_out(seconds: float) -> list[str]:
-    """The frames that come to the right, in hexadecimal, until none has come for so long."""
+    """The frames that come to the right, in hexadecimal, until none has come for so long after the first."""
     found = []
     with socket.socket(socket.AF_PACKET, socket.SOCK_RAW, socket.htons(3)) as it:
         it.setsockopt(263, 8, 1)
         it.setsockopt(socket.SOL_SOCKET, 33, 1 << 28)  # SO_RCVBUFFORCE
         it.bind(("right0", 3))
-        it.settimeout(seconds)
+        it.settimeout(60)
         try:
             while True:
                 frame, beside, _, origin = it.recvmsg(65536, 256)
+                it.settimeout(seconds)
                 if origin[2] != socket.PACKET_OUTGOING:
                     found.append(tagged(frame, beside).hex())
         except TimeoutError:
