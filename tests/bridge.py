@@ -36,6 +36,7 @@ LONGEST = 9216  # bytes of a frame
 ETHTOOL, OFF = 0x8946, {0x1F: "TSO", 0x24: "GSO", 0x2C: "GRO"}  # SIOCETHTOOL, and what a sender does not do
 UDP_ALLOWED, UDP_FORBIDDEN = 7000, 7001
 MEGABYTES = 100
+LAST = bytes((2, 0, 0, 0, 0, 1, 2, 0, 0, 0, 2, 2)) + b"\x88\xb5the last frame"  # passes by MIXED
 
 
 class Wrong(Exception):
@@ -208,10 +209,10 @@ def random_frames(seed: int, count: int) -> list[bytes]:
 def send_frames(seed: int, count: int, pause: float) -> int:
     with socket.socket(socket.AF_PACKET, socket.SOCK_RAW) as it:
         it.bind(("left0", 0))
-        for frame in random_frames(seed, count):
+        for frame in random_frames(seed, count) + [LAST]:
             it.send(frame)
             time.sleep(pause)
-    return count
+    return count + 1
 
 
 def tagged(frame: bytes, beside: list[tuple[int, int, bytes]]) -> bytes:
@@ -224,22 +225,19 @@ def tagged(frame: bytes, beside: list[tuple[int, int, bytes]]) -> bytes:
     return frame
 
 
-def frames_out(seconds: float) -> list[str]:
-    """The frames that come to the right, in hexadecimal, until none has come for so long after the first."""
-    found = []
+def frames_out() -> list[str]:
+    """The frames that come to the right, in hexadecimal, up to the last one that is sent."""
+    found: list[str] = []
     with socket.socket(socket.AF_PACKET, socket.SOCK_RAW, socket.htons(3)) as it:
         it.setsockopt(263, 8, 1)
         it.setsockopt(socket.SOL_SOCKET, 33, 1 << 28)  # SO_RCVBUFFORCE
         it.bind(("right0", 3))
         it.settimeout(60)
-        try:
-            while True:
-                frame, beside, _, origin = it.recvmsg(65536, 256)
-                it.settimeout(seconds)
-                if origin[2] != socket.PACKET_OUTGOING:
-                    found.append(tagged(frame, beside).hex())
-        except TimeoutError:
-            return found
+        while not found or not found[-1].endswith(LAST[14:].hex()):
+            frame, beside, _, origin = it.recvmsg(65536, 256)
+            if origin[2] != socket.PACKET_OUTGOING:
+                found.append(tagged(frame, beside).hex())
+    return found
 
 
 # ---- the bridge
@@ -355,9 +353,9 @@ def test_frames(program: Path, xdpvm: Path, work: Path, ends: Ends, image: Path,
     """Random frames: those that come out are those that `xdpvm run` writes for the bridge's capture, in order."""
     capture, stream, out, report = (work / name for name in ("capture.pcap", "capture.frames", "out.frames", "report"))
     bridge = Bridge(program, work, str(image), "in0", "out0", "--pcap", str(capture))
-    there = Task(ends.right, frames_out, 2.0)
+    there = Task(ends.right, frames_out)
     time.sleep(0.3)
-    Task(ends.left, send_frames, seed, count, 0.00005).answer()
+    count = Task(ends.left, send_frames, seed, count, 0.00005).answer()
     came = there.answer()
     need(bridge.end(signal.SIGINT) == 0, "the bridge did not end with 0")
     counts = bridge.counts()
