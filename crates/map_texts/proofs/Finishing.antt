@@ -1,21 +1,20 @@
 -- How filling maps ends: at the end of a text, at a line that is refused, or by the source's error.
-use Rattle.std.proofs.Common.{◌≡◌, ℕ, ◌+◌, ◌≤◌, List, [], ◌∷◌, ◌++◌, length, take, drop, Option, Some, None, Result, Ok, Err, unwrap_or, refl, sym, ap, ◌∙◌, subst, arith, append_assoc, append-nil, length-append}
+use Rattle.std.proofs.Common.{◌≡◌, ℕ, ◌+◌, ◌≤◌, List, [], ◌++◌, length, take, drop, Option, Some, None, Result, Err, unwrap_or, refl, sym, ap, ◌∙◌, subst, append_assoc, append-nil}
 use Rattle.std.specs.Prelude.{IfSome}
 use Rattle.std.specs.List.{slice_split}
-use Rattle.std.specs.Io.KnownBytes.{Consumes, IsAtEnd, Keeps}
-use Rattle.std.proofs.KnownBytes.{Consumes-trans}
+use Rattle.std.specs.Io.KnownBytes.{Consumes, IsAtEnd}
 use Rattle.std.proofs.lemmas.List.{take_at, drop_at, take-append-le, length-take-le}
 use borrow.Rule.Slice.PartMut.{put_mid, post_of}
 use lib.Seq.{take-add}
 use Rattle.isa_model.specs.declared.map_defs.MapDef.{MapDef}
 use Rattle.isa_model.specs.Machine.States.{KeyValues}
-use Rattle.isa_model.specs.Reporting.Streams.{Input, ByEnd, ByError}
+use Rattle.isa_model.specs.Reporting.Streams.{ByEnd, ByError}
 use Rattle.maps.specs.Maps.{MapState, rows_of, contents_of}
 use Rattle.map_texts.specs.declared.errors.MapTextError.{MapTextError}
 use Rattle.map_texts.specs.declared.errors.MapTextErrorKind.TheVariants.{ReadFailed}
-use Rattle.map_texts.specs.Fillings.{Filled, after_line, after_lines, is_line_feed, filled_by, refused}
+use Rattle.map_texts.specs.Fillings.{after_line, after_lines, is_line_feed, filled_by}
 use Rattle.map_texts.specs.Reading.{AreFilledFrom, IsTextFrom, IsReadFailure, filled_of, error_of}
-use Rattle.map_texts.specs.Progress.{left_of, GoesOn, Stops, HasNoFeed, IsPending}
+use Rattle.map_texts.specs.Progress.{GoesOn, Stops, IsPending}
 use Rattle.map_texts.proofs.LineLaws.{allowed_cut}
 use Rattle.map_texts.proofs.Splitting.{left_none}
 

@@ -1,12 +1,12 @@
 -- Laws of lines: which of their bytes say that they are passed over, and how long lines are.
-use Rattle.std.proofs.Common.{◌≡◌, ℕ, ◌+◌, ◌-◌, ◌*◌, ◌<◌, ◌≤◌, min, max, List, [], ◌∷◌, ◌++◌, length, take, drop, Bool, true, false, cond, refl, sym, ap, ◌∙◌, subst, arith, length-append}
+use Rattle.std.proofs.Common.{◌≡◌, ℕ, ◌+◌, ◌<◌, ◌≤◌, List, [], ◌∷◌, ◌++◌, length, take, drop, true, false, refl, ap, ◌∙◌, arith}
 use Rattle.std.proofs.lemmas.List.{drop_more, get_or-map, length-map}
-use Rattle.std.specs.Prelude.{nat_lt, nat_eq, not, ◌&&◌, decimal}
+use Rattle.std.specs.Prelude.{nat_lt}
 use Rattle.isa_model.specs.declared.map_defs.MapDef.{MapDef}
 use Rattle.isa_model.specs.Machine.States.{KeyValues}
 use Rattle.maps.specs.Maps.{MapState, map_at, rows_of}
 use Rattle.map_texts.specs.declared.errors.MapTextErrorKind.TheVariants.{LongLine, ReadFailed}
-use Rattle.map_texts.specs.Lines.{is_passed, is_too_long, line_size, longest_from, longest_line, line_meaning, map_line_meaning, Passed, Refused}
+use Rattle.map_texts.specs.Lines.{is_passed, is_too_long, longest_line, line_meaning, map_line_meaning}
 use Rattle.map_texts.specs.Fillings.{accepted, refused, after_line, after_meaning, after_cut_line}
 
 -- ---- the first five bytes say whether a line is passed over

@@ -5,9 +5,9 @@ use Rattle.std.specs.List.{slice_get, filter_map, cons_option, range_with_len, f
 use Rattle.std.specs.Option.{option_map}
 use Rattle.std.specs.Io.KnownBytes.{Appends}
 use Rattle.std.specs.FinMap.Entries.{find}
-use Rattle.std.proofs.KnownBytes.{Appends-nil, Appends-trans}
+use Rattle.std.proofs.KnownBytes.{Appends-trans}
 use Rattle.std.proofs.lemmas.Grind.{flat_map-append}
-use Rattle.std.proofs.lemmas.List.{map-append, take_more, take_all, take_at, take-append-drop}
+use Rattle.std.proofs.lemmas.List.{take_more, take_all, take_at, take-append-drop}
 use Rattle.std.proofs.lemmas.List.Elements.{All-nil, All-cons, All-head, All-tail, All-weaker, All-get_or}
 use Rattle.std.proofs.lemmas.List.FromFn.{length-range_with_len}
 use Rattle.std.proofs.lemmas.Option.{slice_get_within, get_or_from_slice_get}
@@ -28,7 +28,7 @@ use Rattle.maps.specs.Maps.{MapState, IsMap, map_at, content_in, ordered_in, row
 use Rattle.maps.proofs.KeySizes.{KeyFits-most}
 use Rattle.maps.proofs.MapLaws.{FitsRow-IsMap}
 use Rattle.maps.specs.ReportOrder.{with_key_of}
-use Rattle.map_texts.specs.Listings.{AreListed, lines_of, text_of}
+use Rattle.map_texts.specs.Listings.{AreListed, lines_of}
 
 -- ---- parts of a text that are written one after another
 

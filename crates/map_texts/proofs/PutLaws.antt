@@ -1,6 +1,6 @@
 -- What a line's update does to the maps, by the test that fails, or none.
 use Rattle.std.proofs.Common.{◌≡◌, ◌≢◌, ℕ, zero, suc, ◌<◌, ◌≤◌, List, [], ◌∷◌, length, Option, Some, None, Bool, true, false, refl, sym, ap, ◌∙◌, arith}
-use Rattle.std.specs.Prelude.{nat_eq, slice_set, slice_index_or, not, if◌then◌else◌, ◌==◌, min, ◌-◌, ◌^◌, nat_le}
+use Rattle.std.specs.Prelude.{nat_eq, slice_set, slice_index_or, if◌then◌else◌, min, ◌-◌, ◌^◌, nat_le}
 use Rattle.std.specs.List.{slice_get}
 use Rattle.std.proofs.lemmas.List.{set-get_or}
 use Rattle.isa_model.specs.declared.map_defs.MapDef.{MapDef}
@@ -10,7 +10,7 @@ use Rattle.maps.specs.Maps.{MapState, Updated, map_at, content_in, rows_of, cont
 use Rattle.maps.specs.Contents.{content as content_of}
 use Rattle.maps.proofs.MapLaws.{contents_of-at, contents_of-set, rows_of-set}
 use Rattle.map_texts.specs.declared.errors.MapTextErrorKind.TheVariants.{NoMap, KeySize, ValueSize, NoRoom}
-use Rattle.map_texts.specs.Lines.{Meaning, Update, Refused, row_meaning, sized_meaning}
+use Rattle.map_texts.specs.Lines.{Update, row_meaning, sized_meaning}
 use Rattle.map_texts.specs.Fillings.{Filled, accepted, refused, updated, after_meaning}
 
 -- ---- rows by index

@@ -1,5 +1,5 @@
 -- What a line of a text of maps says, by the map rows of an image. docs/FORMATS.md.
-use Rattle.std.specs.Prelude.{ℕ, ◌+◌, ◌-◌, ◌*◌, ◌==◌, nat_lt, nat_le, nat_eq, max, ◌&&◌, ◌||◌, not, Bool, true, false, if◌then◌else◌, List, [], ◌∷◌, length, take, drop, codes, decimal, Option, Some, None, Result}
+use Rattle.std.specs.Prelude.{ℕ, ◌+◌, ◌-◌, ◌*◌, ◌==◌, nat_lt, nat_le, nat_eq, max, ◌&&◌, ◌||◌, not, Bool, true, if◌then◌else◌, List, [], ◌∷◌, length, take, drop, codes, decimal, Option, Some, None}
 use Rattle.std.specs.List.{prefix_len, starts_with, slice_get}
 use Rattle.std.specs.Result.{result_ok}
 use Rattle.hex.specs.Hex.{decode_of, is_hex_digit}

@@ -1,7 +1,5 @@
 -- What a call that fills maps does to them, by the text that it reads.
 use Rattle.std.specs.Prelude.{◌≡◌, ℕ, List, [], ◌++◌, Option, Some, None, Result, Ok, Err, IfSome}
-use Rattle.isa_model.specs.declared.map_defs.MapDef.{MapDef}
-use Rattle.isa_model.specs.Machine.States.{KeyValues}
 use Rattle.isa_model.specs.Reporting.Streams.{Input, ByEnd, ByError}
 use Rattle.maps.specs.Maps.{MapState, rows_of, contents_of}
 use Rattle.map_texts.specs.declared.errors.MapTextError.{MapTextError}

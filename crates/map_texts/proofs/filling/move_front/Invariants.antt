@@ -1,4 +1,4 @@
-use Rattle.std.proofs.Common.{◌≡◌, ℕ, ◌+◌, ◌<◌, ◌≤◌, get_or, take, drop}
+use Rattle.std.proofs.Common.{◌≡◌, ℕ, ◌≤◌, get_or, take, drop}
 use Rattle.map_texts.proofs.filling.move_front.Given as goal
 
 abbrev pub invariant-loop-i : goal.invariant-loop-i

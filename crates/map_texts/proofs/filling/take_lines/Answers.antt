@@ -1,4 +1,4 @@
-use Rattle.std.proofs.Common.{rules, arith, ◌≡◌, ◌+◌, ◌≤◌, ℕ, List, true, false, slice_index, length, drop, slice_range, refl, sym, ap, ◌∙◌, subst}
+use Rattle.std.proofs.Common.{arith, ◌≡◌, ◌+◌, List, true, false, slice_index, length, slice_range, refl, sym, ap, ◌∙◌, subst}
 use Rattle.isa_model.specs.declared.map_defs.MapDef.{MapDef}
 use Rattle.maps.specs.Maps.{MapState, rows_of, contents_of}
 use Rattle.map_texts.specs.declared.filling.Taken.{Taken}

@@ -1,6 +1,6 @@
-use Rattle.std.proofs.Common.{◌≡◌, ◌<◌, ℕ, length, Some, ap, ◌∙◌, arith}
+use Rattle.std.proofs.Common.{◌<◌, length, Some, ap, ◌∙◌, arith}
 use Rattle.isa_model.specs.declared.map_defs.MapDef.{MapDef}
-use Rattle.maps.specs.Maps.{map_at, contents_of}
+use Rattle.maps.specs.Maps.{contents_of}
 use Rattle.map_texts.specs.declared.errors.MapTextError.{MapTextError}
 use Rattle.map_texts.specs.Fillings.{Filled}
 use Rattle.map_texts.proofs.PutLaws.{put_done, put_refused, rows_stay}
