@@ -4,3 +4,6 @@ pub mod PutLaws
 pub mod Taking
 pub mod Listing
 pub mod Finishing
+pub mod ReadBackLines
+pub mod ReadBack
+pub mod ReadBackTexts

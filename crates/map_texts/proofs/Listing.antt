@@ -140,7 +140,7 @@ all_lines index es k r s past v =
 
 module _ {X Y : Type 0} (P : Y → Type 0) (h : X → Option Y)
     (each : (x : X) (y : Y) → h x ≡ Some y → P y) where
-  filtered : (xs : List X) → All P (filter_map h xs) × (length (filter_map h xs) ≤ length xs)
+  pub filtered : (xs : List X) → All P (filter_map h xs) × (length (filter_map h xs) ≤ length xs)
   filtered [] = (All-nil P, omega arith)
   filtered (x ∷ xs) =
       let (all, few) = filtered xs in
@@ -217,7 +217,7 @@ AreListed-map_at ms i l all =
 abbrev pub text_from : ℕ → List MapState → List ℕ
 text_from n ms = flat_map report_part (maps_pieces n (rows_of ms) (contents_of ms))
 
-pieces_text : (n : ℕ) (es : KeyValues)
+pub pieces_text : (n : ℕ) (es : KeyValues)
     → flat_map report_part (map (λ e. ToReport (map_line n e)) es) ≡ lines_of n es
 pieces_text n [] = refl
 pieces_text n (e ∷ es) = ap (λ (l : List ℕ). map_line n e ++ l) (pieces_text n es)

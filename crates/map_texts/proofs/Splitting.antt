@@ -44,7 +44,7 @@ feed_view (b ∷ bytes) =
 
 module _ (rows : List MapDef) (number : ℕ) (contents : List KeyValues) where
   -- after a line and then the rest of a text
-  abbrev and_rest : InputEnding → List ℕ → Filled → Filled
+  abbrev pub and_rest : InputEnding → List ℕ → Filled → Filled
   and_rest ending rest filled =
       and_then
       (λ held. after_lines ending rows (number + 1) held (slice_split is_line_feed rest)) filled

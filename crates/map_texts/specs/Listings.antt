@@ -4,11 +4,19 @@ use Rattle.std.specs.List.{flat_map}
 use Rattle.isa_model.specs.declared.map_defs.MapDef.{MapDef}
 use Rattle.isa_model.specs.Code.Limits.{max_key_size, max_value_size}
 use Rattle.isa_model.specs.Machine.States.{KeyValues}
-use Rattle.isa_model.specs.Reporting.Reports.{map_line, maps_pieces, report_bytes}
+use Rattle.isa_model.specs.Reporting.Reports.{map_line, maps_pieces, report_bytes, starting_contents}
+use Rattle.isa_model.specs.Reporting.Streams.{ByEnd}
+use Rattle.map_texts.specs.Fillings.{accepted, filled_by}
 
 -- the lines that a report has for maps of these rows and contents
 abbrev pub text_of : List MapDef → List KeyValues → List ℕ
 text_of rows contents = report_bytes (maps_pieces 0 rows contents)
+
+-- the text fills new maps of these rows with these contents
+abbrev pub ReadsBack : List MapDef → List KeyValues → Type 0
+ReadsBack rows contents =
+    filled_by rows (starting_contents rows)
+    (record { bytes = text_of rows contents; ending = ByEnd }) ≡ accepted contents
 
 -- the lines of these keys and values of a map
 abbrev pub lines_of : ℕ → KeyValues → List ℕ

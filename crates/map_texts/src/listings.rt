@@ -6,7 +6,7 @@ ghost use Rattle.isa_model.specs.Code.Limits.{max_key_size, max_value_size};
 ghost use Rattle.isa_model.specs.Reporting.Reports.{map_line};
 ghost use Rattle.maps.specs.Listing.{listed_key_values};
 ghost use Rattle.maps.specs.Maps.{rows_of, contents_of};
-ghost use Rattle.map_texts.specs.Listings.{AreListed, lines_of, text_of};
+ghost use Rattle.map_texts.specs.Listings.{AreListed, ReadsBack, lines_of, text_of};
 
 use super::key_values::{KeyValueLine, put_key_value};
 use exact_io::write_bytes;
@@ -55,6 +55,7 @@ pub fn write_maps<W: Write>(maps: &mut Maps, writer: &mut W) -> io::Result<()>
         (text_of (rows_of maps.old) (contents_of maps.old))) }
     ensures err { OnErr result (AppendsBeginning (W.contents writer.old) (W.contents writer.new)
         (text_of (rows_of maps.old) (contents_of maps.old))) }
+    ensures read_back { ReadsBack (rows_of maps.old) (contents_of maps.old) }
 {
     for i in 0..maps.count() {
         let row = maps.row(i);

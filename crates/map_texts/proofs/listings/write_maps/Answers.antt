@@ -1,6 +1,7 @@
 use Rattle.std.proofs.Common.{rules, ◌<◌, length, refl, arith}
 use Rattle.std.proofs.KnownBytes.{Appends-nil}
 use Rattle.map_texts.proofs.Listing.{AreListed-map_at, map_written, map_failed, maps_whole}
+use Rattle.map_texts.proofs.ReadBackTexts.{maps_read_back}
 use Rattle.map_texts.proofs.listings.write_maps.Goals as goal
 
 pub loop-i-init : goal.loop-i-init
@@ -32,3 +33,13 @@ returns-in-Err-clause-err g c =
 pub returns-clause-ok : goal.returns-clause-ok
 returns-clause-ok g c =
     maps_whole c.args.maps.now c.loop-i.i _ _ (omega arith) c.loop-i.invariant.0
+
+pub returns-in-Err-clause-read_back : goal.returns-in-Err-clause-read_back
+returns-in-Err-clause-read_back g c =
+    maps_read_back c.args.maps.now c.count-i-end.ensures.maps
+    (let n = c.count-i-end.ensures.count in omega arith)
+
+pub returns-clause-read_back : goal.returns-clause-read_back
+returns-clause-read_back g c =
+    maps_read_back c.args.maps.now c.count-i-end.ensures.maps
+    (let n = c.count-i-end.ensures.count in omega arith)
