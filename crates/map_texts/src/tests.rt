@@ -27,12 +27,12 @@ impl Read for Slow {
                 Ok(0)
             };
         }
-        let mut count = 0;
-        while count < buffer.len() && count < self.chunk && self.at < text.len() {
-            buffer[count] = text[self.at];
-            self.at += 1;
-            count += 1;
+        let rest = &text[self.at..];
+        let count = rest.len().min(buffer.len()).min(self.chunk);
+        for i in 0..count {
+            buffer[i] = rest[i];
         }
+        self.at += count;
         Ok(count)
     }
 }
