@@ -13,8 +13,8 @@ use Rattle.maps.specs.Maps.{MapState, rows_of, contents_of}
 use Rattle.map_texts.specs.declared.errors.MapTextError.{MapTextError}
 use Rattle.map_texts.specs.declared.errors.MapTextErrorKind.TheVariants.{ReadFailed}
 use Rattle.map_texts.specs.Fillings.{after_line, after_lines, is_line_feed, filled_by}
-use Rattle.map_texts.specs.Reading.{AreFilledFrom, IsTextFrom, IsReadFailure, filled_of, error_of}
-use Rattle.map_texts.specs.Progress.{GoesOn, Stops, IsPending}
+use Rattle.map_texts.specs.Reading.{AreFilledFrom, IsTextFrom, TellsReadFailure, filled_of, error_of}
+use Rattle.map_texts.specs.Progress.{GoesOnReading, StopsFilling, IsPending}
 use Rattle.map_texts.proofs.LineLaws.{allowed_cut}
 use Rattle.map_texts.proofs.Splitting.{left_none}
 
@@ -35,8 +35,8 @@ filled_more at room count buffer bytes within fits =
 -- more bytes are read
 pub more_read : (rows : List MapDef) (first number : ℕ) (contents held : List KeyValues)
     (read pending more : List ℕ)
-    → GoesOn rows first contents read number held pending
-    → GoesOn rows first contents (read ++ more) number held (pending ++ more)
+    → GoesOnReading rows first contents read number held pending
+    → GoesOnReading rows first contents (read ++ more) number held (pending ++ more)
 more_read rows first number contents held read pending more before ending rest =
     ap (λ (l : List ℕ). after_lines ending rows first contents (slice_split is_line_feed l))
     (append_assoc read more rest)
@@ -67,7 +67,8 @@ module _ (source now : Option (List ℕ)) (read : List ℕ) (consumed : Consumes
     by_end end is = record {
       input = record { bytes = read; ending = ByEnd };
       from_source =
-          known (λ bytes. IsTextFrom bytes (record { bytes = read; ending = ByEnd }) (error_of result))
+          known
+          (λ bytes. IsTextFrom bytes (record { bytes = read; ending = ByEnd }) (error_of result))
           (λ ys e. record {
             unread = ys;
             split = refl;
@@ -78,14 +79,15 @@ module _ (source now : Option (List ℕ)) (read : List ℕ) (consumed : Consumes
       rows = stay;
     }
 
-    by_error : IsReadFailure (error_of result)
+    by_error : TellsReadFailure (error_of result)
         → filled_of new result
         ≡ filled_by (rows_of old) (contents_of old) (record { bytes = read; ending = ByError })
         → AreFilledFrom source old new result
     by_error failure is = record {
       input = record { bytes = read; ending = ByError };
       from_source =
-          known (λ bytes. IsTextFrom bytes (record { bytes = read; ending = ByError }) (error_of result))
+          known
+          (λ bytes. IsTextFrom bytes (record { bytes = read; ending = ByError }) (error_of result))
           (λ ys e. record {
             unread = ys;
             split = refl;
@@ -121,7 +123,7 @@ module _ (source now : Option (List ℕ)) (read : List ℕ) (consumed : Consumes
   module _ (old now_maps : List MapState) (number : ℕ) (pending : List ℕ)
       (stay : rows_of now_maps ≡ rows_of old)
       (is_pending : IsPending (rows_of old) pending)
-      (goes_on : GoesOn (rows_of old) 1 (contents_of old) read number (contents_of now_maps)
+      (goes_on : GoesOnReading (rows_of old) 1 (contents_of old) read number (contents_of now_maps)
       pending) where
     -- at the end of the text its last line is done
     pub at_end : (new : List MapState) (result : Result (Unit {0}) MapTextError) → IsAtEnd now
@@ -159,8 +161,8 @@ module _ (source now : Option (List ℕ)) (read : List ℕ) (consumed : Consumes
   -- a line was refused
   pub at_refusal : (old now_maps new : List MapState) (number : ℕ) (bytes : List ℕ)
       (error : MapTextError) → rows_of new ≡ rows_of old
-      → GoesOn (rows_of old) 1 (contents_of old) read number (contents_of now_maps) bytes
-      → Stops (rows_of old) number (contents_of now_maps) bytes (contents_of new) error
+      → GoesOnReading (rows_of old) 1 (contents_of old) read number (contents_of now_maps) bytes
+      → StopsFilling (rows_of old) number (contents_of now_maps) bytes (contents_of new) error
       → AreFilledFrom source old new (Err error)
   at_refusal old now_maps new number bytes error rows goes_on stops =
       by_refusal old new (Err error) rows

@@ -28,7 +28,7 @@ use Rattle.maps.specs.Maps.{MapState, IsMap, map_at, content_in, ordered_in, row
 use Rattle.maps.proofs.KeySizes.{KeyFits-most}
 use Rattle.maps.proofs.MapLaws.{FitsRow-IsMap}
 use Rattle.maps.specs.ReportOrder.{with_key_of}
-use Rattle.map_texts.specs.Listings.{AreListed, lines_of}
+use Rattle.map_texts.specs.Listings.{FitListing, lines_of}
 
 -- ---- parts of a text that are written one after another
 
@@ -79,7 +79,7 @@ pair_at (x ∷ es) zero value e = (x, refl, cc)
 pair_at (x ∷ es) (suc k) value e = pair_at es k value e
 
 -- its sizes
-pub sizes_of : (row : MapDef) (es : KeyValues) (k : ℕ) (e : List ℕ × List ℕ) → AreListed row es
+pub sizes_of : (row : MapDef) (es : KeyValues) (k : ℕ) (e : List ℕ × List ℕ) → FitListing row es
     → slice_get es k ≡ Some e → (length e.0 ≡ row.key_size) × (length e.1 ≤ max_value_size)
 sizes_of row es k e listed there =
     subst (λ (x : List ℕ × List ℕ). (length x.0 ≡ row.key_size) × (length x.1 ≤ max_value_size))
@@ -87,7 +87,7 @@ sizes_of row es k e listed there =
     (All-get_or (λ (x : List ℕ × List ℕ). (length x.0 ≡ row.key_size)
     × (length x.1 ≤ max_value_size)) es k e (slice_get_within es k e there) listed.sizes)
 
-pub value_short : (row : MapDef) (es : KeyValues) (k : ℕ) (value : List ℕ) → AreListed row es
+pub value_short : (row : MapDef) (es : KeyValues) (k : ℕ) (value : List ℕ) → FitListing row es
     → Some value ≡ option_map (λ e. e.1) (slice_get es k) → length value ≤ max_value_size
 value_short row es k value listed found =
     let (e, there, is) = pair_at es k value found in
@@ -95,7 +95,7 @@ value_short row es k value listed found =
 
 -- the line of the key that was found
 module _ (index : ℕ) (row : MapDef) (es : KeyValues) (k : ℕ) (old new value : List ℕ)
-    (listed : AreListed row es)
+    (listed : FitListing row es)
     (found : Some value ≡ option_map (λ e. e.1) (slice_get es k))
     (put : new ≡ with_key_of (slice_get es k) old) where
   key_front : (e : List ℕ × List ℕ) → slice_get es k ≡ Some e → take row.key_size new ≡ e.0
@@ -178,7 +178,7 @@ by_index es i e all f =
     ] refl f
 
 listed_by : (map_type : MapType) (row : MapDef) (es : KeyValues) → row.kind ≡ map_type → IsRow row
-    → FitsRow row es → AreListed row (in_report_order map_type row.entries es)
+    → FitsRow row es → FitListing row (in_report_order map_type row.entries es)
 listed_by Hash row es k h fits = record {
   short_keys = KeyFits-most row.kind row.key_size h.key;
   room = fits.room;
@@ -204,9 +204,9 @@ listed_by Array row es k h fits =
     }
 
 -- the keys and values of a map of an image, as they are listed
-pub AreListed-map_at : (ms : List MapState) (i : ℕ) → i < length ms → All IsMap ms
-    → AreListed (map_at ms i).row (ordered_in (map_at ms i))
-AreListed-map_at ms i l all =
+pub FitListing-map_at : (ms : List MapState) (i : ℕ) → i < length ms → All IsMap ms
+    → FitListing (map_at ms i).row (ordered_in (map_at ms i))
+FitListing-map_at ms i l all =
     let m = map_at ms i in
     let h : IsMap m = All-get_or IsMap ms i _ l all in
     listed_by m.row.kind m.row (content_in m) refl h.is_row (FitsRow-IsMap m h)

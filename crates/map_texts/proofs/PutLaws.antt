@@ -11,7 +11,7 @@ use Rattle.maps.specs.Contents.{content as content_of}
 use Rattle.maps.proofs.MapLaws.{contents_of-at, contents_of-set, rows_of-set}
 use Rattle.map_texts.specs.declared.errors.MapTextErrorKind.TheVariants.{NoMap, KeySize, ValueSize, NoRoom}
 use Rattle.map_texts.specs.Lines.{Update, row_meaning, sized_meaning}
-use Rattle.map_texts.specs.Fillings.{Filled, accepted, refused, updated, after_meaning}
+use Rattle.map_texts.specs.Fillings.{FilledMaps, accepted, refused, updated, after_meaning}
 
 -- ---- rows by index
 
@@ -50,7 +50,7 @@ capped_row ms key_at value_at i key value few =
     ] refl
 
 module _ (ms : List MapState) (number key_at value_at i : ℕ) (key value : List ℕ) where
-  abbrev pub put : Filled
+  abbrev pub put : FilledMaps
   put =
       after_meaning number (contents_of ms)
       (row_meaning key_at value_at i (slice_get (rows_of ms) i) key value)

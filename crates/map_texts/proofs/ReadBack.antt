@@ -95,7 +95,8 @@ has_key-Contains : (k : List ℕ) (es : KeyValues) → Contains (keys_of es) k �
 has_key-Contains k es c =
     let (j, inside, is) = c in
     let size = length-map es (λ e. e.0) in
-    has_at k es j (omega arith) (k, []) (sym (get_or-map (λ e. e.0) es j (k, []) k (omega arith)) ∙ is)
+    has_at k es j (omega arith) (k, [])
+    (sym (get_or-map (λ e. e.0) es j (k, []) k (omega arith)) ∙ is)
 
 -- ---- all keys and values of a list are put into a content
 
@@ -340,7 +341,8 @@ module _ (row : MapDef) (array : row.kind ≡ Array) (row_fits : IsRow row) wher
 -- ---- a map
 
 pub record PutsBack (row : MapDef) (es : KeyValues) : Type 0 where
-  pub same : put_all (starting_key_values row.kind row) (in_report_order row.kind row.entries es) ≡ es
+  pub same : put_all (starting_key_values row.kind row)
+      (in_report_order row.kind row.entries es) ≡ es
   pub answered : Answered row (starting_key_values row.kind row)
       (in_report_order row.kind row.entries es)
   pub each : All (IsKeyValue row) (in_report_order row.kind row.entries es)

@@ -211,7 +211,8 @@ module _ (index : ℕ) (small : index < 2 ^ 64) where
         (All-cons NoFeed 32 [] refl (All-nil NoFeed)))))
         (All-append NoFeed (decimal index) (32 ∷ rest) (unended (decimal index) digits_plain)
         (All-cons NoFeed 32 rest refl
-        (All-append NoFeed (encode_lower e.0) (32 ∷ encode_lower e.1) (unended (encode_lower e.0) key_plain)
+        (All-append NoFeed (encode_lower e.0) (32 ∷ encode_lower e.1)
+        (unended (encode_lower e.0) key_plain)
         (All-cons NoFeed 32 (encode_lower e.1) refl
         (unended (encode_lower e.1) (AllPlain-hex e.1 fits.value))))))
 

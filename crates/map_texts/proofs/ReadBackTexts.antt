@@ -16,7 +16,7 @@ use Rattle.maps.specs.Maps.{MapState, IsMap, rows_of, contents_of}
 use Rattle.maps.proofs.MapLaws.{FitRows-IsMap, length-rows_of}
 use Rattle.map_texts.specs.declared.errors.MapTextErrorKind.TheVariants.{NoRoom}
 use Rattle.map_texts.specs.Lines.{Update, key_column}
-use Rattle.map_texts.specs.Fillings.{Filled, accepted, refused, after_meaning, after_line, after_lines, filled_by, is_line_feed}
+use Rattle.map_texts.specs.Fillings.{FilledMaps, accepted, refused, after_meaning, after_line, after_lines, filled_by, is_line_feed}
 use Rattle.map_texts.specs.Listings.{ReadsBack, lines_of, text_of}
 use Rattle.map_texts.specs.Progress.{NoFeed}
 use Rattle.map_texts.proofs.LineLaws.{passed_line}
@@ -26,7 +26,7 @@ use Rattle.map_texts.proofs.ReadBackLines.{key_line, map_line-key_line, no_feed-
 use Rattle.map_texts.proofs.Splitting.{and_rest, left_at, left_none}
 
 -- what the lines of a text do from here on
-abbrev after_text : List MapDef → ℕ → List KeyValues → List ℕ → Filled
+abbrev after_text : List MapDef → ℕ → List KeyValues → List ℕ → FilledMaps
 after_text rows number contents bytes =
     after_lines ByEnd rows number contents (slice_split is_line_feed bytes)
 

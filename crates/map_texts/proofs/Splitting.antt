@@ -7,8 +7,8 @@ use Rattle.isa_model.specs.declared.map_defs.MapDef.{MapDef}
 use Rattle.isa_model.specs.Machine.States.{KeyValues}
 use Rattle.isa_model.specs.Reporting.Streams.{InputEnding, ByEnd, ByError}
 use Rattle.map_texts.specs.declared.errors.MapTextError.{MapTextError}
-use Rattle.map_texts.specs.Fillings.{Filled, accepted, after_line, after_cut_line, after_last_line, after_lines, and_then, is_line_feed}
-use Rattle.map_texts.specs.Progress.{left_of, GoesOn, Stops, NoFeed, HasNoFeed}
+use Rattle.map_texts.specs.Fillings.{FilledMaps, accepted, after_line, after_cut_line, after_last_line, after_lines, and_then, is_line_feed}
+use Rattle.map_texts.specs.Progress.{left_of, GoesOnReading, StopsFilling, NoFeed, HasNoFeed}
 
 -- a text has at least one line
 some_line : (text : List ℕ)
@@ -44,7 +44,7 @@ feed_view (b ∷ bytes) =
 
 module _ (rows : List MapDef) (number : ℕ) (contents : List KeyValues) where
   -- after a line and then the rest of a text
-  abbrev pub and_rest : InputEnding → List ℕ → Filled → Filled
+  abbrev pub and_rest : InputEnding → List ℕ → FilledMaps → FilledMaps
   and_rest ending rest filled =
       and_then
       (λ held. after_lines ending rows (number + 1) held (slice_split is_line_feed rest)) filled
@@ -74,7 +74,7 @@ module _ (rows : List MapDef) (number : ℕ) (contents : List KeyValues) where
   -- a whole line that was taken, or refused
   pub line_taken : (line rest : List ℕ) (held : List KeyValues) → HasNoFeed line
       → accepted held ≡ after_line rows number contents line
-      → GoesOn rows number contents (line ++ 10 ∷ rest) (number + 1) held rest
+      → GoesOnReading rows number contents (line ++ 10 ∷ rest) (number + 1) held rest
   line_taken line rest held none is ending more =
       ap (λ (l : List ℕ). after_lines ending rows number contents (slice_split is_line_feed l))
       (append_assoc line (10 ∷ rest) more)
@@ -84,7 +84,7 @@ module _ (rows : List MapDef) (number : ℕ) (contents : List KeyValues) where
   pub line_refused : (line rest : List ℕ) (held : List KeyValues) (error : MapTextError)
       → HasNoFeed line
       → record { contents = held; error = Some error } ≡ after_line rows number contents line
-      → Stops rows number contents (line ++ 10 ∷ rest) held error
+      → StopsFilling rows number contents (line ++ 10 ∷ rest) held error
   line_refused line rest held error none is ending more =
       ap (λ (l : List ℕ). after_lines ending rows number contents (slice_split is_line_feed l))
       (append_assoc line (10 ∷ rest) more)
@@ -113,7 +113,7 @@ module _ (rows : List MapDef) (number : ℕ) (contents : List KeyValues) where
       ≡ after_line rows number contents (b ++ rest))
       → ((rest : List ℕ) → after_cut_line rows number contents (a ++ rest)
       ≡ after_cut_line rows number contents (b ++ rest))
-      → GoesOn rows number contents a number contents b
+      → GoesOnReading rows number contents a number contents b
   front_same a b ha hb whole cut ending more =
       elim (feed_view more) [
         | inl none ↦
@@ -138,7 +138,7 @@ module _ (rows : List MapDef) (number : ℕ) (contents : List KeyValues) where
       ≡ record { contents = held; error = Some error })
       → ((rest : List ℕ) → after_cut_line rows number contents (a ++ rest)
       ≡ record { contents = held; error = Some error })
-      → Stops rows number contents a held error
+      → StopsFilling rows number contents a held error
   front_refused a held error ha whole cut ending more =
       elim (feed_view more) [
         | inl none ↦

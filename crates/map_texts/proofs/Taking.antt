@@ -10,7 +10,7 @@ use Rattle.map_texts.specs.declared.errors.MapTextError.{MapTextError}
 use Rattle.map_texts.specs.declared.errors.MapTextErrorKind.TheVariants.{LongLine}
 use Rattle.map_texts.specs.Lines.{is_passed, is_too_long, longest_line, most_line_size}
 use Rattle.map_texts.specs.Fillings.{accepted, after_line, is_line_feed}
-use Rattle.map_texts.specs.Progress.{GoesOn, Stops, NoFeed, HasNoFeed, AreTakenTo, IsPending, Keeps, KeepsBy}
+use Rattle.map_texts.specs.Progress.{GoesOnReading, StopsFilling, NoFeed, HasNoFeed, AreTakenTo, IsPending, Keeps, KeepsBy}
 use Rattle.map_texts.proofs.LineLaws.{is_passed-append, is_passed-front, passed_line, passed_cut, long_line, long_cut, longest_line-six}
 use Rattle.map_texts.proofs.Splitting.{line_taken, line_refused, front_same, front_refused}
 
@@ -47,21 +47,21 @@ module _ (bytes : List ℕ) (start at : ℕ) (ordered : start ≤ at) (inside : 
   module _ (rows : List MapDef) (first : ℕ) (contents : List KeyValues) (number : ℕ)
       (held : List KeyValues) (feed : is_line_feed (get_or bytes at 0) ≡ true)
       (none : HasNoFeed line)
-      (before : GoesOn rows first contents bytes number held (drop start bytes)) where
+      (before : GoesOnReading rows first contents bytes number held (drop start bytes)) where
     pub taken : (later : List KeyValues) → accepted later ≡ after_line rows number held line
-        → GoesOn rows first contents bytes (number + 1) later (drop (at + 1) bytes)
+        → GoesOnReading rows first contents bytes (number + 1) later (drop (at + 1) bytes)
     taken later is ending more =
         before ending more
-        ∙ subst (λ (l : List ℕ). GoesOn rows number held l (number + 1) later (drop (at + 1) bytes))
+        ∙ subst (λ (l : List ℕ). GoesOnReading rows number held l (number + 1) later (drop (at + 1) bytes))
         (sym (cut feed))
         (line_taken rows number held line (drop (at + 1) bytes) later none is) ending more
 
     pub stopped : (later : List KeyValues) (error : MapTextError)
         → record { contents = later; error = Some error } ≡ after_line rows number held line
-        → Stops rows first contents bytes later error
+        → StopsFilling rows first contents bytes later error
     stopped later error is ending more =
         before ending more
-        ∙ subst (λ (l : List ℕ). Stops rows number held l later error) (sym (cut feed))
+        ∙ subst (λ (l : List ℕ). StopsFilling rows number held l later error) (sym (cut feed))
         (line_refused rows number held line (drop (at + 1) bytes) later error none is) ending more
 
 -- nothing was taken yet
@@ -113,7 +113,7 @@ module _ (rows : List MapDef) (number : ℕ) (contents : List KeyValues) (line :
     front_each rest =
         is_passed-append (take 5 line) rest (let l = five in omega arith) ∙ front_passed
 
-    pub front_kept : GoesOn rows number contents line number contents (take 5 line)
+    pub front_kept : GoesOnReading rows number contents line number contents (take 5 line)
     front_kept =
         front_same rows number contents line (take 5 line) none (All-take NoFeed 5 line none)
         (λ rest. passed_line rows number contents (line ++ rest) (each rest)
@@ -130,7 +130,7 @@ module _ (rows : List MapDef) (number : ℕ) (contents : List KeyValues) (line :
     long_each : (rest : List ℕ) → longest_line rows < length (line ++ rest)
     long_each rest = let l = length-append line rest in omega arith
 
-    pub long_refused : Stops rows number contents line contents
+    pub long_refused : StopsFilling rows number contents line contents
         (record { kind = LongLine; line = number; column = longest_line rows + 1 })
     long_refused =
         front_refused rows number contents line contents
@@ -142,7 +142,7 @@ module _ (rows : List MapDef) (number : ℕ) (contents : List KeyValues) (line :
   pub record IsKept (len : ℕ) : Type 0 where
     pub inside : len ≤ length line
     pub pending : IsPending rows (take len line)
-    pub goes_on : GoesOn rows number contents line number contents (take len line)
+    pub goes_on : GoesOnReading rows number contents line number contents (take len line)
 
   module _ (longest : ℕ) (is : longest ≡ longest_line rows) (most : longest ≤ most_line_size) where
     whole_kept : is_too_long rows line ≡ false → length line ≤ most_line_size
@@ -155,7 +155,7 @@ module _ (rows : List MapDef) (number : ℕ) (contents : List KeyValues) (line :
               subst (IsPending rows) (sym all)
               (record { unended = none; allowed = short; room = room });
           goes_on =
-              subst (GoesOn rows number contents line number contents) (sym all)
+              subst (GoesOnReading rows number contents line number contents) (sym all)
               (λ ending more. refl);
         }
 
@@ -198,17 +198,17 @@ module _ (rows : List MapDef) (number : ℕ) (contents : List KeyValues) (line :
         ] refl keeps
 
     pub none_kept : Keeps longest line None
-        → Stops rows number contents line contents
+        → StopsFilling rows number contents line contents
         (record { kind = LongLine; line = number; column = longest + 1 })
     none_kept keeps =
         elim (is_passed line) as (λ t. is_passed line ≡ t → KeepsBy t longest line None
-        → Stops rows number contents line contents
+        → StopsFilling rows number contents line contents
         (record { kind = LongLine; line = number; column = longest + 1 })) [
           | true ↦ λ e h. absurd (cc)
           | false ↦ λ e h.
               let long : longest_line rows < length line =
               subst (λ (n : ℕ). n < length line) is h in
-              subst (λ (n : ℕ). Stops rows number contents line contents
+              subst (λ (n : ℕ). StopsFilling rows number contents line contents
               (record { kind = LongLine; line = number; column = n + 1 })) (sym is)
               (long_refused e long)
         ] refl keeps

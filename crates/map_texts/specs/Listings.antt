@@ -24,7 +24,7 @@ lines_of index es = flat_map (map_line index) es
 
 -- no more keys than the row has room for, each of the row's size and with a value that is not too
 -- long
-pub record AreListed (row : MapDef) (es : KeyValues) : Type 0 where
+pub record FitListing (row : MapDef) (es : KeyValues) : Type 0 where
   pub short_keys : row.key_size ≤ max_key_size
   pub room : length es ≤ row.entries
   pub sizes : All (λ e. (length e.0 ≡ row.key_size) × (length e.1 ≤ max_value_size)) es

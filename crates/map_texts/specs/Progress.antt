@@ -9,22 +9,22 @@ use Rattle.map_texts.specs.declared.errors.MapTextError.{MapTextError}
 use Rattle.map_texts.specs.declared.filling.Taken.{Taken}
 use Rattle.map_texts.specs.declared.filling.Pending.{Pending}
 use Rattle.map_texts.specs.Lines.{is_passed, is_too_long, most_line_size}
-use Rattle.map_texts.specs.Fillings.{Filled, is_line_feed, after_lines}
+use Rattle.map_texts.specs.Fillings.{FilledMaps, is_line_feed, after_lines}
 
 -- where a text stands: the number of the line that these bytes begin, and what the maps hold
-abbrev pub left_of : List MapDef → ℕ → List KeyValues → List ℕ → InputEnding → List ℕ → Filled
+abbrev pub left_of : List MapDef → ℕ → List KeyValues → List ℕ → InputEnding → List ℕ → FilledMaps
 left_of rows number contents bytes ending more =
     after_lines ending rows number contents (slice_split is_line_feed (bytes ++ more))
 
-abbrev pub GoesOn : List MapDef → ℕ → List KeyValues → List ℕ → ℕ → List KeyValues → List ℕ
+abbrev pub GoesOnReading : List MapDef → ℕ → List KeyValues → List ℕ → ℕ → List KeyValues → List ℕ
     → Type 0
-GoesOn rows number contents bytes later held rest =
+GoesOnReading rows number contents bytes later held rest =
     (ending : InputEnding) (more : List ℕ)
     → left_of rows number contents bytes ending more ≡ left_of rows later held rest ending more
 
-abbrev pub Stops : List MapDef → ℕ → List KeyValues → List ℕ → List KeyValues → MapTextError
+abbrev pub StopsFilling : List MapDef → ℕ → List KeyValues → List ℕ → List KeyValues → MapTextError
     → Type 0
-Stops rows number contents bytes held error =
+StopsFilling rows number contents bytes held error =
     (ending : InputEnding) (more : List ℕ)
     → left_of rows number contents bytes ending more
     ≡ record { contents = held; error = Some error }
@@ -41,7 +41,7 @@ pub record AreTaken (rows : List MapDef) (number : ℕ) (old new : List KeyValue
   pub inside : taken.start ≤ length bytes
   pub few : taken.number ≤ number + taken.start
   pub unended : HasNoFeed (drop taken.start bytes)
-  pub goes_on : GoesOn rows number old bytes taken.number new (drop taken.start bytes)
+  pub goes_on : GoesOnReading rows number old bytes taken.number new (drop taken.start bytes)
 
 -- the same, where the bytes from `at` on have not been looked at
 pub record AreTakenTo (rows : List MapDef) (number : ℕ) (old new : List KeyValues)
@@ -49,12 +49,12 @@ pub record AreTakenTo (rows : List MapDef) (number : ℕ) (old new : List KeyVal
   pub inside : taken.start ≤ at
   pub few : taken.number ≤ number + taken.start
   pub unended : HasNoFeed (slice_range bytes taken.start at)
-  pub goes_on : GoesOn rows number old bytes taken.number new (drop taken.start bytes)
+  pub goes_on : GoesOnReading rows number old bytes taken.number new (drop taken.start bytes)
 
 abbrev pub TakesLines : List MapDef → ℕ → (old new : List KeyValues) → List ℕ
     → Result Taken MapTextError → Type 0
 TakesLines rows number old new bytes (Ok taken) = AreTaken rows number old new bytes taken
-TakesLines rows number old new bytes (Err error) = Stops rows number old bytes new error
+TakesLines rows number old new bytes (Err error) = StopsFilling rows number old bytes new error
 
 -- how much of a line is kept, by whether it is passed over: its front, all of it, or nothing if it
 -- is too long
@@ -77,10 +77,10 @@ pub record ArePending (rows : List MapDef) (number : ℕ) (old new : List KeyVal
   pub is_pending : IsPending rows (take pending.len buffer)
   pub len : pending.len ≤ most_line_size
   pub few : pending.number ≤ number + length bytes
-  pub goes_on : GoesOn rows number old bytes pending.number new (take pending.len buffer)
+  pub goes_on : GoesOnReading rows number old bytes pending.number new (take pending.len buffer)
 
 abbrev pub TakesBytes : List MapDef → ℕ → (old new : List KeyValues) → (bytes buffer : List ℕ)
     → Result Pending MapTextError → Type 0
 TakesBytes rows number old new bytes buffer (Ok pending) =
     ArePending rows number old new bytes buffer pending
-TakesBytes rows number old new bytes buffer (Err error) = Stops rows number old bytes new error
+TakesBytes rows number old new bytes buffer (Err error) = StopsFilling rows number old bytes new error

@@ -75,14 +75,14 @@ fn after_field(text: &[u8], len: usize) -> &[u8]
 
 /// The fields of a line after `map` and a space.
 #[derive(Clone, Copy)]
-pub struct Fields<'a> {
+pub struct LineFields<'a> {
     pub index: &'a [u8],
     pub key: &'a [u8],
     pub value: &'a [u8],
 }
 
 /// The fields of a line that begins with `map` and a space.
-pub fn fields_of(line: &[u8]) -> Fields<'_>
+pub fn fields_of(line: &[u8]) -> LineFields<'_>
     requires { 4 ≤ length line.now }
     ensures index { result.index.now ≡ index_field line.now }
     ensures key { result.key.now ≡ key_field line.now }
@@ -92,7 +92,7 @@ pub fn fields_of(line: &[u8]) -> Fields<'_>
     let index_len = field_len(text);
     let rest = after_field(text, index_len);
     let key_len = field_len(rest);
-    Fields {
+    LineFields {
         index: &text[..index_len],
         key: &rest[..key_len],
         value: after_field(rest, key_len),

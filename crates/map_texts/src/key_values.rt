@@ -9,10 +9,10 @@ use arrayvec::ArrayVec;
 use itoa::Buffer;
 
 /// A line of a key and its value; none has more than 8,347 bytes.
-pub type KeyValueLine = ArrayVec<u8, 8448>;
+pub type MapLine = ArrayVec<u8, 8448>;
 
 // Appends bytes.
-fn push_bytes(line: &mut KeyValueLine, bytes: &[u8])
+fn push_bytes(line: &mut MapLine, bytes: &[u8])
     requires { array_vec_len line.old + length bytes.now ≤ 8448 }
     ensures items { line.new.items ≡ line.old.items ++ bytes.now }
     ensures len { array_vec_len line.new ≡ array_vec_len line.old + length bytes.now }
@@ -21,7 +21,7 @@ fn push_bytes(line: &mut KeyValueLine, bytes: &[u8])
 }
 
 // Appends a number in decimal.
-fn push_number(line: &mut KeyValueLine, number: u64)
+fn push_number(line: &mut MapLine, number: u64)
     requires { array_vec_len line.old + 20 ≤ 8448 }
     ensures items { line.new.items ≡ line.old.items ++ decimal number }
     ensures len { array_vec_len line.new ≤ array_vec_len line.old + 20 }
@@ -31,7 +31,7 @@ fn push_number(line: &mut KeyValueLine, number: u64)
 }
 
 // Appends bytes in hexadecimal.
-fn push_hex(line: &mut KeyValueLine, bytes: &[u8])
+fn push_hex(line: &mut MapLine, bytes: &[u8])
     requires { array_vec_len line.old + 2 * length bytes.now ≤ 8448 }
     ensures items { line.new.items ≡ line.old.items ++ encode_lower bytes.now }
     ensures len { array_vec_len line.new ≡ array_vec_len line.old + 2 * length bytes.now }
@@ -45,7 +45,7 @@ fn push_hex(line: &mut KeyValueLine, bytes: &[u8])
 
 /// Makes the line of a key and its value, by the map's index.
 #[tactic(auto, unfolding(isa_model::specs::Reporting::Reports::map_line))]
-pub fn put_key_value(line: &mut KeyValueLine, map: usize, key: &[u8], value: &[u8])
+pub fn put_key_value(line: &mut MapLine, map: usize, key: &[u8], value: &[u8])
     requires key { length key.now ≤ max_key_size }
     requires value { length value.now ≤ max_value_size }
     ensures { line.new.items ≡ map_line map (key.now, value.now) }

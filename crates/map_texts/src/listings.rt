@@ -6,9 +6,9 @@ ghost use Rattle.isa_model.specs.Code.Limits.{max_key_size, max_value_size};
 ghost use Rattle.isa_model.specs.Reporting.Reports.{map_line};
 ghost use Rattle.maps.specs.Listing.{listed_key_values};
 ghost use Rattle.maps.specs.Maps.{rows_of, contents_of};
-ghost use Rattle.map_texts.specs.Listings.{AreListed, ReadsBack, lines_of, text_of};
+ghost use Rattle.map_texts.specs.Listings.{FitListing, ReadsBack, lines_of, text_of};
 
-use super::key_values::{KeyValueLine, put_key_value};
+use super::key_values::{MapLine, put_key_value};
 use exact_io::write_bytes;
 use isa_model::MapDef;
 use maps::{KEY_ROOM, Maps, Ordered};
@@ -22,14 +22,14 @@ fn write_key_values<W: Write>(
     key_values: &Ordered<'_>,
     writer: &mut W,
 ) -> io::Result<()>
-    requires { AreListed row (listed_key_values key_values.now) }
+    requires { FitListing row (listed_key_values key_values.now) }
     ensures ok { OnOk result (Appends (W.contents writer.old) (W.contents writer.new)
         (lines_of index (listed_key_values key_values.now))) }
     ensures err { OnErr result (AppendsBeginning (W.contents writer.old) (W.contents writer.new)
         (lines_of index (listed_key_values key_values.now))) }
 {
     let size = row.key_size as usize;
-    let mut line = KeyValueLine::new();
+    let mut line = MapLine::new();
     let mut key = [0u8; KEY_ROOM];
     for k in 0..row.entries as usize {
         match key_values.key_value(k, &mut key) {

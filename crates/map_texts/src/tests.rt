@@ -57,7 +57,7 @@ const ROWS: &[MapDef] = &[
 const TEXTS: &[(&'static str, &str, usize, usize, &str)] = &[
     ("", "", 0, 0, ""),
     (
-        "\n\n# a comment, of any length: ............................................................\n",
+        "\n\n# a comment, of any length: ......................................................\n",
         "",
         0,
         0,
@@ -151,7 +151,7 @@ fn texts(rt: HostRuntime) -> Result<(), Fail> {
     for (i, row) in TEXTS.iter().enumerate() {
         let so = is_so(rt.alloc(), row, 1)
             && is_so(rt.alloc(), row, 7)
-            && is_so(rt.alloc(), row, 4096);
+            && is_so(rt.alloc(), row, 5000);
         assert!(rt; so, "row {i}");
     }
     Ok(())

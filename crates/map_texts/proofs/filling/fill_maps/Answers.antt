@@ -6,7 +6,7 @@ use borrow.Rule.Slice.PartMut.{put_mid}
 use Rattle.isa_model.specs.declared.map_defs.MapDef.{MapDef}
 use Rattle.maps.specs.Maps.{rows_of, contents_of}
 use Rattle.map_texts.specs.Fillings.{after_line}
-use Rattle.map_texts.specs.Progress.{GoesOn, Stops, ArePending}
+use Rattle.map_texts.specs.Progress.{GoesOnReading, StopsFilling, ArePending}
 use Rattle.map_texts.proofs.Finishing.{filled_more, more_read, at_end, at_error, at_refusal}
 use Rattle.map_texts.proofs.filling.fill_maps.Goals as goal
 
@@ -61,9 +61,9 @@ returns-in-Err-take_bytes g c =
     (Consumes-trans _ _ _ _ _ inv.consumed c.in-Ok.ensures.bytes.0)
     old c.loop-reads.maps c.take_bytes.new.maps number bytes c.in-Err-take_bytes.error
     (c.in-Err-take_bytes.ensures.rows ∙ inv.rows)
-    (subst (GoesOn rows 1 (contents_of old) (inv.read ++ chunk) number held) (sym all)
+    (subst (GoesOnReading rows 1 (contents_of old) (inv.read ++ chunk) number held) (sym all)
     (more_read rows 1 number (contents_of old) held inv.read (take len buffer) chunk inv.goes_on))
-    (subst (λ (r : List MapDef). Stops r number held bytes (contents_of c.take_bytes.new.maps)
+    (subst (λ (r : List MapDef). StopsFilling r number held bytes (contents_of c.take_bytes.new.maps)
     c.in-Err-take_bytes.error) inv.rows c.in-Err-take_bytes.ensures.taken)
 
 pub returns-in-Err : goal.returns-in-Err
@@ -104,7 +104,7 @@ loop-reads-preserved g c =
     c.take_bytes.new.buffer c.in-Ok-take_bytes.next) inv.rows c.in-Ok-take_bytes.ensures.taken in
     let step = state.goes_on in
     let before =
-    subst (GoesOn rows 1 (contents_of old) (inv.read ++ chunk) number held) (sym all)
+    subst (GoesOnReading rows 1 (contents_of old) (inv.read ++ chunk) number held) (sym all)
     (more_read rows 1 number (contents_of old) held inv.read (take len buffer) chunk
     inv.goes_on) in
     let size = length-take (len + count) (put_mid len (16384 - len) buffer c.read.new.buf) in

@@ -2,7 +2,7 @@ use Rattle.std.proofs.Common.{◌≡◌, ◌+◌, ◌*◌, ◌≤◌, List, ℕ,
 use Rattle.std.specs.Io.KnownBytes.{Consumes}
 use Rattle.maps.specs.Maps.{rows_of, contents_of}
 use Rattle.map_texts.specs.Lines.{most_line_size}
-use Rattle.map_texts.specs.Progress.{GoesOn, IsPending}
+use Rattle.map_texts.specs.Progress.{GoesOnReading, IsPending}
 use Rattle.map_texts.proofs.filling.fill_maps.Given as goal
 
 abbrev pub invariant-loop-reads : goal.invariant-loop-reads
@@ -13,6 +13,6 @@ invariant-loop-reads g l = record {
   is_pending : IsPending (rows_of l.fn.maps) (take l.pending.len l.buffer);
   read : List ℕ;
   consumed : Consumes (g.R.Read.remaining l.fn.source) (g.R.Read.remaining l.source) read;
-  goes_on : GoesOn (rows_of l.fn.maps) 1 (contents_of l.fn.maps) read
+  goes_on : GoesOnReading (rows_of l.fn.maps) 1 (contents_of l.fn.maps) read
       l.pending.number (contents_of l.maps) (take l.pending.len l.buffer);
 }

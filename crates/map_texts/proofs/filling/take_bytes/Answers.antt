@@ -2,7 +2,7 @@ use Rattle.std.proofs.Common.{arith, ◌≡◌, ◌-◌, ◌≤◌, ℕ, List, S
 use Rattle.std.proofs.lemmas.List.{length-take-le}
 use Rattle.maps.specs.Maps.{rows_of, contents_of}
 use Rattle.map_texts.specs.declared.errors.MapTextError.{MapTextError}
-use Rattle.map_texts.specs.Fillings.{Filled}
+use Rattle.map_texts.specs.Fillings.{FilledMaps}
 use Rattle.map_texts.specs.Progress.{left_of, HasNoFeed, IsPending}
 use Rattle.map_texts.proofs.Taking.{some_kept, none_kept, tail_of, take_short}
 use Rattle.map_texts.proofs.filling.take_bytes.Goals as goal
@@ -67,5 +67,5 @@ returns-in-None-clause-taken c =
     ∙ ap (λ (l : List ℕ). left_of rows number held l ending more) same
     ∙ none_kept rows number held tail none c.args.longest c.requires.longest c.requires.most
     c.in-None.ensures ending more
-    ∙ ap (λ (e : MapTextError). let f : Filled = record { contents = held; error = Some e } in f)
+    ∙ ap (λ (e : MapTextError). let f : FilledMaps = record { contents = held; error = Some e } in f)
     (sym c.at.ensures)

@@ -2,7 +2,7 @@ use Rattle.std.proofs.Common.{◌<◌, length, Some, ap, ◌∙◌, arith}
 use Rattle.isa_model.specs.declared.map_defs.MapDef.{MapDef}
 use Rattle.maps.specs.Maps.{contents_of}
 use Rattle.map_texts.specs.declared.errors.MapTextError.{MapTextError}
-use Rattle.map_texts.specs.Fillings.{Filled}
+use Rattle.map_texts.specs.Fillings.{FilledMaps}
 use Rattle.map_texts.proofs.PutLaws.{put_done, put_refused, rows_stay}
 use Rattle.map_texts.proofs.lines.put_value.Goals as goal
 
@@ -11,7 +11,7 @@ returns-then-update-ne0-clause-filled c =
     let ms = c.args.maps.now in
     let new = c.update.new.self in
     let inside : c.args.index < length ms = omega arith in
-    ap (λ (e : MapTextError). let f : Filled = record { contents = contents_of new; error = Some e } in f)
+    ap (λ (e : MapTextError). let f : FilledMaps = record { contents = contents_of new; error = Some e } in f)
     c.at-then-update-ne0.ensures
     ∙ put_refused ms c.args.place.number c.args.place.key_column c.args.place.value_column
     c.args.index c.args.key.now c.args.value.now inside

@@ -4,7 +4,7 @@ use Rattle.maps.specs.Maps.{rows_of, contents_of}
 use Rattle.map_texts.specs.declared.errors.MapTextError.{MapTextError}
 use Rattle.map_texts.specs.declared.errors.MapTextErrorKind.TheVariants.{LongLine}
 use Rattle.map_texts.specs.Lines.{longest_line}
-use Rattle.map_texts.specs.Fillings.{Filled, refused}
+use Rattle.map_texts.specs.Fillings.{FilledMaps, refused}
 use Rattle.map_texts.proofs.LineLaws.{passed_line, plain_line, long_line}
 use Rattle.map_texts.proofs.lines.take_line.Goals as goal
 
@@ -19,7 +19,7 @@ returns-then-line-longest-clause-filled c =
     let held = contents_of c.args.maps.now in
     let long : longest_line rows < length c.args.line.now =
     subst (λ (n : ℕ). n < length c.args.line.now) c.requires.longest (omega arith) in
-    ap (λ (e : MapTextError). let f : Filled = record { contents = held; error = Some e } in f)
+    ap (λ (e : MapTextError). let f : FilledMaps = record { contents = held; error = Some e } in f)
     c.at.ensures
     ∙ ap (λ (n : ℕ). refused held LongLine c.args.number (n + 1)) c.requires.longest
     ∙ sym (long_line rows c.args.number held c.args.line.now

@@ -1,6 +1,6 @@
 use Rattle.std.proofs.Common.{rules, ◌<◌, length, refl, arith}
 use Rattle.std.proofs.KnownBytes.{Appends-nil}
-use Rattle.map_texts.proofs.Listing.{AreListed-map_at, map_written, map_failed, maps_whole}
+use Rattle.map_texts.proofs.Listing.{FitListing-map_at, map_written, map_failed, maps_whole}
 use Rattle.map_texts.proofs.ReadBackTexts.{maps_read_back}
 use Rattle.map_texts.proofs.listings.write_maps.Goals as goal
 
@@ -12,7 +12,7 @@ write_key_values-requires g c =
     let ms = c.args.maps.now in
     let inside : c.loop-i.i < length ms = omega arith in
     rw (c.row-row.ensures, c.order.ensures.pairs, c.loop-i.invariant.1)
-    (AreListed-map_at ms c.loop-i.i inside c.count-i-end.ensures.maps)
+    (FitListing-map_at ms c.loop-i.i inside c.count-i-end.ensures.maps)
 
 pub loop-i-preserved : goal.loop-i-preserved
 loop-i-preserved g c =
