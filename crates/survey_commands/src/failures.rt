@@ -39,8 +39,25 @@ pub fn file_line(
     path: &str,
     kind: ErrorKind,
 ) -> Result<String, AllocError> {
+    let hint = if path == "-" {
+        "standard input is /dev/stdin\n"
+    } else {
+        ""
+    };
     let path = shown(alloc, path)?;
-    format!(in alloc; "cannot {what} {path}: {kind}\n")
+    format!(in alloc; "cannot {what} {path}: {kind}\n{hint}")
+}
+
+/// The line for a folder without images.
+pub fn empty_line(alloc: Global, path: &str) -> Result<String, AllocError> {
+    let path = shown(alloc, path)?;
+    format!(in alloc; "{path} has no image: no name in it ends in .image\n")
+}
+
+/// The line for a slot that the code does not have.
+pub fn no_slot_line(alloc: Global, slot: usize, slots: usize) -> Result<String, AllocError> {
+    let last = slots.saturating_sub(1);
+    format!(in alloc; "there is no slot {slot}: the code has slots 0 to {last}\n")
 }
 
 /// The line for a folder with names that are not UTF-8.

@@ -21,6 +21,8 @@ pub enum FolderFailure {
 #[derive(Drop)]
 pub struct NamedPath {
     pub path: String,
+    /// Whether it is an image that was found in a folder.
+    pub is_in_folder: bool,
     /// Why the folder cannot be read, or only in part, if it is one.
     pub failure: Option<FolderFailure>,
 }
@@ -28,12 +30,13 @@ pub struct NamedPath {
 /// Adds images.
 pub fn add_images(
     alloc: Global,
-    paths: &[String],
+    found: &FoundImages,
     all: &mut Vec<NamedPath>,
 ) -> Result<(), AllocError> {
-    for path in paths {
+    for path in &found.paths {
         all.push(NamedPath {
             path: String::from_str(alloc, path.as_str())?,
+            is_in_folder: found.is_folder,
             failure: None,
         })?;
     }
@@ -49,6 +52,7 @@ pub fn add_folder(
 ) -> Result<(), AllocError> {
     all.push(NamedPath {
         path: String::from_str(alloc, path)?,
+        is_in_folder: false,
         failure: Some(failure),
     })?;
     Ok(())
@@ -58,6 +62,8 @@ pub fn add_folder(
 #[derive(Drop)]
 pub struct FoundImages {
     pub paths: Vec<String>,
+    /// Whether the path is that of a folder.
+    pub is_folder: bool,
     /// Whether the folder has names that are not UTF-8. They name no file that can be opened here.
     pub has_unnamed: bool,
 }
@@ -78,7 +84,11 @@ fn images_in<R: Files + AllocGlobal + Clone + Drop>(
         }
     }
     paths.sort()?;
-    Ok(FoundImages { paths, has_unnamed })
+    Ok(FoundImages {
+        paths,
+        is_folder: true,
+        has_unnamed,
+    })
 }
 
 /// Adds the path of a file in a folder, if its name ends as an image's does.
@@ -95,6 +105,7 @@ fn one(alloc: Global, path: &str) -> Result<FoundImages, AllocError> {
     paths.push(String::from_str(alloc, path)?)?;
     Ok(FoundImages {
         paths,
+        is_folder: false,
         has_unnamed: false,
     })
 }

@@ -2,7 +2,7 @@
 
 ghost use Rattle.std.specs.Prelude.{◌≤◌, IfOk};
 
-use crate::failures::SurveyError;
+use crate::failures::{SurveyError, no_slot_line};
 use crate::files::read_image;
 use control_flow::FlowError;
 use exact_io::write_bytes;
@@ -92,12 +92,31 @@ fn look_into<W: Write>(
     }
 }
 
-/// Shows the image in a file, and returns the status.
-pub fn look_at<R: Files + AllocGlobal, W: Write>(
+/// Says on standard error that the code has not got the slot whose log is wanted.
+fn say_slot<W: Write>(
+    alloc: Global,
+    image: &Image,
+    look: Look,
+    err: &mut W,
+) -> Result<(), AllocError> {
+    if let Look::Log(Some(slot)) = look {
+        let slots = image.slots();
+        if slot >= slots {
+            let line = no_slot_line(alloc, slot, slots)?;
+            let _ = write_bytes(err, line.as_bytes());
+        }
+    }
+    Ok(())
+}
+
+/// Shows the image in a file, and returns the status. Standard error is told of a slot that the
+/// code has not got.
+pub fn look_at<R: Files + AllocGlobal, W1: Write, W2: Write>(
     rt: &R,
     path: &str,
     look: Look,
-    out: &mut W,
+    out: &mut W1,
+    err: &mut W2,
 ) -> Result<u8, SurveyError>
     ensures { IfOk result (λ status. status ≤ 2) }
 {
@@ -107,7 +126,10 @@ pub fn look_at<R: Files + AllocGlobal, W: Write>(
         Err(error) => return Err(SurveyError::of_file(alloc, "read", path, &error)),
     };
     match Image::parse(alloc, bytes.as_slice()) {
-        Ok(image) => look_into(alloc, &image, look, out),
+        Ok(image) => {
+            say_slot(alloc, &image, look, err)?;
+            look_into(alloc, &image, look, out)
+        }
         Err(ImageError::Memory) => Err(SurveyError::Memory),
         Err(error) => {
             let text = malformed_text(alloc, error)?;

@@ -2,7 +2,7 @@
 
 ghost use Rattle.std.specs.Prelude.{◌≤◌, IfOk};
 
-use crate::failures::{SurveyError, file_line, unnamed_line};
+use crate::failures::{SurveyError, empty_line, file_line, unnamed_line};
 use crate::files::read_image;
 use crate::folders::{FolderFailure, NamedPath, add_folder, add_images, images};
 use crate::progress::SurveyProgress;
@@ -36,6 +36,7 @@ fn row_uncounted(alloc: Global, path: &str, verdict: Judgement) -> Result<Row, A
     let file = String::from_str(alloc, path)?;
     Ok(Row {
         file,
+        is_in_folder: false,
         verdict,
         counts: Counts::default(),
     })
@@ -92,6 +93,7 @@ fn row_judged<R: Files>(
     let file = String::from_str(alloc, path)?;
     Ok(Row {
         file,
+        is_in_folder: false,
         verdict: verdict_of(judged, tables.is_some()),
         counts: judged.counts,
     })
@@ -120,10 +122,12 @@ fn row_named<R: Files + Clock + AllocGlobal, W: Write>(
     tables: Option<&str>,
     err: &mut W,
 ) -> Result<Row, SurveyError> {
-    match one.failure {
-        Some(failure) => Ok(row_of_folder(rt.alloc(), one.path.as_str(), failure, err)?),
-        None => row_of(rt, one.path.as_str(), tables, err),
-    }
+    let mut row = match one.failure {
+        Some(failure) => row_of_folder(rt.alloc(), one.path.as_str(), failure, err)?,
+        None => row_of(rt, one.path.as_str(), tables, err)?,
+    };
+    row.is_in_folder = one.is_in_folder;
+    Ok(row)
 }
 
 fn keep(rows: &mut Vec<Row>, row: Row) -> Result<(), AllocError> {
@@ -131,11 +135,13 @@ fn keep(rows: &mut Vec<Row>, row: Row) -> Result<(), AllocError> {
     Ok(())
 }
 
-/// Adds all images that a path names, and the folder if it cannot be read, or only in part.
-fn add_named<R: Files + AllocGlobal + Clone + Drop>(
+/// Adds all images that a path names, and the folder if it cannot be read, or only in part. Says on
+/// standard error that a folder has no image.
+fn add_named<R: Files + AllocGlobal + Clone + Drop, W: Write>(
     rt: &R,
     path: &str,
     all: &mut Vec<NamedPath>,
+    err: &mut W,
 ) -> Result<(), AllocError> {
     let alloc = rt.alloc();
     let found = match images(rt, path) {
@@ -144,7 +150,11 @@ fn add_named<R: Files + AllocGlobal + Clone + Drop>(
             return add_folder(alloc, path, FolderFailure::Unread(error.kind()), all);
         }
     };
-    add_images(alloc, found.paths.as_slice(), all)?;
+    add_images(alloc, &found, all)?;
+    if found.paths.is_empty() && !found.has_unnamed {
+        let line = empty_line(alloc, path)?;
+        let _ = write_bytes(err, line.as_bytes());
+    }
     if found.has_unnamed {
         add_folder(alloc, path, FolderFailure::Unnamed, all)?;
     }
@@ -152,13 +162,14 @@ fn add_named<R: Files + AllocGlobal + Clone + Drop>(
 }
 
 /// All images that the paths name, and the folders that cannot be read, or only in part.
-fn all_named<R: Files + AllocGlobal + Clone + Drop>(
+fn all_named<R: Files + AllocGlobal + Clone + Drop, W: Write>(
     rt: &R,
     survey: &Survey<'_>,
+    err: &mut W,
 ) -> Result<Vec<NamedPath>, AllocError> {
     let mut all = Vec::new(rt.alloc());
     for path in survey.paths.as_slice() {
-        add_named(rt, *path, &mut all)?;
+        add_named(rt, *path, &mut all, err)?;
     }
     Ok(all)
 }
@@ -257,7 +268,7 @@ pub fn survey<R: Files + Clock + AllocGlobal + Clone + Drop, W1: Write, W2: Writ
 ) -> Result<u8, SurveyError>
     ensures { IfOk result (λ status. status ≤ 5) }
 {
-    let named = all_named(rt, survey)?;
+    let named = all_named(rt, survey, err)?;
     let summary = survey_named(rt, survey, named.as_slice(), has_progress, out, err)?;
     say_summary(rt.alloc(), &summary, err)?;
     Ok(summary.status())

@@ -8,10 +8,14 @@ use std::io::Write;
 use std::rt::Files;
 use std::{fs, io};
 use survey_rows::{
-    COLUMNS, Column, EarlierError, Grid, Row, RowLayout, changes_since, csv_text, grid_of,
-    grid_text, json_text, shown_width, sort,
+    COLUMNS, Changes, Column, ColumnHead, EarlierError, Grid, Row, RowCell, RowLayout,
+    change_heads, changes_since, csv_text, grid_of, grid_text, json_text, shown, shown_width, sort,
+    widen_heads,
 };
 use survey_words::{Format, Survey};
+
+/// Of how many images differences are written at a time.
+const PART: usize = 1024;
 
 /// What is asked for, and how rows are laid out for it.
 #[derive(Drop)]
@@ -126,28 +130,95 @@ pub fn write_row<W: Write>(
     write_grid(alloc, sheet, false, &grid, out)
 }
 
+/// Why there is no comparison with the earlier survey in a file.
+fn failure_of(alloc: Global, path: &str, error: EarlierError) -> Result<SurveyError, AllocError> {
+    Ok(match error {
+        EarlierError::Unread(kind) => {
+            SurveyError::of_file(alloc, "read", path, &io::Error::from(kind))
+        }
+        EarlierError::Memory => SurveyError::Memory,
+        EarlierError::NoSurvey => {
+            let path = shown(alloc, path)?;
+            let line = format!(in alloc; "cannot compare with {path}: it is no survey as csv\n")?;
+            SurveyError::File(line)
+        }
+    })
+}
+
 /// The differences from the earlier survey in a file.
-fn compared<R: Files>(
+fn compared<'a, R: Files>(
     rt: &R,
     alloc: Global,
     path: &str,
-    rows: &[Row],
-) -> Result<Grid, SurveyError> {
+    rows: &'a [Row],
+) -> Result<Changes<'a>, SurveyError> {
     let source = match fs::open(rt, path) {
         Ok(source) => source,
         Err(error) => return Err(SurveyError::of_file(alloc, "read", path, &error)),
     };
     match changes_since(alloc, source, rows) {
-        Ok(grid) => Ok(grid),
-        Err(EarlierError::Unread(kind)) => {
-            Err(SurveyError::of_file(alloc, "read", path, &io::Error::from(kind)))
-        }
-        Err(EarlierError::Memory) => Err(SurveyError::Memory),
-        Err(EarlierError::NoSurvey) => {
-            let line = format!(in alloc; "cannot compare with {path}: it is no survey as csv\n")?;
-            Err(SurveyError::File(line))
+        Ok(changes) => Ok(changes),
+        Err(error) => Err(failure_of(alloc, path, error)?),
+    }
+}
+
+/// In how many parts differences are written, of which the last one may be empty.
+fn parts_of(changes: &Changes<'_>) -> usize {
+    changes.len() / PART + 1
+}
+
+/// The rows of a part.
+fn part_rows(
+    alloc: Global,
+    changes: &Changes<'_>,
+    part: usize,
+) -> Result<Vec<Vec<RowCell>>, AllocError> {
+    let from = part.saturating_mul(PART);
+    let to = from.saturating_add(PART).min(changes.len());
+    changes.rows(alloc, from, to)
+}
+
+/// The heads of differences, as wide as text for people needs them if that is asked for.
+fn heads_of(
+    alloc: Global,
+    sheet: &Sheet<'_>,
+    changes: &Changes<'_>,
+) -> Result<Vec<ColumnHead>, AllocError> {
+    let mut heads = change_heads(alloc)?;
+    if sheet.survey.format != Format::Table {
+        return Ok(heads);
+    }
+    if !sheet.survey.has_header {
+        for head in heads.iter_mut() {
+            head.name = "";
         }
     }
+    for part in 0..parts_of(changes) {
+        let rows = part_rows(alloc, changes, part)?;
+        widen_heads(alloc, heads.as_mut_slice(), rows.as_slice())?;
+    }
+    Ok(heads)
+}
+
+/// Writes the differences, a part of them at a time.
+fn write_changes<W: Write>(
+    alloc: Global,
+    sheet: &Sheet<'_>,
+    changes: &Changes<'_>,
+    out: &mut W,
+) -> Result<(), SurveyError> {
+    let mut grid = Grid {
+        heads: heads_of(alloc, sheet, changes)?,
+        rows: Vec::new(alloc),
+    };
+    if sheet.survey.has_header {
+        write_grid(alloc, sheet, true, &grid, out)?;
+    }
+    for part in 0..parts_of(changes) {
+        grid.rows = part_rows(alloc, changes, part)?;
+        write_grid(alloc, sheet, false, &grid, out)?;
+    }
+    Ok(())
 }
 
 /// Writes the rows that waited, in their order, or the differences from an earlier survey.
@@ -164,9 +235,14 @@ pub fn write_waiting<R: Files + AllocGlobal, W: Write>(
     if let Some(column) = sheet.survey.sort {
         sort(rows, column)?;
     }
-    let grid = match sheet.survey.earlier {
-        Some(path) => compared(rt, alloc, path, rows.as_slice())?,
-        None => grid_of(alloc, rows.as_slice(), &sheet.layout)?,
-    };
-    write_grid(alloc, sheet, sheet.survey.has_header, &grid, out)
+    match sheet.survey.earlier {
+        Some(path) => {
+            let changes = compared(rt, alloc, path, rows.as_slice())?;
+            write_changes(alloc, sheet, &changes, out)
+        }
+        None => {
+            let grid = grid_of(alloc, rows.as_slice(), &sheet.layout)?;
+            write_grid(alloc, sheet, sheet.survey.has_header, &grid, out)
+        }
+    }
 }

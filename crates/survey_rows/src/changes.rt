@@ -1,11 +1,11 @@
 //! The differences from an earlier survey.
 
-use crate::cells::{ColumnHead, Grid, RowCell, cell_text};
+use crate::cells::{ColumnHead, RowCell, cell_text};
 use crate::columns::{COLUMNS, Column};
 use crate::earlier::{Earlier, EarlierError};
+use crate::matching::{Match, Matching};
 use crate::rows::Row;
 use csv::ByteRecord;
-use indexmap::IndexSet;
 use std::alloc::{AllocError, Global};
 use std::io::Read;
 
@@ -37,23 +37,19 @@ const HEADS: [ColumnHead; 5] = [
     },
 ];
 
-/// The number that a field spells, if it spells one.
-fn number_of(field: &[u8]) -> Option<u64> {
-    match std::str::from_utf8(field) {
-        Ok(text) => text.parse::<u64>().ok(),
-        Err(_) => None,
-    }
+/// A field as a text, which is empty where the field is not UTF-8.
+fn text_of(alloc: Global, field: &[u8]) -> Result<String, AllocError> {
+    String::from_str(alloc, std::str::from_utf8(field).unwrap_or(""))
 }
 
 /// A field as a cell.
-fn cell_of(alloc: Global, field: &[u8]) -> Result<RowCell, AllocError> {
-    if let Some(number) = number_of(field) {
+fn cell_of(alloc: Global, field: &str) -> Result<RowCell, AllocError> {
+    if let Ok(number) = field.parse::<u64>() {
         return Ok(RowCell::Number(number));
     }
-    match std::str::from_utf8(field) {
-        Ok("") => Ok(RowCell::Nothing),
-        Ok(text) => Ok(RowCell::Text(String::from_str(alloc, text)?)),
-        Err(_) => Ok(RowCell::Nothing),
+    match field {
+        "" => Ok(RowCell::Nothing),
+        text => Ok(RowCell::Text(String::from_str(alloc, text)?)),
     }
 }
 
@@ -76,7 +72,7 @@ fn text_cell(alloc: Global, text: &str) -> Result<RowCell, AllocError> {
 }
 
 /// A row that says what changed.
-fn change(
+fn change_row(
     alloc: Global,
     file: &str,
     column: Column,
@@ -89,175 +85,238 @@ fn change(
     Ok(vec![in alloc; file, column, old, new, by]?)
 }
 
-/// Adds what changed in a column.
-fn add_column(
-    alloc: Global,
-    row: &Row,
+/// A cell that changed.
+#[derive(Drop)]
+struct Change {
     column: Column,
-    old: &[u8],
-    rows: &mut Vec<Vec<RowCell>>,
-) -> Result<(), AllocError> {
-    let new = row.cell(alloc, column)?;
-    let text = cell_text(alloc, &new)?;
-    if text.as_bytes() != old {
-        let old = cell_of(alloc, old)?;
-        rows.push(change(alloc, row.file.as_str(), column, old, new)?)?;
-    }
-    Ok(())
+    /// What the earlier survey has there.
+    old: String,
 }
 
-/// Adds what changed for an image, in all columns but its file and the times.
-fn add_changes<S: Read + Drop>(
+/// What is known of a row of the earlier survey.
+#[derive(Drop)]
+struct OldRow {
+    file: String,
+    verdict: String,
+}
+
+/// A row of the earlier survey for an image that was surveyed.
+#[derive(Drop)]
+struct Found {
+    /// Whether it has the same path, and not only the same name in another folder.
+    is_same_path: bool,
+    row: OldRow,
+    changes: Vec<Change>,
+}
+
+/// The differences from an earlier survey.
+#[derive(Drop)]
+pub struct Changes<'a> {
+    surveyed: &'a [Row],
+    matching: Matching<'a>,
+    /// What the earlier survey has of each image that was surveyed, at the first row of its path.
+    found: Vec<Option<Found>>,
+    /// The images that are gone.
+    gone: Vec<OldRow>,
+}
+
+/// The text of a row in a column.
+fn row_text(alloc: Global, row: &Row, column: Column) -> Result<String, AllocError> {
+    cell_text(alloc, &row.cell(alloc, column)?)
+}
+
+/// What changed for an image, in all columns but its file and the times.
+fn changes_of<S: Read + Drop>(
     alloc: Global,
     earlier: &Earlier<S>,
     old_row: &ByteRecord,
     row: &Row,
-    rows: &mut Vec<Vec<RowCell>>,
-) -> Result<(), AllocError> {
+) -> Result<Vec<Change>, AllocError> {
+    let mut changes = Vec::new(alloc);
     for column in COLUMNS {
         if column == Column::File || column.is_time() {
             continue;
         }
         if let Some(old) = earlier.field(old_row, column) {
-            add_column(alloc, row, column, old, rows)?;
+            if row_text(alloc, row, column)?.as_bytes() != old {
+                let old = text_of(alloc, old)?;
+                changes.push(Change { column, old })?;
+            }
         }
     }
-    Ok(())
+    Ok(changes)
 }
 
-/// Adds that an image is new.
-fn add_new(alloc: Global, row: &Row, rows: &mut Vec<Vec<RowCell>>) -> Result<(), AllocError> {
-    let verdict = row.cell(alloc, Column::Verdict)?;
-    let file = row.file.as_str();
-    rows.push(change(alloc, file, Column::Verdict, RowCell::Nothing, verdict)?)?;
-    Ok(())
-}
-
-/// Adds that an image is gone.
-fn add_gone<S: Read + Drop>(
+/// The file and the verdict of a row of the earlier survey.
+fn old_row_of<S: Read + Drop>(
     alloc: Global,
     earlier: &Earlier<S>,
-    old_row: &ByteRecord,
-    rows: &mut Vec<Vec<RowCell>>,
-) -> Result<(), AllocError> {
-    let verdict = match earlier.field(old_row, Column::Verdict) {
-        Some(field) => cell_of(alloc, field)?,
-        None => RowCell::Nothing,
-    };
-    let file = std::str::from_utf8(earlier.file(old_row)).unwrap_or("");
-    rows.push(change(alloc, file, Column::Verdict, verdict, RowCell::Nothing)?)?;
-    Ok(())
-}
-
-/// The files of the rows of a survey.
-fn files_of(alloc: Global, surveyed: &[Row]) -> Result<IndexSet<&[u8]>, AllocError> {
-    let mut files = IndexSet::new(alloc);
-    for row in surveyed {
-        files.insert(row.file.as_bytes())?;
-    }
-    Ok(files)
-}
-
-/// The rows of an earlier survey, as far as they matter for the images that were surveyed.
-#[derive(Drop)]
-struct Matched {
-    /// The first row of each file, by the file's index.
-    old: Vec<Option<ByteRecord>>,
-    /// A row for each image that is gone.
-    gone: Vec<Vec<RowCell>>,
+    row: &ByteRecord,
+) -> Result<OldRow, AllocError> {
+    let file = text_of(alloc, earlier.file(row))?;
+    let verdict = text_of(alloc, earlier.field(row, Column::Verdict).unwrap_or(b""))?;
+    Ok(OldRow { file, verdict })
 }
 
 /// No row yet of each of this many files.
-fn none_yet(alloc: Global, count: usize) -> Result<Vec<Option<ByteRecord>>, AllocError> {
-    let mut old = Vec::with_capacity(alloc, count)?;
+fn none_yet(alloc: Global, count: usize) -> Result<Vec<Option<Found>>, AllocError> {
+    let mut found = Vec::with_capacity(alloc, count)?;
     for _ in 0..count {
-        old.push(None)?;
+        found.push(None)?;
     }
-    Ok(old)
+    Ok(found)
 }
 
-/// Keeps the first row of a file.
-fn keep_first(old: &mut [Option<ByteRecord>], index: usize, row: ByteRecord) {
-    if let Some(kept) = old.get_mut(index) {
-        if kept.is_none() {
-            *kept = Some(row);
+impl<'a> Changes<'a> {
+    /// Keeps a row of the earlier survey for an image: the first one with its path, or, if there is
+    /// none, the first one with its name. One that is not kept, and has another path, is gone.
+    fn keep(&mut self, index: usize, new: Found) -> Result<(), AllocError> {
+        let Some(place) = self.found.get_mut(index) else {
+            return Ok(());
+        };
+        match place.take() {
+            None => *place = Some(new),
+            Some(kept) if new.is_same_path && !kept.is_same_path => {
+                *place = Some(new);
+                self.gone.push(kept.row)?;
+            }
+            Some(kept) => {
+                *place = Some(kept);
+                if !new.is_same_path {
+                    self.gone.push(new.row)?;
+                }
+            }
         }
+        Ok(())
+    }
+
+    /// Takes a row of the earlier survey.
+    fn take_row<S: Read + Drop>(
+        &mut self,
+        alloc: Global,
+        earlier: &Earlier<S>,
+        matched: Option<Match>,
+        old_row: &ByteRecord,
+    ) -> Result<(), AllocError> {
+        let row = old_row_of(alloc, earlier, old_row)?;
+        let surveyed = self.surveyed;
+        let Some(
+            Match {
+                index,
+                is_same_path,
+            },
+        ) = matched
+        else {
+            self.gone.push(row)?;
+            return Ok(());
+        };
+        if let Some(new) = surveyed.get(index) {
+            let changes = changes_of(alloc, earlier, old_row, new)?;
+            self.keep(
+                index,
+                Found {
+                    is_same_path,
+                    row,
+                    changes,
+                },
+            )?;
+        }
+        Ok(())
+    }
+
+    /// How many images there are, surveyed or gone.
+    pub fn len(&self) -> usize {
+        self.surveyed.len().saturating_add(self.gone.len())
+    }
+
+    /// Adds the rows of a surveyed image: one for each cell that changed, or one if it is new.
+    fn add_surveyed(
+        &self,
+        alloc: Global,
+        index: usize,
+        row: &Row,
+        rows: &mut Vec<Vec<RowCell>>,
+    ) -> Result<(), AllocError> {
+        let file = row.file.as_str();
+        let first = self.matching.first_of(file).unwrap_or(index);
+        let Some(Some(found)) = self.found.get(first) else {
+            let verdict = row.cell(alloc, Column::Verdict)?;
+            rows.push(change_row(alloc, file, Column::Verdict, RowCell::Nothing, verdict)?)?;
+            return Ok(());
+        };
+        for change in &found.changes {
+            let old = cell_of(alloc, change.old.as_str())?;
+            let new = row.cell(alloc, change.column)?;
+            rows.push(change_row(alloc, file, change.column, old, new)?)?;
+        }
+        Ok(())
+    }
+
+    /// Adds the row of an image that is gone.
+    fn add_gone(
+        &self,
+        alloc: Global,
+        index: usize,
+        rows: &mut Vec<Vec<RowCell>>,
+    ) -> Result<(), AllocError> {
+        if let Some(row) = self.gone.get(index) {
+            let verdict = cell_of(alloc, row.verdict.as_str())?;
+            let file = row.file.as_str();
+            rows.push(change_row(alloc, file, Column::Verdict, verdict, RowCell::Nothing)?)?;
+        }
+        Ok(())
+    }
+
+    /// The rows of some images: a row for each cell that changed, for each image that is new, and
+    /// for each one that is gone.
+    pub fn rows(
+        &self,
+        alloc: Global,
+        from: usize,
+        to: usize,
+    ) -> Result<Vec<Vec<RowCell>>, AllocError> {
+        let mut rows = Vec::new(alloc);
+        for index in from..to {
+            match self.surveyed.get(index) {
+                Some(row) => self.add_surveyed(alloc, index, row, &mut rows)?,
+                None => {
+                    let gone = index.saturating_sub(self.surveyed.len());
+                    self.add_gone(alloc, gone, &mut rows)?;
+                }
+            }
+        }
+        Ok(rows)
     }
 }
 
-/// Reads the rows of an earlier survey, and keeps those of these files.
-fn match_rows<S: Read + Drop>(
+/// The heads of the rows that say what changed.
+pub fn change_heads(alloc: Global) -> Result<Vec<ColumnHead>, AllocError> {
+    Vec::from_slice(alloc, &HEADS)
+}
+
+/// The differences from an earlier survey, which is read from its CSV. Times are not compared.
+///
+/// A row of it is that of the surveyed image with the same path, and else of the one image of a
+/// folder that has the same name, whatever the folder is called. Of each row the path, the verdict
+/// and what changed are kept, and no row that is longer than 1 MiB is read to its end.
+pub fn changes_since<'a, S: Read + Drop>(
     alloc: Global,
-    earlier: &mut Earlier<S>,
-    files: &IndexSet<&[u8]>,
-) -> Result<Matched, EarlierError> {
-    let mut old = none_yet(alloc, files.len())?;
-    let mut gone = Vec::new(alloc);
+    source: S,
+    surveyed: &'a [Row],
+) -> Result<Changes<'a>, EarlierError> {
+    let mut earlier = Earlier::begin(alloc, source)?;
+    let mut changes = Changes {
+        surveyed,
+        matching: Matching::of(alloc, surveyed)?,
+        found: none_yet(alloc, surveyed.len())?,
+        gone: Vec::new(alloc),
+    };
     for _ in 0..u64::MAX {
         let Some(row) = earlier.next(alloc)? else {
             break;
         };
-        match files.get_index_of(earlier.file(&row)) {
-            Some(index) => keep_first(old.as_mut_slice(), index, row),
-            None => add_gone(alloc, earlier, &row, &mut gone)?,
-        }
+        let matched = changes.matching.find(earlier.file(&row));
+        changes.take_row(alloc, &earlier, matched, &row)?;
     }
-    Ok(Matched { old, gone })
-}
-
-/// The row of a file, if the earlier survey has one.
-fn old_row<'a>(
-    old: &'a [Option<ByteRecord>],
-    files: &IndexSet<&[u8]>,
-    file: &[u8],
-) -> Option<&'a ByteRecord> {
-    match old.get(files.get_index_of(file)?) {
-        Some(Some(row)) => Some(row),
-        _ => None,
-    }
-}
-
-/// Adds what changed for each image, and each image that is new.
-fn add_surveyed<S: Read + Drop>(
-    alloc: Global,
-    earlier: &Earlier<S>,
-    old: &[Option<ByteRecord>],
-    files: &IndexSet<&[u8]>,
-    surveyed: &[Row],
-    rows: &mut Vec<Vec<RowCell>>,
-) -> Result<(), AllocError> {
-    for row in surveyed {
-        match old_row(old, files, row.file.as_bytes()) {
-            Some(found) => add_changes(alloc, earlier, found, row, rows)?,
-            None => add_new(alloc, row, rows)?,
-        }
-    }
-    Ok(())
-}
-
-/// The differences from an earlier survey, which is read from its CSV: a row for each cell that
-/// changed, for each image that is new, and for each one that is gone. Times are not compared.
-///
-/// Of the earlier survey the rows of images that were surveyed are kept, and no row that is longer
-/// than 1 MiB is read to its end.
-pub fn changes_since<S: Read + Drop>(
-    alloc: Global,
-    source: S,
-    surveyed: &[Row],
-) -> Result<Grid, EarlierError> {
-    let mut earlier = Earlier::begin(alloc, source)?;
-    let files = files_of(alloc, surveyed)?;
-    let mut found = match_rows(alloc, &mut earlier, &files)?;
-    let mut rows = Vec::new(alloc);
-    add_surveyed(
-        alloc,
-        &earlier,
-        found.old.as_slice(),
-        &files,
-        surveyed,
-        &mut rows,
-    )?;
-    rows.append(&mut found.gone)?;
-    let heads = Vec::from_slice(alloc, &HEADS)?;
-    Ok(Grid { heads, rows })
+    Ok(changes)
 }

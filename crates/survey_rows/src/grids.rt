@@ -113,6 +113,27 @@ fn least_widths(alloc: Global, heads: &[ColumnHead]) -> Result<Vec<usize>, Alloc
     Ok(widths)
 }
 
+/// Makes the least widths of the columns at least those of their names and of the cells in rows.
+pub fn widen_heads(
+    alloc: Global,
+    heads: &mut [ColumnHead],
+    rows: &[Vec<RowCell>],
+) -> Result<(), AllocError> {
+    let mut widths = least_widths(alloc, heads)?;
+    let names = head_texts(alloc, heads)?;
+    widen(widths.as_mut_slice(), names.as_slice());
+    for row in rows {
+        let texts = shown_texts(alloc, row.as_slice())?;
+        widen(widths.as_mut_slice(), texts.as_slice());
+    }
+    for index in 0..heads.len() {
+        if let Some(width) = widths.get(index) {
+            heads[index].width = *width;
+        }
+    }
+    Ok(())
+}
+
 /// A grid as text, with the names of its columns above it if they are asked for.
 pub fn grid_text(alloc: Global, grid: &Grid, has_header: bool) -> Result<String, AllocError> {
     let heads = grid.heads.as_slice();

@@ -56,6 +56,8 @@ pub struct Counts {
 #[derive(Drop)]
 pub struct Row {
     pub file: String,
+    /// Whether the image was found in a folder that was given, and not given itself.
+    pub is_in_folder: bool,
     pub verdict: Judgement,
     pub counts: Counts,
 }
