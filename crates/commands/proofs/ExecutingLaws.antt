@@ -89,7 +89,7 @@ told_refused (Refused (rejection.Table error (Some (slot, insn)))) (Some text) o
 told_refused (Faulted fault form) why old new k e h = absurd (omega arith)
 told_refused (CannotRead path kind) why old new k e h = absurd (omega arith)
 told_refused (CannotWrite path cause) why old new k e h = absurd (omega arith)
-told_refused (CannotReplace path) why old new k e h = absurd (omega arith)
+told_refused (CannotReplace path conflict) why old new k e h = absurd (omega arith)
 told_refused NoMemory why old new k e h = absurd (omega arith)
 
 pub told_plain : (o : TaskOutcome) (old new : Option (List ℕ)) → status_of o ≡ 2
@@ -116,9 +116,9 @@ unsaid_knows (CannotRead path kind) why (inr (inr (inr (source, none)))) e = non
 unsaid_knows (CannotWrite path cause) why (inr (inl (p, none))) e = none
 unsaid_knows (CannotWrite path cause) why (inr (inr (inl (p, bytes, none)))) e = none
 unsaid_knows (CannotWrite path cause) why (inr (inr (inr (source, none)))) e = none
-unsaid_knows (CannotReplace path) why (inr (inl (p, none))) e = none
-unsaid_knows (CannotReplace path) why (inr (inr (inl (p, bytes, none)))) e = none
-unsaid_knows (CannotReplace path) why (inr (inr (inr (source, none)))) e = none
+unsaid_knows (CannotReplace path conflict) why (inr (inl (p, none))) e = none
+unsaid_knows (CannotReplace path conflict) why (inr (inr (inl (p, bytes, none)))) e = none
+unsaid_knows (CannotReplace path conflict) why (inr (inr (inr (source, none)))) e = none
 unsaid_knows NoMemory why (inr (inl (p, none))) e = none
 unsaid_knows NoMemory why (inr (inr (inl (p, bytes, none)))) e = none
 unsaid_knows NoMemory why (inr (inr (inr (source, none)))) e = none
@@ -139,7 +139,7 @@ told_faulted (Faulted fault form) (Some text) old new (inr (inr (inr (source, no
     absurd (none-some text (sym none))
 told_faulted (CannotRead path kind) why old new k e h = absurd (omega arith)
 told_faulted (CannotWrite path cause) why old new k e h = absurd (omega arith)
-told_faulted (CannotReplace path) why old new k e h = absurd (omega arith)
+told_faulted (CannotReplace path conflict) why old new k e h = absurd (omega arith)
 told_faulted NoMemory why old new k e h = absurd (omega arith)
 
 pub faulted_plain : (o : TaskOutcome) (old new : Option (List ℕ)) → status_of o ≡ 3
@@ -158,7 +158,7 @@ refused_by (Trace files limit) (WrongWords message) why old new (inr k) e h = ab
 refused_by (Trace files limit) (Refused rejected) why old new (inr k) e h = absurd k.0
 refused_by (Trace files limit) (CannotRead path kind) why old new (inr k) e h = absurd k.0
 refused_by (Trace files limit) (CannotWrite path cause) why old new (inr k) e h = absurd k.0
-refused_by (Trace files limit) (CannotReplace path) why old new (inr k) e h = absurd k.0
+refused_by (Trace files limit) (CannotReplace path conflict) why old new (inr k) e h = absurd k.0
 refused_by (Trace files limit) NoMemory why old new (inr k) e h = absurd k.0
 refused_by (Run files table) o why old new k e h = told_refused o why old new k e h
 refused_by (Verify path) o why old new k e h = told_refused o why old new k e h
@@ -185,7 +185,7 @@ stopped_faulted (WrongWords message) why old new k e h = absurd k.0
 stopped_faulted (Refused rejected) why old new k e h = absurd k.0
 stopped_faulted (CannotRead path kind) why old new k e h = absurd k.0
 stopped_faulted (CannotWrite path cause) why old new k e h = absurd k.0
-stopped_faulted (CannotReplace path) why old new k e h = absurd k.0
+stopped_faulted (CannotReplace path conflict) why old new k e h = absurd k.0
 stopped_faulted NoMemory why old new k e h = absurd k.0
 
 pub faulted_by : (request : TaskRequest) (o : TaskOutcome) (why : Option (String Global))
@@ -228,7 +228,8 @@ stopped_done words files limit (WrongWords message) why old new is k e unsaid h 
 stopped_done words files limit (Refused rejected) why old new is k e unsaid h = absurd k.0
 stopped_done words files limit (CannotRead path kind) why old new is k e unsaid h = absurd k.0
 stopped_done words files limit (CannotWrite path cause) why old new is k e unsaid h = absurd k.0
-stopped_done words files limit (CannotReplace path) why old new is k e unsaid h = absurd k.0
+stopped_done words files limit (CannotReplace path conflict) why old new is k e unsaid h =
+    absurd k.0
 stopped_done words files limit NoMemory why old new is k e unsaid h = absurd k.0
 
 pub done_by : (words : List (List ℕ)) (request : TaskRequest) (o : TaskOutcome)

@@ -86,7 +86,7 @@ stops_known ended (WrongWords message) lines why tells is = inl (inl is)
 stops_known ended (Refused rejection) lines why tells is = inl (inl is)
 stops_known ended (CannotRead path kind) lines why tells is = inl (inl is)
 stops_known ended (CannotWrite path cause) lines why tells is = inl (inl is)
-stops_known ended (CannotReplace path) lines why tells is = inl (inl is)
+stops_known ended (CannotReplace path conflict) lines why tells is = inl (inl is)
 stops_known ended NoMemory lines why tells is = inl (inl is)
 
 served_knows : (request : TaskRequest) (old new : Option (List ℕ)) (r : Ending)

@@ -42,7 +42,7 @@ tells-none p (Refused (rejection.Text error)) why e = e
 tells-none p (Faulted fault form) why e = e
 tells-none p (CannotRead path kind) why e = e
 tells-none p (CannotWrite path cause) why e = e
-tells-none p (CannotReplace path) why e = e
+tells-none p (CannotReplace path conflict) why e = e
 tells-none p NoMemory why e = e
 
 -- the image was not loaded

@@ -6,3 +6,4 @@ pub mod MessagesLaws
 pub mod FilesLaws
 pub mod Silence
 mod SettledBytes
+mod ShownNames

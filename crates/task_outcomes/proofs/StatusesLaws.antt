@@ -16,7 +16,7 @@ silent_words (Refused rejection) e = absurd (omega arith)
 silent_words (Faulted fault form) e = absurd (omega arith)
 silent_words (CannotRead path kind) e = refl
 silent_words (CannotWrite path cause) e = absurd (omega arith)
-silent_words (CannotReplace path) e = refl
+silent_words (CannotReplace path conflict) e = refl
 silent_words NoMemory e = refl
 
 -- at status 5 nothing was written to standard output
@@ -27,7 +27,7 @@ silent_memory (Refused rejection) e = absurd (omega arith)
 silent_memory (Faulted fault form) e = absurd (omega arith)
 silent_memory (CannotRead path kind) e = refl
 silent_memory (CannotWrite path cause) e = absurd (omega arith)
-silent_memory (CannotReplace path) e = refl
+silent_memory (CannotReplace path conflict) e = refl
 silent_memory NoMemory e = refl
 
 -- a status is at most 5
@@ -38,7 +38,7 @@ status_fits (Refused rejection) = omega arith
 status_fits (Faulted fault form) = omega arith
 status_fits (CannotRead path kind) = omega arith
 status_fits (CannotWrite path cause) = omega arith
-status_fits (CannotReplace path) = omega arith
+status_fits (CannotReplace path conflict) = omega arith
 status_fits NoMemory = omega arith
 
 -- at status 0 there is no message on standard error
@@ -49,7 +49,7 @@ unsaid_done (Refused rejection) e = absurd (omega arith)
 unsaid_done (Faulted fault form) e = absurd (omega arith)
 unsaid_done (CannotRead path kind) e = absurd (omega arith)
 unsaid_done (CannotWrite path cause) e = absurd (omega arith)
-unsaid_done (CannotReplace path) e = absurd (omega arith)
+unsaid_done (CannotReplace path conflict) e = absurd (omega arith)
 unsaid_done NoMemory e = absurd (omega arith)
 
 -- ---- an output that failed
@@ -62,7 +62,7 @@ write_loud name (Refused rejection) h e = h
 write_loud name (Faulted fault form) h e = h
 write_loud name (CannotRead path kind) h e = h
 write_loud name (CannotWrite path cause) h e = false≢true e
-write_loud name (CannotReplace path) h e = h
+write_loud name (CannotReplace path conflict) h e = h
 write_loud name NoMemory h e = h
 
 -- the same with a cause
@@ -74,7 +74,7 @@ write_loud_by name cause (Refused rejection) h e = h
 write_loud_by name cause (Faulted fault form) h e = h
 write_loud_by name cause (CannotRead path kind) h e = h
 write_loud_by name cause (CannotWrite path told) h e = false≢true e
-write_loud_by name cause (CannotReplace path) h e = h
+write_loud_by name cause (CannotReplace path conflict) h e = h
 write_loud_by name cause NoMemory h e = h
 
 -- an output that cannot be written ends a task with a status over 3
@@ -86,7 +86,7 @@ write_failed name cause (Refused rejection) h most = h
 write_failed name cause (Faulted fault form) h most = h
 write_failed name cause (CannotRead path kind) h most = h
 write_failed name cause (CannotWrite path told) h most = omega arith
-write_failed name cause (CannotReplace path) h most = h
+write_failed name cause (CannotReplace path conflict) h most = h
 write_failed name cause NoMemory h most = h
 
 -- ---- at status 0, 2 and 3
@@ -100,7 +100,7 @@ loud_by_status (Refused rejection) most apart = refl
 loud_by_status (Faulted fault form) most apart = refl
 loud_by_status (CannotRead path kind) most apart = absurd (omega arith)
 loud_by_status (CannotWrite path cause) most apart = refl
-loud_by_status (CannotReplace path) most apart = absurd (omega arith)
+loud_by_status (CannotReplace path conflict) most apart = absurd (omega arith)
 loud_by_status NoMemory most apart = absurd (omega arith)
 
 -- ---- arguments that ask for nothing
@@ -113,7 +113,7 @@ says_wrong text (Refused rejection) h = absurd h
 says_wrong text (Faulted fault form) h = absurd h
 says_wrong text (CannotRead path kind) h = absurd h
 says_wrong text (CannotWrite path cause) h = absurd h
-says_wrong text (CannotReplace path) h = absurd h
+says_wrong text (CannotReplace path conflict) h = absurd h
 says_wrong text NoMemory h = absurd h
 
 -- where they are wrong, nothing is written to standard output
@@ -124,7 +124,7 @@ wrong_silent text (Refused rejection) h = absurd h
 wrong_silent text (Faulted fault form) h = absurd h
 wrong_silent text (CannotRead path kind) h = absurd h
 wrong_silent text (CannotWrite path cause) h = absurd h
-wrong_silent text (CannotReplace path) h = absurd h
+wrong_silent text (CannotReplace path conflict) h = absurd h
 wrong_silent text NoMemory h = absurd h
 
 -- they end with status 1, or over 3
@@ -137,5 +137,5 @@ unasked_status (Wrong text) (Refused rejection) e most apart = e
 unasked_status (Wrong text) (Faulted fault form) e most apart = e
 unasked_status (Wrong text) (CannotRead path kind) e most apart = e
 unasked_status (Wrong text) (CannotWrite path cause) e most apart = e
-unasked_status (Wrong text) (CannotReplace path) e most apart = e
+unasked_status (Wrong text) (CannotReplace path conflict) e most apart = e
 unasked_status (Wrong text) NoMemory e most apart = e

@@ -1,6 +1,9 @@
 -- Why a file or an output failed, as text.
-use Rattle.std.specs.Prelude.{ℕ, List, Option, Some, None, codes}
+use Rattle.std.specs.Prelude.{ℕ, List, ◌++◌, Option, Some, None, codes}
 use Rattle.std.specs.declared.io.ErrorKind.{ErrorKind}
+use Rattle.task_outcomes.specs.declared.causes.Conflict.{Conflict}
+use Rattle.task_outcomes.specs.declared.causes.Conflict.TheVariants.{IsRead, IsStandardOutput}
+use Rattle.task_outcomes.specs.Names.{shown_name, dash_line}
 use Rattle.std.specs.declared.io.ErrorKind.TheVariants.{NotFound, PermissionDenied, IsADirectory, NotADirectory, AlreadyExists, ReadOnlyFilesystem, FilesystemLoop, InvalidFilename, InvalidInput, StorageFull, QuotaExceeded, FileTooLarge, ResourceBusy, ExecutableFileBusy, BrokenPipe, WriteZero, Interrupted, WouldBlock, TimedOut, Unsupported, OutOfMemory}
 
 -- the end of a line that names a file, and then a line with the cause
@@ -32,3 +35,15 @@ cause_line kind = codes "\nthe system gave another error\n"
 abbrev pub line_after : Option ErrorKind → List ℕ
 line_after None = codes "\n"
 line_after (Some kind) = cause_line kind
+
+-- the end of the line, and a line that says why a file must not be written over
+abbrev pub conflict_line : Conflict → List ℕ
+conflict_line IsRead = codes "\nit is one of the files that are read\n"
+conflict_line IsStandardOutput = codes "\nit is the pipe that the report is written to\n"
+
+-- ---- messages
+
+-- a file cannot be read
+abbrev pub unread_text : List ℕ → ErrorKind → List ℕ
+unread_text path kind =
+    (codes "cannot read " ++ (shown_name path ++ cause_line kind)) ++ dash_line path

@@ -1,4 +1,5 @@
 pub mod Causes
+pub mod Names
 pub mod Faults
 pub mod Forms
 pub mod Messages

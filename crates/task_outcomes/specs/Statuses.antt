@@ -6,7 +6,8 @@ use Rattle.words.specs.declared.tasks.WordsError.{WordsError}
 use Rattle.words.specs.declared.tasks.WordsError.TheVariants.{Wrong, Memory}
 use Rattle.task_outcomes.specs.declared.outcomes.TaskOutcome.{TaskOutcome}
 use Rattle.task_outcomes.specs.declared.outcomes.TaskOutcome.TheVariants.{Done, WrongWords, Refused, Faulted, CannotRead, CannotWrite, CannotReplace, NoMemory}
-use Rattle.task_outcomes.specs.Causes.{cause_line, line_after}
+use Rattle.task_outcomes.specs.Causes.{line_after, conflict_line, unread_text}
+use Rattle.task_outcomes.specs.Names.{shown_name}
 use Rattle.task_outcomes.specs.Faults.{fault_lines}
 use Rattle.task_outcomes.specs.Messages.{rejection_text}
 
@@ -18,7 +19,7 @@ status_of (Refused rejection) = 2
 status_of (Faulted fault form) = 3
 status_of (CannotRead path kind) = 4
 status_of (CannotWrite path cause) = 4
-status_of (CannotReplace path) = 4
+status_of (CannotReplace path conflict) = 4
 status_of NoMemory = 5
 
 -- whether it is known that nothing was written to standard output
@@ -29,7 +30,7 @@ is_silent (Refused rejection) = false
 is_silent (Faulted fault form) = false
 is_silent (CannotRead path kind) = true
 is_silent (CannotWrite path cause) = false
-is_silent (CannotReplace path) = true
+is_silent (CannotReplace path conflict) = true
 is_silent NoMemory = true
 
 -- whether there is no message on standard error
@@ -40,7 +41,7 @@ is_unsaid (Refused rejection) = false
 is_unsaid (Faulted fault form) = false
 is_unsaid (CannotRead path kind) = false
 is_unsaid (CannotWrite path cause) = false
-is_unsaid (CannotReplace path) = false
+is_unsaid (CannotReplace path conflict) = false
 is_unsaid NoMemory = false
 
 abbrev pub usage : List ℕ
@@ -52,10 +53,11 @@ message_of Done = []
 message_of (WrongWords text) = text.now ++ usage
 message_of (Refused rejection) = rejection_text rejection
 message_of (Faulted fault form) = fault_lines fault form
-message_of (CannotRead path kind) = codes "cannot read " ++ (path.now ++ cause_line kind)
-message_of (CannotWrite path cause) = codes "cannot write " ++ (path.now ++ line_after cause)
-message_of (CannotReplace path) =
-    codes "cannot write " ++ (path.now ++ codes "\nit is one of the files that are read\n")
+message_of (CannotRead path kind) = unread_text path.now kind
+message_of (CannotWrite path cause) =
+    codes "cannot write " ++ (shown_name path.now ++ line_after cause)
+message_of (CannotReplace path conflict) =
+    codes "cannot write " ++ (shown_name path.now ++ conflict_line conflict)
 message_of NoMemory = codes "out of memory\n"
 
 -- ---- what a task's outcome is
@@ -100,6 +102,6 @@ IsReadFailure path outcome = ⊥
 -- the file at the path cannot be made, or must not be overwritten, or memory ran out
 abbrev pub IsMakeFailure : List ℕ → TaskOutcome → Type 0
 IsMakeFailure path (CannotWrite file cause) = file.now ≡ path
-IsMakeFailure path (CannotReplace file) = file.now ≡ path
+IsMakeFailure path (CannotReplace file conflict) = file.now ≡ path
 IsMakeFailure path NoMemory = Unit {0}
 IsMakeFailure path outcome = ⊥

@@ -1,9 +1,14 @@
 //! Why a file or an output failed, as text.
 
-ghost use Rattle.std.specs.Prelude.{◌≡◌};
-ghost use Rattle.task_outcomes.specs.Causes.{cause_line, line_after};
+ghost use Rattle.std.specs.Prelude.{◌≡◌, OnOk, OnErr};
+ghost use Rattle.std.specs.Io.KnownBytes.{Appends};
+ghost use Rattle.exact_io.specs.Transfers.{AppendsBeginning};
+ghost use Rattle.task_outcomes.specs.Causes.{cause_line, line_after, conflict_line, unread_text};
 
-use std::io::ErrorKind;
+use super::names::{dash_line, write_named};
+use exact_io::write_bytes;
+use std::io;
+use std::io::{ErrorKind, Write};
 
 /// The end of a line that names a file, and then a line with the cause.
 pub fn cause_line(kind: ErrorKind) -> &'static str
@@ -63,4 +68,34 @@ pub fn line_after(cause: Option<ErrorKind>) -> &'static str
         None => "\n",
         Some(kind) => cause_line(kind),
     }
+}
+
+/// Why a file must not be written over.
+#[derive(Clone, Copy)]
+pub enum Conflict {
+    /// It is one of the files that are read.
+    IsRead,
+    /// It is the pipe that standard output is.
+    IsStandardOutput,
+}
+
+/// The end of a line that names such a file, and a line that says why.
+pub fn conflict_line(conflict: Conflict) -> &'static str
+    ensures { result.now ≡ conflict_line conflict }
+{
+    match conflict {
+        Conflict::IsRead => "\nit is one of the files that are read\n",
+        Conflict::IsStandardOutput => "\nit is the pipe that the report is written to\n",
+    }
+}
+
+/// Says that a file cannot be read.
+pub fn say_unread<W: Write>(err: &mut W, path: &str, kind: ErrorKind) -> io::Result<()>
+    ensures ok { OnOk result
+        (Appends (W.contents err.old) (W.contents err.new) (unread_text path.now kind)) }
+    ensures err { OnErr result
+        (AppendsBeginning (W.contents err.old) (W.contents err.new) (unread_text path.now kind)) }
+{
+    write_named(err, "cannot read ", path, cause_line(kind))?;
+    write_bytes(err, dash_line(path).as_bytes())
 }

@@ -7,12 +7,13 @@ ghost use Rattle.task_outcomes.specs.Statuses.{IsReadFailure, IsMakeFailure};
 ghost use Rattle.words.specs.Requests.{files_of};
 ghost use Rattle.task_outcomes.specs.Files.{LoadsNone, RunsOn, DisassemblesFile, Assembles, AssemblesFile};
 
+use super::causes::Conflict;
 use super::endings::Ending;
 use super::forms::FileForm;
 use super::fronts::{Watched, read_ahead};
 use super::outcomes::TaskOutcome;
 use super::reading::{read_file, read_start};
-use super::same::is_same_file;
+use super::same::{is_output_pipe, is_same_file};
 use super::screens::Screen;
 use super::streams::{run_stream, store_image};
 use super::verdicts::{assembled, image_of, say_text, size_line};
@@ -56,13 +57,28 @@ fn create_file<'a, R: Files>(
 {
     for other in read {
         if is_same_file(rt, path, *other) {
-            return Err(TaskOutcome::CannotReplace(path));
+            return Err(TaskOutcome::CannotReplace(path, Conflict::IsRead));
         }
     }
     match fs::create(rt, path) {
         Ok(file) => Ok(file),
         Err(error) => Err(TaskOutcome::of_write(path, &error)),
     }
+}
+
+// Makes the file of the frames out, unless it is one of those that are read, or the pipe that the
+// report is written to: there the two would be mixed.
+fn create_sent<'a, R: Files>(
+    rt: &R,
+    path: &'a str,
+    read: &[&str],
+) -> Result<R::File, TaskOutcome<'a>>
+    ensures { IfErr result (IsMakeFailure path.now) }
+{
+    if is_output_pipe(rt, path) {
+        return Err(TaskOutcome::CannotReplace(path, Conflict::IsStandardOutput));
+    }
+    create_file(rt, path, read)
 }
 
 /// The image in a file, or how the task ends without it.
@@ -85,8 +101,8 @@ pub fn load_image<'a, R: Files, W: Write>(
 }
 
 /// Opens the frame stream, and then makes the file of the frames out, which may not replace a file
-/// that is read. The buffer of each is made before any of its bytes is read or written. At the end
-/// the first bytes of the frame stream are read ahead.
+/// that is read, nor be the pipe that standard output is. The buffer of each is made before any of
+/// its bytes is read or written. At the end the first bytes of the frame stream are read ahead.
 pub fn open_streams<'a, 'b, R: Files + Clock>(
     rt: &'b R,
     alloc: Global,
@@ -105,7 +121,7 @@ pub fn open_streams<'a, 'b, R: Files + Clock>(
     let Ok(source) = Buffered::new(alloc, BUFFER, source) else {
         return Err(TaskOutcome::NoMemory);
     };
-    let file = create_file(rt, paths.out, read)?;
+    let file = create_sent(rt, paths.out, read)?;
     let Ok(file) = PromptWriter::new(alloc, BUFFER, MAGIC, file) else {
         return Err(TaskOutcome::NoMemory);
     };

@@ -13,6 +13,7 @@ mod files;
 mod forms;
 mod fronts;
 mod lines;
+mod names;
 mod outcomes;
 mod reading;
 mod rejections;

@@ -8,11 +8,11 @@ ghost use Rattle.task_outcomes.specs.Statuses.{status_of, is_silent, is_unsaid, 
 ghost use Rattle.task_outcomes.specs.Saying.{AppendsPart};
 ghost use Rattle.task_outcomes.specs.Judging.{IsStoreFailure};
 
-use super::causes::{cause_line, line_after};
+use super::causes::{Conflict, conflict_line, line_after, say_unread};
 use super::faults::say_fault;
 use super::forms::FileForm;
+use super::names::write_named;
 use super::rejections::Rejection;
-use super::texts::write_texts;
 use exact_io::write_bytes;
 use isa_model::Fault;
 use std::io;
@@ -40,8 +40,8 @@ pub enum TaskOutcome<'a> {
     /// The file or output of this name cannot be written. If standard output failed while a report
     /// was written, the cause is known when it is flushed.
     CannotWrite(&'a str, Option<ErrorKind>),
-    /// The file that was to be written is one of those that are read. It was left unchanged.
-    CannotReplace(&'a str),
+    /// The file that was to be written must not be written over. It was left unchanged.
+    CannotReplace(&'a str, Conflict),
     NoMemory,
 }
 
@@ -96,7 +96,7 @@ impl<'a> TaskOutcome<'a> {
             | TaskOutcome::CannotWrite(_, _) => false,
             TaskOutcome::WrongWords(_)
             | TaskOutcome::CannotRead(_, _)
-            | TaskOutcome::CannotReplace(_)
+            | TaskOutcome::CannotReplace(_, _)
             | TaskOutcome::NoMemory => true,
         }
     }
@@ -112,7 +112,7 @@ impl<'a> TaskOutcome<'a> {
             TaskOutcome::Faulted(_, _) => 3,
             TaskOutcome::CannotRead(_, _)
             | TaskOutcome::CannotWrite(_, _)
-            | TaskOutcome::CannotReplace(_) => 4,
+            | TaskOutcome::CannotReplace(_, _) => 4,
             TaskOutcome::NoMemory => 5,
         }
     }
@@ -133,15 +133,12 @@ impl<'a> TaskOutcome<'a> {
                 write_bytes(err, text.as_bytes())?;
                 write_bytes(err, USAGE.as_bytes())
             }
-            TaskOutcome::CannotRead(path, kind) => {
-                write_texts(err, "cannot read ", path, cause_line(kind))
-            }
+            TaskOutcome::CannotRead(path, kind) => say_unread(err, path, kind),
             TaskOutcome::CannotWrite(name, cause) => {
-                write_texts(err, "cannot write ", name, line_after(cause))
+                write_named(err, "cannot write ", name, line_after(cause))
             }
-            TaskOutcome::CannotReplace(path) => {
-                let why = "\nit is one of the files that are read\n";
-                write_texts(err, "cannot write ", path, why)
+            TaskOutcome::CannotReplace(path, conflict) => {
+                write_named(err, "cannot write ", path, conflict_line(conflict))
             }
             TaskOutcome::NoMemory => write_bytes(err, b"out of memory\n"),
         }

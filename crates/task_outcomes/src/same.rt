@@ -1,10 +1,10 @@
-//! Whether two paths lead to the same file.
+//! Whether two paths lead to the same file or pipe.
 
 ghost use Rattle.std.specs.Prelude.{◌≡◌, ◌≢◌, ◌↔◌, IsTrue};
 
 use std::fs;
 use std::fs::Metadata;
-use std::os::unix::fs::MetadataExt;
+use std::os::unix::fs::{FileTypeExt, MetadataExt};
 use std::rt::Files;
 
 /// The numbers that identify a file to the system.
@@ -33,6 +33,16 @@ fn numbers_of(file: &Metadata) -> FileNumbers {
 pub fn is_same_file<R: Files>(rt: &R, one: &str, other: &str) -> bool {
     match (fs::metadata(rt, one), fs::metadata(rt, other)) {
         (Ok(one), Ok(other)) => one.is_file() && is_one(numbers_of(&one), numbers_of(&other)),
+        _ => false,
+    }
+}
+
+/// Whether a path leads to the pipe that standard output is.
+pub fn is_output_pipe<R: Files>(rt: &R, path: &str) -> bool {
+    match (fs::metadata(rt, path), fs::metadata(rt, "/dev/stdout")) {
+        (Ok(one), Ok(output)) => {
+            one.file_type().is_fifo() && is_one(numbers_of(&one), numbers_of(&output))
+        }
         _ => false,
     }
 }

@@ -1,5 +1,6 @@
 use Rattle.std.proofs.Common.{◌++◌, ℕ, List, codes, ap}
-use Rattle.task_outcomes.specs.Causes.{cause_line, line_after}
+use Rattle.task_outcomes.specs.Causes.{line_after, conflict_line}
+use Rattle.task_outcomes.specs.Names.{shown_name}
 use Rattle.task_outcomes.specs.Statuses.{usage}
 use Rattle.task_outcomes.proofs.Written.{ok_text, err_text, err_behind}
 use Rattle.task_outcomes.proofs.outcomes.TaskOutcome.say.Goals as goal
@@ -13,36 +14,28 @@ returns-in_ok-write_bytes-in-WrongWords-clause-err g c =
     c.write_bytes-in-WrongWords.ensures.err))
 
 pub returns-in-CannotRead-clause-ok : goal.returns-in-CannotRead-clause-ok
-returns-in-CannotRead-clause-ok g c =
-    rw c.in-CannotRead.is
-    (ok_text _ _ _ _
-    (codes "cannot read " ++ (c.in-CannotRead.path.now ++ cause_line c.in-CannotRead.kind))
-    (ap (λ (l : List ℕ). codes "cannot read " ++ (c.in-CannotRead.path.now ++ l))
-    c.cause_line.ensures) c.write_texts.ensures.ok)
+returns-in-CannotRead-clause-ok g c = rw c.in-CannotRead.is c.say_unread.ensures.ok
 
 pub returns-in-CannotRead-clause-err : goal.returns-in-CannotRead-clause-err
-returns-in-CannotRead-clause-err g c =
-    rw c.in-CannotRead.is
-    (err_text _ _ _ _
-    (codes "cannot read " ++ (c.in-CannotRead.path.now ++ cause_line c.in-CannotRead.kind))
-    (ap (λ (l : List ℕ). codes "cannot read " ++ (c.in-CannotRead.path.now ++ l))
-    c.cause_line.ensures) c.write_texts.ensures.err)
+returns-in-CannotRead-clause-err g c = rw c.in-CannotRead.is c.say_unread.ensures.err
 
 pub returns-in-CannotWrite-clause-ok : goal.returns-in-CannotWrite-clause-ok
 returns-in-CannotWrite-clause-ok g c =
     rw c.in-CannotWrite.is
     (ok_text _ _ _ _
-    (codes "cannot write " ++ (c.in-CannotWrite.name.now ++ line_after c.in-CannotWrite.cause))
-    (ap (λ (l : List ℕ). codes "cannot write " ++ (c.in-CannotWrite.name.now ++ l))
-    c.line_after.ensures) c.write_texts-in-CannotWrite.ensures.ok)
+    (codes "cannot write "
+    ++ (shown_name c.in-CannotWrite.name.now ++ line_after c.in-CannotWrite.cause))
+    (ap (λ (l : List ℕ). codes "cannot write " ++ (shown_name c.in-CannotWrite.name.now ++ l))
+    c.line_after.ensures) c.write_named.ensures.ok)
 
 pub returns-in-CannotWrite-clause-err : goal.returns-in-CannotWrite-clause-err
 returns-in-CannotWrite-clause-err g c =
     rw c.in-CannotWrite.is
     (err_text _ _ _ _
-    (codes "cannot write " ++ (c.in-CannotWrite.name.now ++ line_after c.in-CannotWrite.cause))
-    (ap (λ (l : List ℕ). codes "cannot write " ++ (c.in-CannotWrite.name.now ++ l))
-    c.line_after.ensures) c.write_texts-in-CannotWrite.ensures.err)
+    (codes "cannot write "
+    ++ (shown_name c.in-CannotWrite.name.now ++ line_after c.in-CannotWrite.cause))
+    (ap (λ (l : List ℕ). codes "cannot write " ++ (shown_name c.in-CannotWrite.name.now ++ l))
+    c.line_after.ensures) c.write_named.ensures.err)
 
 pub returns-in-Refused-clause-ok : goal.returns-in-Refused-clause-ok
 returns-in-Refused-clause-ok g c = rw c.in-Refused.is c.say.ensures.ok
@@ -55,3 +48,21 @@ returns-in-Faulted-clause-ok g c = rw c.in-Faulted.is c.say_fault.ensures.ok
 
 pub returns-in-Faulted-clause-err : goal.returns-in-Faulted-clause-err
 returns-in-Faulted-clause-err g c = rw c.in-Faulted.is c.say_fault.ensures.err
+
+pub returns-in-CannotReplace-clause-ok : goal.returns-in-CannotReplace-clause-ok
+returns-in-CannotReplace-clause-ok g c =
+    rw c.in-CannotReplace.is
+    (ok_text _ _ _ _
+    (codes "cannot write "
+    ++ (shown_name c.in-CannotReplace.path.now ++ conflict_line c.in-CannotReplace.conflict))
+    (ap (λ (l : List ℕ). codes "cannot write " ++ (shown_name c.in-CannotReplace.path.now ++ l))
+    c.conflict_line.ensures) c.write_named-in-CannotReplace.ensures.ok)
+
+pub returns-in-CannotReplace-clause-err : goal.returns-in-CannotReplace-clause-err
+returns-in-CannotReplace-clause-err g c =
+    rw c.in-CannotReplace.is
+    (err_text _ _ _ _
+    (codes "cannot write "
+    ++ (shown_name c.in-CannotReplace.path.now ++ conflict_line c.in-CannotReplace.conflict))
+    (ap (λ (l : List ℕ). codes "cannot write " ++ (shown_name c.in-CannotReplace.path.now ++ l))
+    c.conflict_line.ensures) c.write_named-in-CannotReplace.ensures.err)
