@@ -3,9 +3,10 @@
 
 usage: python3 assurance/endless.py [PROGRAM [SURVEY]]
 
-Proof tables and earlier surveys that are devices without an end, or files of
+Proof tables, program texts and earlier surveys that are devices without an end, or files of
 terabytes on no disk, or a right one with such bytes behind it: each has to be refused as the bytes
-at its beginning are, within a second of the processor and 64 MB. PROGRAM and SURVEY are the programs
+at its beginning are, within a second of the processor and 64 MB. A comparison with an earlier survey
+of 36 MB may take three times as much. PROGRAM and SURVEY are the programs
 that `rt run` leaves in crates/xdpvm and crates/xdpvm_survey (the default: those in out/ there). The
 exit status is 0 if it is so, and 1 if not.
 """
@@ -41,13 +42,13 @@ def run(words):
         return program.returncode, out.decode(), errors.read().decode(), used.ru_maxrss, used.ru_utime + used.ru_stime
 
 
-def tell(words, status, line):
+def tell(words, status, line, most=MEMORY, longest=SECONDS):
     """Whether a command ends with this status, after this line of its output, within the limits."""
     ended, out, errors, memory, seconds = run(words)
     said = (out + errors).splitlines()
-    is_right = ended == status and line in said and memory <= MEMORY and seconds <= SECONDS
+    is_right = ended == status and line in said and memory <= most and seconds <= longest
     if not is_right:
-        print(f"{' '.join(words[1:])}: status {ended}, {said}, {memory} KiB, {seconds:.2f} s")
+        print(f"{' '.join(words[1:])}: status {ended}, {said[:9]}, {memory} KiB, {seconds:.2f} s")
     return is_right
 
 
@@ -84,6 +85,40 @@ def tell_tables(folder):
         yield tell([PROGRAM, "run", IMAGE, FRAMES, sent, "--table", path], 2, line)
 
 
+def texts(folder):
+    """Program texts, and the line that each is refused with."""
+    yield "/dev/zero", "refused A1 line 1 column 1"
+    yield sparse(os.path.join(folder, "no text"), b""), "refused A1 line 1 column 1"
+    yield sparse(os.path.join(folder, "program"), b"r0 = 2\nexit\n"), "refused A1 line 3 column 1"
+    yield sparse(os.path.join(folder, "comment"), b"# a comment\n\n"), "refused A1 line 3 column 1"
+    yield sparse(os.path.join(folder, "no form"), b"r0 = 2\nr1 2\n"), "refused A2 line 2 column 1"
+    yield sparse(os.path.join(folder, "twice"), b"a: r0 = 2\na: exit\n"), "refused A4 line 2 column 1"
+    yield sparse(os.path.join(folder, "number"), b"r0 = 2\nr1 = 0"), "refused A1 line 2 column 7"
+    yield sparse(os.path.join(folder, "slots"), b"exit\n" * 4097), "refused A9 line 4097 column 1"
+
+
+def tell_texts(folder):
+    """Whether texts are refused that have no end."""
+    image = os.path.join(folder, "image")
+    for path, line in texts(folder):
+        yield tell([PROGRAM, "asm", path, image], 2, line)
+    ended, out, errors, memory, seconds = run([PROGRAM, "asm", "/dev/urandom", image])
+    is_right = ended == 2 and out.startswith("refused A") and memory <= MEMORY and seconds <= SECONDS
+    if not is_right:
+        print(f"asm /dev/urandom: status {ended}, {out}{errors}, {memory} KiB, {seconds:.2f} s")
+    yield is_right
+
+
+def tell_comparison(folder):
+    """Whether a comparison keeps little of an earlier survey whose images are gone."""
+    path = os.path.join(folder, "gone")
+    with open(path, "w", encoding="utf-8") as file:
+        file.write("file,verdict,slot,slots,maps,bound,explored,stored,deepest,stored_bytes,milliseconds\n")
+        file.writelines(f"compiled/payload_{number:07}.image,ok,,49,0,1546,13357,3473,1258,1390896,12.345\n" for number in range(480_000))
+    size = os.path.getsize(path) // 1024
+    yield tell([SURVEY, "--format", "csv", "--compare", path, IMAGE], 0, "compiled/payload_0479999.image,verdict,ok,,", 3 * size, LONGEST)
+
+
 def tell_surveys(folder):
     """Whether earlier surveys are refused that have no end."""
     survey = subprocess.run([SURVEY, "--format", "csv", IMAGE], check=True, capture_output=True).stdout
@@ -95,7 +130,7 @@ def tell_surveys(folder):
 
 def main():
     with tempfile.TemporaryDirectory() as folder:
-        told = [*tell_tables(folder), *tell_surveys(folder)]
+        told = [*tell_tables(folder), *tell_texts(folder), *tell_surveys(folder), *tell_comparison(folder)]
     return 0 if all(told) else 1
 
 

@@ -48,7 +48,7 @@ CHECKS = (
     Check("terminal", "python3 assurance/terminal.py", "what a terminal shows while a command takes over a second", 8, skips=True, alone=True),
     Check("devices", "python3 assurance/devices.py", "that files on two devices are two", 1, skips=True),
     Check("pipes", "python3 assurance/pipes.py", "that each frame is handed on before the next one is waited for, with a slow writer within 50 ms", 3, alone=True),
-    Check("endless", "python3 assurance/endless.py", "that inputs without an end are refused as their first bytes are, within a second and 64 MB", 6, alone=True),
+    Check("endless", "python3 assurance/endless.py", "that tables, texts and earlier surveys without an end are refused as their first bytes are, within a second and 64 MB", 6, alone=True),
     Check("failures", "bash assurance/break.sh --few", "what happens where memory, a read or a write fails, on three programs", 12),
     Check("survey_failures", "python3 assurance/break_survey.py", "the same of the survey", 8),
     Check("tables", "python3 assurance/proofs.py --random 20 --damages 3", "that recheck accepts what prove wrote, and refuses what is damaged", 12),

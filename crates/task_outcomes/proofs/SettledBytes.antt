@@ -1,11 +1,13 @@
--- What is said of the bytes of a table that were read is what all of its bytes say.
+-- What is said of the bytes of a table or a text that were read is what all of its bytes say.
 use Rattle.std.specs.Prelude.{◌≡◌, ℕ, List, [], ◌++◌, Option, Some, None, IfSome}
 use Rattle.std.specs.Io.KnownBytes.{Consumes, IsAtEnd}
-use Rattle.std.proofs.Common.{ap, ◌∙◌}
-use Rattle.std.proofs.lemmas.List.{append-nil}
+use Rattle.std.proofs.Common.{ap, ◌∙◌, sym, length, take, drop, append_assoc}
+use Rattle.std.proofs.lemmas.List.{append-nil, take-append-drop}
 use Rattle.isa_model.specs.Code.Instructions.{Program}
 use Rattle.table_entries.specs.Tables.{table_read}
 use Rattle.table_entries.specs.Settled.{IsTableSettled}
+use Rattle.assembler.specs.Assembling.{assembled}
+use Rattle.assembler.specs.Settled.{IsTextSettled}
 
 abbrev pub SaysTheSame : Program → Option (List ℕ) → List ℕ → Type 0
 SaysTheSame p source bytes = IfSome source (λ held. table_read p held ≡ table_read p bytes)
@@ -22,3 +24,34 @@ all_held p None new bytes read end = tt
 all_held p (Some held) None bytes read end = absurd read
 all_held p (Some held) (Some left) bytes read end =
     ap (table_read p) (read ∙ ap (λ (l : List ℕ). bytes ++ l) end ∙ append-nil bytes)
+
+-- ---- texts
+
+abbrev pub SpellsTheSame : Option (List ℕ) → List ℕ → Type 0
+SpellsTheSame source bytes = IfSome source (λ held. assembled held ≡ assembled bytes)
+
+pub settled_text : (old new : Option (List ℕ)) (bytes : List ℕ)
+    → Consumes old new bytes → IsTextSettled bytes → SpellsTheSame old bytes
+settled_text None new bytes read settled = tt
+settled_text (Some held) None bytes read settled = absurd read
+settled_text (Some held) (Some left) bytes read settled = ap assembled read ∙ settled left
+
+pub all_text : (old new : Option (List ℕ)) (bytes : List ℕ)
+    → Consumes old new bytes → IsAtEnd new → SpellsTheSame old bytes
+all_text None new bytes read end = tt
+all_text (Some held) None bytes read end = absurd read
+all_text (Some held) (Some left) bytes read end =
+    ap assembled (read ∙ ap (λ (l : List ℕ). bytes ++ l) end ∙ append-nil bytes)
+
+-- a text whose front is settled is settled
+pub settled_front : (front bytes : List ℕ) → front ≡ take (length front) bytes
+    → IsTextSettled front → IsTextSettled bytes
+settled_front front bytes is settled more =
+    let rest = drop (length front) bytes in
+    let whole : front ++ rest ≡ bytes =
+    ap (λ (l : List ℕ). l ++ rest) is ∙ take-append-drop (length front) bytes in
+    ap (λ (l : List ℕ). assembled (l ++ more)) (sym whole)
+    ∙ ap assembled (append_assoc front rest more)
+    ∙ settled (rest ++ more)
+    ∙ sym (settled rest)
+    ∙ ap assembled whole

@@ -12,7 +12,7 @@ use super::endings::Ending;
 use super::forms::FileForm;
 use super::fronts::{Watched, read_ahead};
 use super::outcomes::TaskOutcome;
-use super::reading::{read_file, read_start};
+use super::reading::{read_start, read_text};
 use super::same::{is_output_pipe, is_same_file};
 use super::screens::Screen;
 use super::streams::{run_stream, store_image};
@@ -218,7 +218,7 @@ pub fn assemble_file<'a, R: Files, W: Write>(
     ensures { AssemblesFile paths.entry.text.now paths.entry.image.now (W.contents out.old)
         (W.contents out.new) result }
 {
-    let text = match read_file(rt, alloc, paths.text) {
+    let text = match read_text(rt, alloc, paths.text) {
         Ok(text) => text,
         Err(error) => return Ending::plain(TaskOutcome::of_read(paths.text, &error)),
     };

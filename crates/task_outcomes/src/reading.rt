@@ -1,8 +1,11 @@
-//! Reading a file: all of it, its first bytes, or as far as they decide what is said of it.
+//! Reading a file: its first bytes, or as far as they decide what is said of it.
 
-ghost use Rattle.std.specs.Prelude.{◌≡◌, IfOk, IfSome, take};
+ghost use Rattle.std.specs.Prelude.{◌≡◌, IfOk, IfSome, IsTrue, length, take};
+ghost use Rattle.assembler.specs.Assembling.{assembled};
+ghost use Rattle.assembler.specs.Settled.{IsTextSettled};
 ghost use Rattle.table_entries.specs.Tables.{table_read};
 
+use assembler::is_text_settled;
 use image::Image;
 use std::alloc::Global;
 use std::io::{ErrorKind, Read};
@@ -10,7 +13,7 @@ use std::rt::Files;
 use std::{fs, io};
 use table_entries::is_settled;
 
-// How many bytes of a table are read at a time, at most.
+// How many bytes of a table or a text are read at a time, at most.
 const PART: usize = 64 * 1024;
 
 // How many bytes of a table are looked at first: the magic and the count of entries.
@@ -61,9 +64,59 @@ fn read_settled<S: Read + Drop>(alloc: Global, image: &Image, mut source: S) -> 
     }
 }
 
-/// All bytes of a file.
-pub fn read_file<R: Files>(rt: &R, alloc: Global, path: &str) -> io::Result<Vec<u8>> {
-    read_all(alloc, fs::open(rt, path)?)
+// The lines that are whole, and of a longer one all but a part of it. So what is refused in a text
+// is followed by the rest of its line, or by so much of it that the line is not shown.
+fn whole_lines(bytes: &[u8]) -> &[u8]
+    ensures { result.now ≡ take (length result.now) bytes.now }
+{
+    let lines = match bytes.iter().rposition(|byte| *byte == b'\n') {
+        Some(at) => at + 1,
+        None => 0,
+    };
+    &bytes[..lines.max(bytes.len().saturating_sub(PART))]
+}
+
+// Whether a text that begins with these bytes is refused, and for what. If memory runs out, that is
+// not known.
+fn is_refused(alloc: Global, bytes: &[u8]) -> bool
+    ensures { IsTrue result → IsTextSettled bytes.now }
+{
+    match is_text_settled(alloc, whole_lines(bytes)) {
+        Ok(is_settled) => is_settled,
+        Err(_) => false,
+    }
+}
+
+/// The bytes of a source, which may be a program text. Once those that were read settle that it is
+/// refused, and for what, no more are read. They are looked at when there are four times as many as
+/// before.
+fn read_accepted<S: Read + Drop>(alloc: Global, mut source: S) -> io::Result<Vec<u8>>
+    ensures { IfOk result (λ bytes. IfSome (S.remaining source)
+        (λ held. assembled held ≡ assembled bytes.items)) }
+{
+    let mut text = Vec::new(alloc);
+    let mut buffer = [0; PART];
+    let mut enough = PART;
+    'parts: loop {
+        let count = source.read(&mut buffer)?;
+        if count == 0 {
+            return Ok(text);
+        }
+        if text.extend_from_slice(&buffer[..count]).is_err() {
+            return Err(io::Error::from(ErrorKind::OutOfMemory));
+        }
+        if text.len() >= enough {
+            if is_refused(alloc, text.as_slice()) {
+                return Ok(text);
+            }
+            enough = text.len().saturating_mul(4);
+        }
+    }
+}
+
+/// The bytes of a file, which may be a program text, as far as they decide what is said of it.
+pub fn read_text<R: Files>(rt: &R, alloc: Global, path: &str) -> io::Result<Vec<u8>> {
+    read_accepted(alloc, fs::open(rt, path)?)
 }
 
 /// The first bytes of a file, at most this many.
@@ -71,7 +124,8 @@ pub fn read_start<R: Files>(rt: &R, alloc: Global, path: &str, most: u64) -> io:
     read_first(alloc, fs::open(rt, path)?, most)
 }
 
-/// The bytes of a file, which may be a table of the image, as far as they decide what is said of it.
+/// The bytes of a file, which may be a table of the image, as far as they decide what is said of
+/// it.
 pub fn read_table<R: Files>(
     rt: &R,
     alloc: Global,
