@@ -249,8 +249,9 @@ rm -rf "${tree:?}/lib" "${tree:?}/include"
 if [ ${#statics[@]} -gt 0 ]; then install -m 755 "${statics[@]}" "$tree/bin"; fi
 put_library "$tree/include" "$tree/lib" "\${pcfiledir}/../.."
 rust_crate "$tree/share/xdpvm/rust"
-mkdir -p "$tree/share/xdpvm/examples/embed"
+mkdir -p "$tree/share/xdpvm/examples/embed" "$tree/share/xdpvm/examples/bridge"
 install -m 644 "$top"/examples/embed/*.{c,rs,h} "$tree/share/xdpvm/examples/embed"
+install -m 644 "$top"/examples/bridge/*.{c,h,text} "$tree/share/xdpvm/examples/bridge"
 install -m 644 "$top/CHANGELOG.md" "$top/SECURITY.md" "$tree"
 if [ -f "$top/LICENSE" ]; then install -m 644 "$top/LICENSE" "$tree"; fi
 notices > "$tree/NOTICES"
@@ -330,6 +331,7 @@ put_library "$tree/include" "$tree/lib/x86_64-linux-gnu" /usr /x86_64-linux-gnu
 rm "$tree"/lib/x86_64-linux-gnu/*.so*
 mkdir -p "$tree/share/doc/libxdpvm-dev/examples"
 install -m 644 "$top/examples/embed/"{embed.c,maps.c,fuzz.c,xdpvm.rs} "$tree/share/doc/libxdpvm-dev/examples"
+install -D -m 644 -t "$tree/share/doc/libxdpvm-dev/examples/bridge" "$top"/examples/bridge/*.{c,h,text}
 install -m 644 "$top/docs/EMBEDDING.md" "$tree/share/doc/libxdpvm-dev"
 rust_crate "$tree/share/xdpvm/rust"
 control libxdpvm-dev libdevel "libc6-dev | libc-dev" "proved verifier and virtual machine for XDP programs - library" "" > "$work/libxdpvm-dev/DEBIAN/control" << 'END'

@@ -3,8 +3,8 @@
 
 usage: python3 assurance/scripts.py
 
-A script is a file of examples/, bench/, assurance/, tests/ or tools/ that is called by itself. It has a run in the gate if .ci/run or
-.ci/prove calls it, or a script that they call does. The exit status is 1 if one has neither, or if a row names none. In the gate.
+A script is a file of examples/, bench/, assurance/, checks/, tests/ or tools/ that is called by itself. It has a run in the gate if
+.ci/run, .ci/prove or the list of checks (checks/listed.py) calls it, or a script that they call does. The exit status is 1 if one has neither, or if a row names none. In the gate.
 """
 import os
 import re
@@ -12,7 +12,7 @@ import subprocess
 import sys
 
 TOP = os.path.dirname(os.path.dirname(os.path.abspath(__file__)))
-FOLDERS = ("examples", "bench", "assurance", "tests", "tools")
+FOLDERS = ("examples", "bench", "assurance", "checks", "tests", "tools")
 ROW = re.compile(r"^\| ((?:`[\w/]+\.\w+`(?:, )?)+) \| \d{1,2} [A-Z][a-z]+ 20\d\d \|", re.M)
 
 
@@ -42,7 +42,7 @@ def scripts() -> list[str]:
 def in_gate(every: list[str]) -> set[str]:
     """The scripts that the gate calls, directly or by one that it calls."""
     found: set[str] = set()
-    waiting = [".ci/run", ".ci/prove"]
+    waiting = [".ci/run", ".ci/prove", "checks/listed.py", "checks/__main__.py"]
     while waiting:
         text = code_of(text_of(waiting.pop()))
         for path in every:

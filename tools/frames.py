@@ -59,6 +59,7 @@ ETHERNET, SLL, SLL2 = 1, 113, 276           # link types
 SECOND = 10**9
 TOO_LONG = 2**32 - 1                        # the reason of a frame that a stream cannot hold
 PIECE = 1 << 24                             # no frame and no block of a capture is longer
+MOST_TOLD = 3                               # so many frames that are too long are told one by one
 
 
 class Damaged(Exception):
@@ -133,19 +134,23 @@ def read_stream(source, counts):
 
 
 def write_stream(frames, magic, put):
-    form, lost = FORMS[magic], False
+    form, lost, too_long = FORMS[magic], False, 0
     put(magic)
     for number, frame in enumerate(frames):
         reason = [frame.reason] if magic == b"XPF2" else []
         lost = lost or (frame.reason != 0 and not reason)
-        if len(frame.body) > form.most:
-            if reason:
-                tell(f"frame {number} has {len(frame.body)} bytes, more than {form.most}: an empty one with the reason {TOO_LONG} takes its place")
-                put(struct.pack(form.head, frame.time, frame.interface, frame.queue, 0, TOO_LONG))
-            else:
-                tell(f"frame {number} is left out: it has {len(frame.body)} bytes, more than {form.most} (--reasons keeps up to {FORMS[b'XPF2'].most:,})")
-        else:
+        if len(frame.body) <= form.most:
             put(struct.pack(form.head, frame.time, frame.interface, frame.queue, len(frame.body), *reason) + frame.body)
+            continue
+        too_long += 1
+        if too_long <= MOST_TOLD and reason:
+            tell(f"frame {number} has {len(frame.body)} bytes, more than {form.most}: an empty one with the reason {TOO_LONG} takes its place")
+        elif too_long <= MOST_TOLD:
+            tell(f"frame {number} is left out: it has {len(frame.body)} bytes, more than {form.most} (--reasons keeps up to {FORMS[b'XPF2'].most:,})")
+        if reason:
+            put(struct.pack(form.head, frame.time, frame.interface, frame.queue, 0, TOO_LONG))
+    if too_long > MOST_TOLD:
+        tell(f"{too_long - MOST_TOLD:,} more frames are too long")
     if lost:
         tell("this form of frame streams has no reasons: they are lost (--reasons keeps them)")
 

@@ -22,6 +22,8 @@ examples:
 The exit status is 0 if verdicts and runs agree, 1 if not, 2 if the command is wrong, and 77 where
 bpf(2) cannot be used: it needs Linux on x86-64 and root.
 """
+from __future__ import annotations
+
 import argparse
 import ctypes
 import errno
@@ -32,6 +34,9 @@ import struct
 import subprocess
 import sys
 import tempfile
+from pathlib import Path
+from types import TracebackType
+from typing import Iterator
 
 import sources
 from inputs import named
@@ -46,20 +51,22 @@ LEAST, MOST = 14, 3520
 LOG_BYTES = 1 << 24
 TIME = 10**9  # in nanoseconds, where both are given the same
 libc = ctypes.CDLL(None, use_errno=True)
+Frame = tuple[int, bytes]  # time and body
+Entry = tuple[int, bytes, bytes]  # the index of a map, a key, its value
 
 
 class NoKernel(Exception):
     """bpf(2) cannot be used here."""
 
 
-def call(command, attributes):
+def call(command: int, attributes: bytes) -> tuple[int, bytes]:
     """bpf(2): the result, or minus the error number, and the attributes after the call."""
     room = ctypes.create_string_buffer(attributes, 144)
     result = libc.syscall(SYS_BPF, command, room, 144)
     return (result if result >= 0 else -ctypes.get_errno()), room.raw
 
 
-def without_perfmon():
+def without_perfmon() -> None:
     """This process keeps CAP_BPF, CAP_NET_ADMIN and CAP_SYS_RESOURCE, and no other capability."""
     with open("/proc/self/status") as status:
         has = int(next(it for it in status if it.startswith("CapPrm")).split()[1], 16)
@@ -73,19 +80,20 @@ def without_perfmon():
 # ---- images and frames
 
 
-def parsed(image):
+def parsed(image: bytes) -> tuple[list[tuple[int, int, int, int]], list[bytes]]:
     """The map rows and the slots of an image."""
     magic, maps, slots = struct.unpack_from("<4sHH", image)
     if magic not in (b"XBP1", b"XBP2") or len(image) != 8 + 12 * maps + 8 * slots:
         raise ValueError("this is no image")
-    rows = [struct.unpack_from("<HHII", image, 8 + 12 * k) for k in range(maps)]
+    rows: list[tuple[int, int, int, int]] = [struct.unpack_from("<HHII", image, 8 + 12 * k) for k in range(maps)]  # type: ignore[misc]
     at = 8 + 12 * maps
     return rows, [image[at + 8 * k : at + 8 * k + 8] for k in range(slots)]
 
 
-def records(stream):
+def records(stream: bytes) -> list[Frame]:
     """Time and body of each record of a frame stream without a reason."""
-    form, at, found = stream[:4], 4, []
+    form, at = stream[:4], 4
+    found: list[Frame] = []
     if form not in (b"XPF1", b"XPF2"):
         raise ValueError("this is no frame stream")
     head = 20 if form == b"XPF1" else 24
@@ -98,17 +106,17 @@ def records(stream):
     return found
 
 
-def stream_of(frames):
+def stream_of(frames: list[Frame]) -> bytes:
     """A stream with reasons of these frames, each from interface 1 and queue 0."""
     return b"XPF2" + b"".join(struct.pack("<QIIII", time, 1, 0, len(body), 0) + body for time, body in frames)
 
 
-def asks_for_time(image):
+def asks_for_time(image: bytes) -> bool:
     """Whether a program calls helper 5."""
     return with_time(image) != image
 
 
-def with_time(image):
+def with_time(image: bytes) -> bytes:
     """The image with each call of helper 5 replaced by a move of the time into r0."""
     rows, slots = parsed(image)
     wide, made = False, []
@@ -127,9 +135,11 @@ class Kernel:
     """A program in the kernel with its maps. `refusal` is None, or the log of its refusal. With `counts` an accepted one has
     the kernel's counts in its log."""
 
-    def __init__(self, image, counts=False):
+    def __init__(self, image: bytes, counts: bool = False) -> None:
         self.rows, slots = parsed(image)
-        self.files, self.refusal, self.log, self.counts = [], None, b"", counts
+        self.files: list[int] = []
+        self.refusal: str | None = None
+        self.log, self.counts = b"", counts
         try:
             self.maps = [self.made(*row) for row in self.rows]
             self.program = self.loaded(b"".join(self.linked(slots)))
@@ -137,7 +147,7 @@ class Kernel:
             self.close()
             raise
 
-    def made(self, kind, key, value, entries):
+    def made(self, kind: int, key: int, value: int, entries: int) -> int:
         result, _ = call(MAP_CREATE, struct.pack("<IIIII", kind, key, value, entries, 0))
         if result < 0:
             if result in (-errno.EPERM, -errno.ENOSYS):
@@ -146,12 +156,12 @@ class Kernel:
         self.files.append(result)
         return result
 
-    def processed(self):
+    def processed(self) -> str:
         """How many instructions the kernel's verifier processed, in words, if its log says it."""
         found = re.search(rb"processed (\d+) insns", self.log)
         return f", {int(found[1]):,} instructions processed" if found else ""
 
-    def linked(self, slots):
+    def linked(self, slots: list[bytes]) -> Iterator[bytes]:
         """The slots, with the maps' file descriptors in place of their indexes."""
         wide = False
         for slot in slots:
@@ -162,7 +172,7 @@ class Kernel:
             wide = opcode == 0x18 and not wide
             yield slot
 
-    def loaded(self, code):
+    def loaded(self, code: bytes) -> int | None:
         room, license = ctypes.create_string_buffer(code, len(code)), ctypes.create_string_buffer(b"GPL")
         words = (XDP, len(code) // 8, ctypes.addressof(room), ctypes.addressof(license))
         for level in (4 if self.counts else 0, 1):
@@ -179,7 +189,7 @@ class Kernel:
         self.refusal = last_words(self.log) or os.strerror(-result)
         return None
 
-    def run(self, body):
+    def run(self, body: bytes) -> tuple[int, bytes] | None:
         """The kernel's action for a frame, and its bytes after the run; None if it takes no such
         frame."""
         if not LEAST <= len(body) <= MOST:
@@ -192,12 +202,13 @@ class Kernel:
         answer, _, length = struct.unpack_from("<III", after, 4)
         return answer, taken.raw[:length]
 
-    def entries(self):
+    def entries(self) -> list[Entry]:
         """The key-value pairs of each map, as `xdpvm run` reports them: (index, key, value)."""
-        found = []
+        found: list[Entry] = []
         for index, (row, file) in enumerate(zip(self.rows, self.maps)):
             _, size, room, _ = row
-            key, value = None, ctypes.create_string_buffer(room)
+            key: ctypes.Array[ctypes.c_char] | None = None
+            value = ctypes.create_string_buffer(room)
             after = ctypes.create_string_buffer(size)
             keys = []
             while True:
@@ -213,19 +224,19 @@ class Kernel:
                 found.append((index, it, value.raw))
         return sorted(found) if all(row[0] == 1 for row in self.rows) else found
 
-    def close(self):
+    def close(self) -> None:
         for file in self.files:
             os.close(file)
         self.files = []
 
-    def __enter__(self):
+    def __enter__(self) -> "Kernel":
         return self
 
-    def __exit__(self, *_):
+    def __exit__(self, kind: type[BaseException] | None, why: BaseException | None, where: TracebackType | None) -> None:
         self.close()
 
 
-def last_words(log):
+def last_words(log: bytes) -> str:
     """The line of a verifier log that says why: the last one before its counts."""
     loop = re.search(rb"infinite loop detected at insn \d+", log)
     if loop:
@@ -242,15 +253,17 @@ def last_words(log):
 class Ran:
     """What `xdpvm` says of an image: its verdict, and the report and the frames after a run."""
 
-    def __init__(self, program, image, frames):
+    def __init__(self, program: str, image: str | Path, frames: list[Frame] | None) -> None:
         verdict = subprocess.run([program, "verify", image], capture_output=True, text=True)
         self.verdict = verdict.stdout.strip() or verdict.stderr.strip()
         self.accepted = verdict.returncode == 0
-        self.rows, self.bodies, self.entries = [], [], []
+        self.rows: list[list[str]] = []
+        self.bodies: list[bytes] = []
+        self.entries: list[Entry] = []
         if self.accepted and frames is not None:
             self.run(program, image, frames)
 
-    def run(self, program, image, frames):
+    def run(self, program: str, image: str | Path, frames: list[Frame]) -> None:
         with tempfile.TemporaryDirectory() as folder:
             given, sent = f"{folder}/in", f"{folder}/out"
             with open(given, "wb") as file:
@@ -267,9 +280,10 @@ class Ran:
         self.bodies = bodies
 
 
-def whole(stream):
+def whole(stream: bytes) -> list[Frame]:
     """Time and body of each record of a stream with reasons."""
-    at, found = 4, []
+    at = 4
+    found: list[Frame] = []
     while at < len(stream):
         time, _, _, length, _ = struct.unpack_from("<QIIII", stream, at)
         found.append((time, stream[at + 24 : at + 24 + length]))
@@ -277,13 +291,14 @@ def whole(stream):
     return found
 
 
-def action_of(answer):
+def action_of(answer: int) -> str:
     return ACTIONS[answer] if answer < len(ACTIONS) else "INVALID"
 
 
-def differences(kernel, ran, frames):
+def differences(kernel: Kernel, ran: Ran, frames: list[Frame]) -> tuple[list[str], int]:
     """Where the runs differ, a line each; and how many frames were run by both."""
-    found, both = [], 0
+    found: list[str] = []
+    both = 0
     if len(ran.rows) != len(frames) or len(ran.bodies) != len(frames):
         return [f"xdpvm ran {len(ran.rows)} frames of {len(frames)}"], 0
     for number, ((_, body), row, after) in enumerate(zip(frames, ran.rows, ran.bodies)):
@@ -306,7 +321,7 @@ def differences(kernel, ran, frames):
 # ---- the command
 
 
-def frames_in(path):
+def frames_in(path: str) -> tuple[list[Frame], int]:
     """The frames of a stream or a capture that fit the kernel's test run, and how many were left out."""
     with open(path, "rb") as file:
         content = file.read()
@@ -322,7 +337,7 @@ def frames_in(path):
     return fit, len(found) - len(fit)
 
 
-def arguments():
+def arguments() -> argparse.Namespace:
     words = sys.argv[1:]
     parser = argparse.ArgumentParser(description=named(__doc__ or ""), formatter_class=argparse.RawDescriptionHelpFormatter,
                                      usage=named(__doc__ or "").split("usage: ")[1].split("\n\n")[0])
@@ -340,7 +355,7 @@ def arguments():
     return given
 
 
-def compared(given, folder):
+def compared(given: argparse.Namespace, folder: str) -> int:
     """Prints how both judge and run the filter; the status."""
     choice = sources.Choice(given.xdpvm, given.section, given.program, given.clang, given.flags, given.btf)
     path, _ = sources.image_of(given.filter, choice, folder)
@@ -373,7 +388,7 @@ def compared(given, folder):
     return 1 if found else 0
 
 
-def main():
+def main() -> int:
     given = arguments()
     if not shutil.which(given.xdpvm):
         print(f"kernel.py: there is no program {given.xdpvm}", file=sys.stderr)

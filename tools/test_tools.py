@@ -90,6 +90,12 @@ class Frames(unittest.TestCase):
         kept = frames_in(written(frames.write_second_form, [long, short]))[0]
         self.assertEqual([(it.body, it.reason) for it in kept], [(b"", 2**32 - 1), (b"\1", 0)])
 
+    def test_many_frames_that_are_too_long_are_counted(self):
+        for write in (frames.write_first_form, frames.write_second_form):
+            self.said.clear()
+            written(write, [frames.Frame(1, 0, 0, bytes(9217))] * 2003)
+            self.assertEqual((len(self.said), self.said[-1]), (4, "2,000 more frames are too long"))
+
     def test_any_interface(self):
         head = struct.pack(">HHIHBB8s", 0x0800, 0, 7, 1, 0, 6, b"\2\0\0\0\0\1\0\0")
         data = struct.pack("<IHHiIII", 0xa1b2c3d4, 2, 4, 0, 0, 65535, frames.SLL2) + struct.pack("<IIII", 1, 2, 23, 23) + head + b"abc"

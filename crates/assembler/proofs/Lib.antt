@@ -25,3 +25,4 @@ pub mod SpellsRefusals
 pub mod SpellsRegisters
 pub mod SpellsTexts
 pub mod SpellsTokens
+pub mod SettledTexts

@@ -1,8 +1,9 @@
 -- Statements with more tokens than any form has are refused, whatever their other tokens are.
-use Rattle.std.proofs.Common.{◌≡◌, ℕ, zero, suc, ◌+◌, ◌-◌, ◌<◌, ◌≤◌, length, take, drop, List, [], ◌∷◌, ◌++◌, refl, sym, ap, ap₂, ◌∙◌, inl, inr, ◌⊎◌, arith}
+use Rattle.std.proofs.Common.{◌≡◌, ℕ, zero, suc, ◌+◌, ◌-◌, ◌<◌, ◌≤◌, length, take, drop, List, [], ◌∷◌, ◌++◌, refl, sym, ap, ap₂, ◌∙◌, inl, inr, arith}
 use Rattle.std.proofs.lemmas.Bool.{lt-ltb}
+use Rattle.std.proofs.Math.Seq.{take-append_seam}
 use Rattle.std.proofs.lemmas.List.{length-drop, length-append, length-map, length-take-le}
-use Rattle.std.specs.Prelude.{Bool, Option, Some, None, Result, Ok, Err, true, false, ◌==◌, ◌&&◌, ◌||◌, if◌then◌else◌, is_ok, map, slice_get, nat_lt, ℤ}
+use Rattle.std.specs.Prelude.{Bool, Option, Result, Ok, Err, true, false, ◌==◌, ◌&&◌, ◌||◌, if◌then◌else◌, is_ok, map, slice_get, nat_lt, ℤ}
 use Rattle.isa_model.specs.declared.sizes.Width.{Width}
 use Rattle.isa_model.specs.declared.instructions.Operand.{Operand}
 use Rattle.isa_model.specs.declared.instructions.Operand.TheVariants.{Constant, Register}
@@ -19,7 +20,7 @@ use Rattle.assembler.specs.declared.readings.Statement.TheVariants.{Empty, Row, 
 use Rattle.assembler.specs.declared.readings.Reading.{Reading}
 use Rattle.assembler.specs.declared.wrong.Wrong.{Wrong}
 use Rattle.assembler.specs.declared.wrong.Wrong.TheVariants.{Form, Range}
-use Rattle.assembler.specs.Operands.{◌>>=◌, keep, number_at, word_at, as_map_type, field_at}
+use Rattle.assembler.specs.Operands.{◌>>=◌, number_at, word_at, as_map_type, field_at}
 use Rattle.assembler.specs.Statements.{reading_of, map_line}
 use Rattle.assembler.specs.Labelled.{begins_map_line, begins_version_line, version_number, version_line, spelled, spelled_behind, fits_form, zeroed, has_form, is_label, label_length}
 use Rattle.assembler.specs.Spells.{SpellsConstant, IsWide, IsOperand, IsTarget, Spells}
@@ -239,6 +240,19 @@ pushed-shortened s t span = of (nat_lt 16 (length s.tokens)) refl where
       → shortened (pushed (if b then cut s else s) t span) ≡ shortened (pushed s t span)
   of true e = pushed-cut s t span (lt-of s e)
   of false e = refl
+
+take_full : {A : Type 0} (xs ys : List A) → length xs ≡ 16 → take 16 (xs ++ ys) ≡ xs
+take_full xs ys e = ap (λ n. take n (xs ++ ys)) (sym e) ∙ take-append_seam xs ys
+
+-- one more token of a statement of which as many are kept as a label and a form have
+pub pushed-full : (s : ReadSoFar) (t : Token) (span : TokenSpan) → length s.tokens ≡ 16
+    → length s.spans ≡ 16 → shortened (pushed s t span) ≡ s
+pushed-full s t span tokens spans =
+    let one : length (s.tokens ++ t ∷ []) ≡ length s.tokens + 1 =
+    length-append s.tokens (t ∷ []) in
+    shortened-long (pushed s t span) (omega (arith, one, tokens))
+    ∙ ap₂ (λ (ts : List Token) (xs : List TokenSpan). with_statement s ts xs)
+    (take_full s.tokens (t ∷ []) tokens) (take_full s.spans (span ∷ []) spans)
 
 abbrev GoesOn : List ℕ → Type 0
 GoesOn bs = (k at : ℕ) (s : ReadSoFar) → read_on bs k at (shortened s) ≡ read_on bs k at s

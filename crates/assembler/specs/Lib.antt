@@ -11,3 +11,4 @@ pub mod Messages
 pub mod Spells
 pub mod Hints
 pub mod Shown
+pub mod Settled

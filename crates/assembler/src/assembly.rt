@@ -17,8 +17,8 @@ use isa_model::{Insn, MapDef, Version};
 use lexer::lexeme_at;
 use std::alloc::Global;
 
-// The bytes without the first `count`, or without the first one if `count` is 0.
-fn after(bytes: &[u8], count: usize) -> &[u8]
+/// The bytes without the first `count`, or without the first one if `count` is 0.
+pub fn after(bytes: &[u8], count: usize) -> &[u8]
     requires { 0 < length bytes.now }
     ensures value { result.now ≡ drop (count - 1) (drop 1 bytes.now) }
     ensures less { length result.now < length bytes.now }

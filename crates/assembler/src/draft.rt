@@ -1,6 +1,6 @@
 //! A program while its text is read.
 
-ghost use Rattle.std.specs.Prelude.{◌≡◌, ◌==◌, ◌≤◌, if◌then◌else◌, length, map, drop, slice_get, Ok, IfErr, OnOk};
+ghost use Rattle.std.specs.Prelude.{◌≡◌, ◌==◌, ◌≤◌, if◌then◌else◌, length, map, drop, slice_get, Ok, IfErr, IsTrue, OnOk};
 ghost use Rattle.lexer.specs.declared.tokens.Lexeme.TheVariants as Lexeme;
 ghost use Rattle.assembler.specs.declared.errors.AsmErrorKind.TheVariants as AsmErrorKind;
 ghost use Rattle.assembler.specs.declared.readings.Statement.TheVariants as Statement;
@@ -92,6 +92,9 @@ impl<'a> Draft<'a> {
             (λ e. e.offset
             ≡ offset_or (slice_get (map span_of self.old.spans.items) 0) span.entry.offset) }
     {
+        if self.is_full() {
+            return Ok(());
+        }
         let offset = self.offset_of(0, span.offset);
         match (self.spans.push(span), self.tokens.push(token)) {
             (Ok(()), Ok(())) => {
@@ -103,6 +106,14 @@ impl<'a> Draft<'a> {
                 offset,
             }),
         }
+    }
+
+    // Whether as many tokens are kept as can matter.
+    fn is_full(&self) -> bool
+        ensures { IsTrue result → (length self.now.tokens.items ≡ MOST_TOKENS)
+            × (length self.now.spans.items ≡ MOST_TOKENS) }
+    {
+        self.tokens.len() == MOST_TOKENS && self.spans.len() == MOST_TOKENS
     }
 
     // Keeps the first tokens only.

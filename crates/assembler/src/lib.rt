@@ -19,10 +19,12 @@ mod operands;
 mod parts;
 mod readings;
 mod refusals;
+mod settling;
 mod showing;
 mod statements;
 mod wrong;
 
 pub use assembly::assemble;
 pub use errors::{AsmError, AsmErrorKind};
+pub use settling::is_text_settled;
 pub use showing::shown;

@@ -5,6 +5,7 @@ use Rattle.isa_model.specs.declared.streams.Fault.TheVariants.{BadMagic, Truncat
 use Rattle.isa_model.specs.Reporting.Streams.{ByEnd, stream_of}
 use Rattle.bounds.specs.Bounds.{Bounded}
 use Rattle.host.specs.declared.tallies.Tally.{Tally}
+use Rattle.frames.specs.Sources.{in_memory}
 use Rattle.host.specs.Accepted.{RunsWhole}
 use Rattle.command_calls.specs.declared.streaming.Streamed.{Streamed}
 use Rattle.verdict_calls.specs.Crossing.{filled}
@@ -44,7 +45,7 @@ IsReadWell tally = (offset : ℕ) → tally.fault ≢ Some (ReadFailed, offset)
 -- a run of an accepted program over a stream of these bytes writes this report and these frames
 -- out, and returns this tally; it is the stream of all these bytes, to their end
 pub record WritesStream (a : Bounded) (source report sent : List ℕ) (tally : Tally) : Type 0 where
-  pub runs : RunsWhole a (Some source) (record { report = Some []; sent = Some [] })
+  pub runs : RunsWhole a (in_memory source) (record { report = Some []; sent = Some [] })
       (record { report = Some report; sent = Some sent }) (Ok tally)
   pub all : runs.found ≡ stream_of (record { bytes = source; ending = ByEnd })
   pub no_failure : IsReadWell tally

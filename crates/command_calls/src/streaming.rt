@@ -1,11 +1,12 @@
 //! The call that runs an accepted program over a frame stream.
 
-ghost use Rattle.std.specs.Prelude.{◌≡◌, ◌≢◌, IfSome, false};
+ghost use Rattle.std.specs.Prelude.{◌≡◌, ◌≢◌, IfSome};
 ghost use Rattle.verdict_calls.specs.Crossing.{IsVerdictStatus};
 ghost use Rattle.verdict_calls.specs.Verdicts.{IsRefusedImage};
-ghost use Rattle.command_calls.specs.Streams.{IsReadWell, WritesStream, RunsStream, fault_number, streamed_of};
+ghost use Rattle.command_calls.specs.Streams.{WritesStream, RunsStream, fault_number, streamed_of};
 
 use bounds::Verified;
+use frames::InMemory;
 use host::{Tally, run};
 use isa_model::Fault;
 use std::alloc::Global;
@@ -66,33 +67,20 @@ struct Written {
     tally: Tally,
 }
 
-// Whether a read failed.
-fn has_failed(tally: &Tally) -> bool
-    ensures { result ≡ false → IsReadWell tally.now }
-{
-    matches!(tally.fault, Some((Fault::ReadFailed, _)))
-}
-
-// The report and the frames out of a run over a stream. None: memory ran out. A read of bytes in
-// memory never fails; that `run`, which takes any source, returns no such fault of them is tested
-// here, since no clause of it says so.
+// The report and the frames out of a run over a stream. None: memory ran out.
 fn stream_written(alloc: Global, verified: Verified, stream: &[u8]) -> Option<Written>
     ensures { IfSome result (λ w. WritesStream verified stream.now
         w.report.items w.sent.items w.tally) }
 {
     let mut report = Vec::new(alloc);
     let mut sent = Vec::new(alloc);
-    match run(alloc, verified, stream, &mut report, &mut sent) {
-        Ok(tally) => {
-            if has_failed(&tally) {
-                return None;
-            }
-            Some(Written {
-                report,
-                sent,
-                tally,
-            })
-        }
+    let source = InMemory { bytes: stream };
+    match run(alloc, verified, source, &mut report, &mut sent) {
+        Ok(tally) => Some(Written {
+            report,
+            sent,
+            tally,
+        }),
         Err(_) => None,
     }
 }

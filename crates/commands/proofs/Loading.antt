@@ -10,6 +10,7 @@ use Rattle.rechecking.specs.Refusing.{ShowsBound}
 use Rattle.stack_state.specs.Starts.{start}
 use Rattle.walks.specs.Accepting.{BoundsAll}
 use Rattle.walks.specs.Counts.{HasNumber}
+use Rattle.frames.specs.Sources.{Origin}
 use Rattle.task_outcomes.specs.declared.rejections.Rejection.TheVariants as rejection
 use Rattle.task_outcomes.specs.declared.forms.FileForm.{FileForm}
 use Rattle.task_outcomes.specs.declared.outcomes.TaskOutcome.{TaskOutcome}
@@ -80,7 +81,8 @@ trace_unopened files limit old new p o r e h failed same none =
 
 -- in the outputs, `sent` is the frames out, whose file is `files.out`; `files.frames` is read
 pub image_traced : (files : RunFiles) (limit : ℕ)
-    (old mid new before after source : Option (List ℕ)) (form : FileForm) (cause : Option ErrorKind)
+    (old mid new before after : Option (List ℕ)) (source : Origin) (form : FileForm)
+    (cause : Option ErrorKind)
     (p : Program) (r : Ending) → mid ≡ old → IsImage p
     → Traces p limit source form files.out cause (record { report = mid; sent = before })
     (record { report = new; sent = after }) r → TracesFile files limit old new r

@@ -3,6 +3,7 @@ use Rattle.std.specs.Prelude.{◌≡◌, ℕ, List, Option, Some, None, ◌⊎�
 use Rattle.std.specs.declared.io.ErrorKind.{ErrorKind}
 use Rattle.isa_model.specs.{Program}
 use Rattle.bounds.specs.Bounds.{Bounded}
+use Rattle.frames.specs.Sources.{Origin}
 use Rattle.task_outcomes.specs.declared.forms.FileForm.{FileForm}
 use Rattle.task_outcomes.specs.declared.outcomes.TaskOutcome.{TaskOutcome}
 use Rattle.task_outcomes.specs.declared.endings.Ending.{Ending}
@@ -40,7 +41,7 @@ ShowsSome P = (v : Bounded) × IsShown v × P v
 -- written to the file at the path
 pub record TracesSome (p : Program) (limit : ℕ) (out : List ℕ) (old new : Option (List ℕ))
     (result : Ending) : Type 0 where
-  pub source : Option (List ℕ)
+  pub source : Origin
   pub form : FileForm
   pub before : Option (List ℕ)
   pub after : Option (List ℕ)

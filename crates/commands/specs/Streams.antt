@@ -4,6 +4,7 @@ use Rattle.std.specs.declared.alloc.Global.{Global}
 use Rattle.std.specs.declared.io.ErrorKind.{ErrorKind}
 use Rattle.isa_model.specs.{Program}
 use Rattle.isa_model.specs.Reporting.Reports.{checked_report}
+use Rattle.frames.specs.Sources.{Origin}
 use Rattle.host.specs.declared.errors.HostError.{HostError}
 use Rattle.host.specs.declared.errors.HostError.TheVariants as failure
 use Rattle.host.specs.declared.traced.Traced.{Traced}
@@ -21,7 +22,7 @@ use Rattle.commands.specs.Stopped.{TellsStopsOf, at_end}
 -- known.
 -- If the file of the frames out failed, `cause` is why, and the message says it. The message also
 -- says where runs stopped that ended without an action.
-pub record Traces (p : Program) (limit : ℕ) (source : Option (List ℕ)) (form : FileForm)
+pub record Traces (p : Program) (limit : ℕ) (source : Origin) (form : FileForm)
     (path : List ℕ) (cause : Option ErrorKind) (old new : Outputs) (result : Ending) : Type 0 where
   pub ended : Result Traced HostError
   pub handed : Option (List ℕ)

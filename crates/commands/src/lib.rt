@@ -15,4 +15,6 @@ mod verdicts;
 
 pub use executing::{execute, execute_given};
 pub use requests::serve;
-pub use task_outcomes::{Ending, FileForm, Rejection, TaskOutcome, buffered, is_unwatched};
+pub use task_outcomes::{
+    Ending, FileForm, Rejection, TaskOutcome, buffered, is_pipe, is_unwatched, piped,
+};

@@ -5,10 +5,11 @@ ghost use Rattle.exact_io.specs.Waiting.{behind, failure_of, held};
 
 use super::stopped::{at_end, lines_of_stops};
 use exact_io::PromptWriter;
+use frames::Source;
 use host::{run_checked, tally_in};
 use image::Image;
 use std::alloc::Global;
-use std::io::{Read, Write};
+use std::io::Write;
 use task_outcomes::{Ending, FileForm, outcome_of};
 use words::StepLimit;
 
@@ -16,7 +17,7 @@ use words::StepLimit;
 /// to `out` as it is made, and the frames out through a buffer to a file that was opened by this
 /// path. If the report was completed, `why` says where the first runs stopped that ended without
 /// an action.
-pub fn trace_stream<'a, R: Read + Drop, W1: Write, W2: Write + Drop>(
+pub fn trace_stream<'a, R: Source + Drop, W1: Write, W2: Write + Drop>(
     alloc: Global,
     image: Image,
     limit: StepLimit,
@@ -26,7 +27,8 @@ pub fn trace_stream<'a, R: Read + Drop, W1: Write, W2: Write + Drop>(
     out: &mut W1,
     file: &mut PromptWriter<W2>,
 ) -> Ending<'a>
-    ensures { Traces image limit.steps (R.remaining source) form path.now (failure_of file.new)
+    ensures { Traces image limit.steps
+        record { bytes = R.remaining source; may_fail = R.may_fail } form path.now (failure_of file.new)
         record { report = W1.contents out.old; sent = held W2.contents file.old }
         record { report = W1.contents out.new; sent = W2.contents (behind file.new) } result }
 {

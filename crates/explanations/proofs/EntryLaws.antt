@@ -41,15 +41,50 @@ mismatches_of t number index e a entry None there same less h = tt
 mismatches_of t number index e a entry (Some Missing) there same less h = absurd h.0
 mismatches_of t number index e a entry (Some (NotSmaller other)) there same less h = absurd h.0
 mismatches_of t number index e a entry (Some Slot) there same less h =
-    record { entry = entry; there = there; state_is = same; smaller = less; differs = h.0; inside = h.1 }
+    record {
+      entry = entry;
+      there = there;
+      state_is = same;
+      smaller = less;
+      differs = h.0;
+      inside = h.1;
+    }
 mismatches_of t number index e a entry (Some Frames) there same less h =
-    record { entry = entry; there = there; state_is = same; smaller = less; differs = h.0; inside = h.1 }
+    record {
+      entry = entry;
+      there = there;
+      state_is = same;
+      smaller = less;
+      differs = h.0;
+      inside = h.1;
+    }
 mismatches_of t number index e a entry (Some (Returns frame)) there same less h =
-    record { entry = entry; there = there; state_is = same; smaller = less; differs = h.0; inside = h.1 }
+    record {
+      entry = entry;
+      there = there;
+      state_is = same;
+      smaller = less;
+      differs = h.0;
+      inside = h.1;
+    }
 mismatches_of t number index e a entry (Some (Register frame register)) there same less h =
-    record { entry = entry; there = there; state_is = same; smaller = less; differs = h.0; inside = h.1 }
+    record {
+      entry = entry;
+      there = there;
+      state_is = same;
+      smaller = less;
+      differs = h.0;
+      inside = h.1;
+    }
 mismatches_of t number index e a entry (Some (Stack frame slot)) there same less h =
-    record { entry = entry; there = there; state_is = same; smaller = less; differs = h.0; inside = h.1 }
+    record {
+      entry = entry;
+      there = there;
+      state_is = same;
+      smaller = less;
+      differs = h.0;
+      inside = h.1;
+    }
 
 -- ---- successors
 

@@ -142,8 +142,12 @@ fn leave_out_of_all(proved: ProvedBytes, kinds: &mut [Kind])
 
 fn leave_out_of_slot(proved: ProvedBytes, index: usize, stack: &mut StackState)
     requires { index < frame_slots }
-    ensures { map (with_spilled (proved_kind proved.identity proved.bytes)) stack.new.slots
-        ≡ map (with_spilled (proved_kind proved.identity proved.bytes)) stack.old.slots }
+    ensures same { with_spilled (proved_kind proved.identity proved.bytes)
+        (slot_at stack.new.slots index)
+        ≡ with_spilled (proved_kind proved.identity proved.bytes)
+        (slot_at stack.old.slots index) }
+    ensures others { stack.new.slots
+        ≡ slice_set stack.old.slots index (slot_at stack.new.slots index) }
 {
     let StackSlot::Spilled(kind) = &stack.slots()[index] else {
         return;

@@ -1,5 +1,5 @@
 -- What a call finds, by the bytes that it read from its source.
-use Rattle.std.proofs.Common.{◌≡◌, ◌≢◌, ℕ, ◌<◌, ◌≤◌, ◌^◌, List, [], ◌∷◌, ◌++◌, length, take, nat_eq, false, Option, None, Some, Ok, Err, refl, arith, sym, ap, ◌∙◌, append-nil, append_assoc, length-append, subst, inl, inr}
+use Rattle.std.proofs.Common.{◌≡◌, ◌≢◌, ℕ, ◌<◌, ◌≤◌, ◌^◌, List, [], ◌∷◌, ◌++◌, length, take, nat_eq, Bool, true, false, Option, None, Some, Ok, Err, refl, arith, sym, ap, ◌∙◌, append-nil, append_assoc, length-append, subst, inl, inr}
 use Rattle.std.specs.Prelude.{All}
 use Rattle.std.proofs.lemmas.List.{length-take-le, take_at}
 use Rattle.std.proofs.lemmas.Cmp.{nat_list_eq_equiv}
@@ -70,11 +70,11 @@ magic_read None new v buffer is p = tt
 magic_read (Some bytes) None v buffer is p = absurd p
 magic_read (Some bytes) (Some rest) v buffer is p = p ∙ ap (λ l. l ++ rest) is
 
-pub may_be_short : MayOpen (Err BadMagic)
-may_be_short = ([], ByEnd, opened-short [] ByEnd (omega arith))
+pub may_be_short : (may_fail : Bool) → MayOpen may_fail (Err BadMagic)
+may_be_short may_fail = ([], ByEnd, opened-short [] ByEnd (omega arith), tt)
 
-pub may_fail : MayOpen (Err ReadFailed)
-may_fail = ([], ByError, opened-short [] ByError (omega arith))
+pub may_be_unread : (may_fail : Bool) → may_fail ≡ true → MayOpen may_fail (Err ReadFailed)
+may_be_unread may_fail fails = ([], ByError, opened-short [] ByError (omega arith), fails)
 
 -- ---- a record
 
@@ -233,60 +233,72 @@ can_be_whole v number body after head n reason few size short all time interface
 
 -- ---- where a stream may stop
 
-pub can_end : (v : Version) (number offset : ℕ) → CanStop (At v number offset) finish.End
+pub can_end : (may_fail : Bool) (v : Version) (number offset : ℕ)
+    → CanStop may_fail (At v number offset) finish.End
 unfolding stop_at
-can_end v number offset = record { bytes = []; ending = ByEnd; stops = refl }
+can_end may_fail v number offset =
+    record { bytes = []; ending = ByEnd; stops = refl; may_end = tt }
 
-pub can_fail : (v : Version) (number offset : ℕ)
-    → CanStop (At v number offset) (finish.Fault ReadFailed offset)
-can_fail v number offset =
-    record { bytes = []; ending = ByError; stops = stop_at-nothing_read v number offset }
+pub can_fail : (may_fail : Bool) (v : Version) (number offset : ℕ) → may_fail ≡ true
+    → CanStop may_fail (At v number offset) (finish.Fault ReadFailed offset)
+can_fail may_fail v number offset fails = record {
+  bytes = [];
+  ending = ByError;
+  stops = stop_at-nothing_read v number offset;
+  may_end = fails;
+}
 
-pub can_be_many : (v : Version) (number offset : ℕ) → number ≡ max_frames
-    → CanStop (At v number offset) (finish.Fault TooManyRecords offset)
-can_be_many v number offset last =
+pub can_be_many : (may_fail : Bool) (v : Version) (number offset : ℕ) → number ≡ max_frames
+    → CanStop may_fail (At v number offset) (finish.Fault TooManyRecords offset)
+can_be_many may_fail v number offset last =
     rw last record {
       bytes = 0
           ∷ [];
       ending = ByEnd;
       stops = stop_at-many v offset (0 ∷ []) ByEnd (omega arith);
+      may_end = tt;
     }
 
-pub can_be_cut : (v : Version) (number offset : ℕ) → number ≢ max_frames
-    → CanStop (At v number offset) (finish.Fault TruncatedHead offset)
-can_be_cut v number offset early =
+pub can_be_cut : (may_fail : Bool) (v : Version) (number offset : ℕ) → number ≢ max_frames
+    → CanStop may_fail (At v number offset) (finish.Fault TruncatedHead offset)
+can_be_cut may_fail v number offset early =
     record {
       bytes = 0
           ∷ [];
       ending = ByEnd;
       stops = stop_at-cut v number offset (0 ∷ []) ByEnd early (omega arith)
           (let some = some_head v in omega arith);
+      may_end = tt;
     }
 
-pub can_be_long : (v : Version) (number offset : ℕ) (front : List ℕ) → number ≢ max_frames
-    → length front ≡ head_size v → max_body v < length_field front
-    → CanStop (At v number offset) (finish.Fault TooLong offset)
-can_be_long v number offset front early size long =
+pub can_be_long : (may_fail : Bool) (v : Version) (number offset : ℕ) (front : List ℕ)
+    → number ≢ max_frames → length front ≡ head_size v → max_body v < length_field front
+    → CanStop may_fail (At v number offset) (finish.Fault TooLong offset)
+can_be_long may_fail v number offset front early size long =
     record {
       bytes = front;
       ending = ByEnd;
       stops = stop_at-long v number offset front ByEnd early
           (omega arith) long;
+      may_end = tt;
     }
 
-pub can_lack_body : (v : Version) (number offset : ℕ) (front : List ℕ) (n : ℕ) (buffer : List ℕ)
-    → number ≢ max_frames → length front ≡ head_size v → length_field front ≤ max_body v
-    → length buffer ≡ length_field front → n < length buffer
-    → CanStop (At v number offset) (finish.Fault TruncatedBody offset)
-can_lack_body v number offset front n buffer early size short room less = record {
+pub can_lack_body : (may_fail : Bool) (v : Version) (number offset : ℕ) (front : List ℕ) (n : ℕ)
+    (buffer : List ℕ) → number ≢ max_frames → length front ≡ head_size v
+    → length_field front ≤ max_body v → length buffer ≡ length_field front → n < length buffer
+    → CanStop may_fail (At v number offset) (finish.Fault TruncatedBody offset)
+can_lack_body may_fail v number offset front n buffer early size short room less = record {
   bytes = front ++ [];
   ending = ByEnd;
   stops = part_of_record v number offset front [] ByEnd early size short (omega arith);
+  may_end = tt;
 }
 
 -- a reader that is done stops as it did
-pub can_stay_done : (version : Version) (stop : Finish) → CanStop (Done version stop) stop
-can_stay_done version stop = record { bytes = []; ending = ByEnd; stops = refl }
+pub can_stay_done : (may_fail : Bool) (version : Version) (stop : Finish)
+    → CanStop may_fail (Done version stop) stop
+can_stay_done may_fail version stop =
+    record { bytes = []; ending = ByEnd; stops = refl; may_end = tt }
 
 -- ---- a call
 

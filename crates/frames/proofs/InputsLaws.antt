@@ -1,5 +1,5 @@
 -- Laws of the definitions in specs/Inputs.
-use Rattle.std.proofs.Common.{◌≡◌, ℕ, ◌+◌, ◌<◌, length, arith, ◌++◌, ◌∷◌, List, [], Option, Some, None, Result, Ok, Err, refl, sym, ap, ◌∙◌, subst, append_assoc, append-nil, length-append, ◌⊎◌, inl, inr}
+use Rattle.std.proofs.Common.{◌≡◌, ℕ, ◌+◌, ◌<◌, length, arith, ◌++◌, ◌∷◌, List, [], Bool, true, false, Option, Some, None, Result, Ok, Err, refl, sym, ap, ◌∙◌, subst, append_assoc, append-nil, length-append, ◌⊎◌, inl, inr}
 use Rattle.std.specs.Io.KnownBytes.{Consumes}
 use Rattle.std.proofs.KnownBytes.{Consumes-trans}
 use Rattle.std.proofs.lemmas.Grind.{flat_map-append}
@@ -13,8 +13,10 @@ use Rattle.isa_model.specs.Code.Versions.{stream_magic}
 use Rattle.isa_model.specs.Reporting.Streams.{PacketFrame, IsPacketFrame, Input, InputEnding, ByEnd, ByError, max_frames, record_bytes, records_bytes, record_size, opened, stop_at, Stream, stream_with, stream_of, AreOpen, stream_bytes}
 use Rattle.isa_model.proofs.StreamLaws.{AreOpen-nil, AreOpen-push, size-record_bytes, offset_after, stream_of-stops, stream_of-unopened}
 use Rattle.frames.specs.Readers.{Position, Fresh, At, Done}
-use Rattle.frames.specs.Reading.{ReadsMagic, MayOpen, OpensStream, position_opened, begun_at, Found, Stopped, StopsReading, FindsNext, IsOpen, CanStop, next_position, Finds}
-use Rattle.frames.specs.Inputs.{AreReadFrom, IsBegunBy, IsBegunVersion}
+use Rattle.frames.specs.Reading.{ReadsMagic, MayOpen, OpensStream, position_opened, begun_at, Found, Stopped, StopsReading, FindsNext, IsOpen, CanStop, MayEnd, next_position, Finds}
+use Rattle.frames.specs.Sources.{Origin, in_memory}
+use Rattle.frames.specs.Inputs.{IsReadFrom, AreReadFrom, IsBegunBy, IsBegunVersion}
+use Rattle.frames.proofs.Stopping.{stop_at-sound, opened-sound}
 
 -- Packet frames of a stream of this version were found by a reader that was fresh at first. Its
 -- source had the bytes `old` then, and has `known` now.
@@ -41,10 +43,15 @@ HasFound-opened v old known r =
 abbrev pub unopened : Fault → Stream
 unopened fault = stream_with One ([], finish.Fault fault 0)
 
-unopened_read : (bytes read unread : List ℕ) (e : InputEnding) (fault : Fault)
+-- a source of which contracts know the bytes, or not, and whose reads may fail, or not
+abbrev origin : Bool → Option (List ℕ) → Origin
+origin may_fail bytes = record { bytes = bytes; may_fail = may_fail }
+
+unopened_read : (may_fail : Bool) (bytes read unread : List ℕ) (e : InputEnding) (fault : Fault)
     → bytes ≡ read ++ unread → (e ≡ ByEnd → unread ≡ []) → (e ≡ ByError → fault ≡ ReadFailed)
-    → opened read e ≡ Err fault → AreReadFrom (Some bytes) (unopened fault)
-unopened_read bytes read unread e fault split all error h =
+    → opened read e ≡ Err fault → MayEnd may_fail e
+    → AreReadFrom (origin may_fail (Some bytes)) (unopened fault)
+unopened_read may_fail bytes read unread e fault split all error h may =
     let input : Input = record { bytes = read; ending = e } in
     let same : stream_of input ≡ unopened fault = stream_of-unopened input fault h in
     record {
@@ -56,32 +63,48 @@ unopened_read bytes read unread e fault split all error h =
         error =
             λ by. (0, ap (λ (t : Stream). t.finish) same ∙ ap (λ f. finish.Fault f 0) (error by));
       };
+      may_end = may;
       stream = same;
     }
 
-unopened_all : (bytes : List ℕ) (fault : Fault) → opened bytes ByEnd ≡ Err fault
-    → AreReadFrom (Some bytes) (unopened fault)
-unopened_all bytes fault h =
-    unopened_read bytes bytes [] ByEnd fault (sym (append-nil bytes)) (λ _. refl) (λ e. cc) h
+-- only a source whose reads may fail has this fault instead of the magic
+fails_to_open : (may_fail : Bool) (bytes : List ℕ) (e : InputEnding)
+    → opened bytes e ≡ Err ReadFailed → MayEnd may_fail e → may_fail ≡ true
+fails_to_open may_fail bytes ByEnd h may = absurd (opened-sound bytes h)
+fails_to_open may_fail bytes ByError h may = may
 
-unopened_error : (bytes : List ℕ) (new : Option (List ℕ))
-    → ReadsMagic (Some bytes) new (Err ReadFailed) → AreReadFrom (Some bytes) (unopened ReadFailed)
-unopened_error bytes None h = absurd h.1
-unopened_error bytes (Some rest) h =
-    unopened_read bytes h.0 rest ByError ReadFailed h.1 (λ e. cc) (λ _. refl) h.2
+unopened_all : (may_fail : Bool) (bytes : List ℕ) (fault : Fault) → opened bytes ByEnd ≡ Err fault
+    → AreReadFrom (origin may_fail (Some bytes)) (unopened fault)
+unopened_all may_fail bytes fault h =
+    unopened_read may_fail bytes bytes [] ByEnd fault (sym (append-nil bytes)) (λ _. refl)
+    (λ e. cc) h tt
+
+unopened_error : (may_fail : Bool) (bytes : List ℕ) (new : Option (List ℕ))
+    → ReadsMagic (Some bytes) new (Err ReadFailed) → may_fail ≡ true
+    → AreReadFrom (origin may_fail (Some bytes)) (unopened ReadFailed)
+unopened_error may_fail bytes None h fails = absurd h.1
+unopened_error may_fail bytes (Some rest) h fails =
+    unopened_read may_fail bytes h.0 rest ByError ReadFailed h.1 (λ e. cc) (λ _. refl) h.2 fails
 
 -- where no magic can be read, that fault was read
-pub unopened_from : (old new : Option (List ℕ)) (fault : Fault) → ReadsMagic old new (Err fault)
-    → MayOpen (Err fault) → AreReadFrom old (unopened fault)
-unopened_from None new fault r may =
+pub unopened_from : (may_fail : Bool) (old new : Option (List ℕ)) (fault : Fault)
+    → ReadsMagic old new (Err fault)
+    → MayOpen may_fail (Err fault) → AreReadFrom (origin may_fail old) (unopened fault)
+unopened_from m None new fault r may =
     let input : Input = record { bytes = may.0; ending = may.1 } in
-    record { input = input; from_source = tt; stream = stream_of-unopened input fault may.2 }
-unopened_from (Some bytes) new BadMagic r may = unopened_all bytes BadMagic r
-unopened_from (Some bytes) new TruncatedHead r may = unopened_all bytes TruncatedHead r
-unopened_from (Some bytes) new TooLong r may = unopened_all bytes TooLong r
-unopened_from (Some bytes) new TruncatedBody r may = unopened_all bytes TruncatedBody r
-unopened_from (Some bytes) new ReadFailed r may = unopened_error bytes new r
-unopened_from (Some bytes) new TooManyRecords r may = unopened_all bytes TooManyRecords r
+    record {
+      input = input;
+      from_source = tt;
+      may_end = may.3;
+      stream = stream_of-unopened input fault may.2;
+    }
+unopened_from m (Some bytes) new BadMagic r may = unopened_all m bytes BadMagic r
+unopened_from m (Some bytes) new TruncatedHead r may = unopened_all m bytes TruncatedHead r
+unopened_from m (Some bytes) new TooLong r may = unopened_all m bytes TooLong r
+unopened_from m (Some bytes) new TruncatedBody r may = unopened_all m bytes TruncatedBody r
+unopened_from m (Some bytes) new ReadFailed r may =
+    unopened_error m bytes new r (fails_to_open m may.0 may.1 may.2 may.3)
+unopened_from m (Some bytes) new TooManyRecords r may = unopened_all m bytes TooManyRecords r
 
 -- a source has lost the bytes of a record that was found
 Consumes-found : (v : Version) (number offset : ℕ) (old new : Option (List ℕ)) (f : PacketFrame)
@@ -144,7 +167,8 @@ left_of v frames bytes None h = absurd h
 left_of v frames bytes (Some rest) h = (rest, refl, h)
 
 -- what was read from the rest of a source where the stream stops
-record ReadsStop (v : Version) (number offset : ℕ) (rest : List ℕ) (stop : Finish) : Type 0 where
+record ReadsStop (may_fail : Bool) (v : Version) (number offset : ℕ) (rest : List ℕ)
+    (stop : Finish) : Type 0 where
   read : List ℕ
   unread : List ℕ
   ending : InputEnding
@@ -152,10 +176,11 @@ record ReadsStop (v : Version) (number offset : ℕ) (rest : List ℕ) (stop : F
   all : ending ≡ ByEnd → unread ≡ []
   error : ending ≡ ByError → (at : ℕ) × (stop ≡ finish.Fault ReadFailed at)
   stops : stop_at v number offset read ending ≡ Some stop
+  may_end : MayEnd may_fail ending
 
-whole_stop : (v : Version) (number offset : ℕ) (rest : List ℕ) (stop : Finish)
-    → stop_at v number offset rest ByEnd ≡ Some stop → ReadsStop v number offset rest stop
-whole_stop v number offset rest stop h =
+whole_stop : (m : Bool) (v : Version) (number offset : ℕ) (rest : List ℕ) (stop : Finish)
+    → stop_at v number offset rest ByEnd ≡ Some stop → ReadsStop m v number offset rest stop
+whole_stop m v number offset rest stop h =
     record {
       read = rest;
       unread = [];
@@ -164,13 +189,24 @@ whole_stop v number offset rest stop h =
       all = λ _. refl;
       error = λ e. cc;
       stops = h;
+      may_end = tt;
     }
 
-read_error : (v : Version) (number offset : ℕ) (rest : List ℕ) (new : Option (List ℕ)) (at : ℕ)
-    → StopsReading (At v number offset) rest new (finish.Fault ReadFailed at)
-    → ReadsStop v number offset rest (finish.Fault ReadFailed at)
-read_error v number offset rest None at h = absurd h.1
-read_error v number offset rest (Some left) at h =
+-- only a source whose reads may fail has this fault where a record may begin
+fails_to_read : (may_fail : Bool) (v : Version) (number offset : ℕ) (bytes : List ℕ)
+    (e : InputEnding) (at : ℕ)
+    → stop_at v number offset bytes e ≡ Some (finish.Fault ReadFailed at) → MayEnd may_fail e
+    → may_fail ≡ true
+fails_to_read may_fail v number offset bytes ByEnd at h may =
+    absurd (stop_at-sound v number offset bytes at h)
+fails_to_read may_fail v number offset bytes ByError at h may = may
+
+read_error : (m : Bool) (v : Version) (number offset : ℕ) (rest : List ℕ) (new : Option (List ℕ))
+    (at : ℕ) → StopsReading (At v number offset) rest new (finish.Fault ReadFailed at)
+    → CanStop m (At v number offset) (finish.Fault ReadFailed at)
+    → ReadsStop m v number offset rest (finish.Fault ReadFailed at)
+read_error m v number offset rest None at h can = absurd h.1
+read_error m v number offset rest (Some left) at h can =
     record {
       read = h.0;
       unread = left;
@@ -180,24 +216,26 @@ read_error v number offset rest (Some left) at h =
       error = λ _.
           (at, refl);
       stops = h.2;
+      may_end = fails_to_read m v number offset can.bytes can.ending at can.stops can.may_end;
     }
 
-read_stop : (v : Version) (number offset : ℕ) (rest : List ℕ) (new : Option (List ℕ))
+read_stop : (m : Bool) (v : Version) (number offset : ℕ) (rest : List ℕ) (new : Option (List ℕ))
     (stop : Finish) → StopsReading (At v number offset) rest new stop
-    → ReadsStop v number offset rest stop
-read_stop v number offset rest new finish.End h = whole_stop v number offset rest finish.End h
-read_stop v number offset rest new (finish.Fault BadMagic o) h =
-    whole_stop v number offset rest (finish.Fault BadMagic o) h
-read_stop v number offset rest new (finish.Fault TruncatedHead o) h =
-    whole_stop v number offset rest (finish.Fault TruncatedHead o) h
-read_stop v number offset rest new (finish.Fault TooLong o) h =
-    whole_stop v number offset rest (finish.Fault TooLong o) h
-read_stop v number offset rest new (finish.Fault TruncatedBody o) h =
-    whole_stop v number offset rest (finish.Fault TruncatedBody o) h
-read_stop v number offset rest new (finish.Fault ReadFailed o) h =
-    read_error v number offset rest new o h
-read_stop v number offset rest new (finish.Fault TooManyRecords o) h =
-    whole_stop v number offset rest (finish.Fault TooManyRecords o) h
+    → CanStop m (At v number offset) stop → ReadsStop m v number offset rest stop
+read_stop m v number offset rest new finish.End h can =
+    whole_stop m v number offset rest finish.End h
+read_stop m v number offset rest new (finish.Fault BadMagic o) h can =
+    whole_stop m v number offset rest (finish.Fault BadMagic o) h
+read_stop m v number offset rest new (finish.Fault TruncatedHead o) h can =
+    whole_stop m v number offset rest (finish.Fault TruncatedHead o) h
+read_stop m v number offset rest new (finish.Fault TooLong o) h can =
+    whole_stop m v number offset rest (finish.Fault TooLong o) h
+read_stop m v number offset rest new (finish.Fault TruncatedBody o) h can =
+    whole_stop m v number offset rest (finish.Fault TruncatedBody o) h
+read_stop m v number offset rest new (finish.Fault ReadFailed o) h can =
+    read_error m v number offset rest new o h can
+read_stop m v number offset rest new (finish.Fault TooManyRecords o) h can =
+    whole_stop m v number offset rest (finish.Fault TooManyRecords o) h
 
 -- the input that begins with these frames
 abbrev input_of : Version → List PacketFrame → List ℕ → InputEnding → Input
@@ -205,26 +243,28 @@ input_of v frames rest e =
     record { bytes = stream_magic v ++ (records_bytes v frames ++ rest); ending = e }
 
 -- where the reader stops, the frames that it found and that end or fault were read
-pub HasFound-stops : (v : Version) (frames : List PacketFrame) (old known new : Option (List ℕ))
+pub HasFound-stops : (m : Bool) (v : Version) (frames : List PacketFrame)
+    (old known new : Option (List ℕ))
     (p : Position) (stop : Finish) → HasFound v frames old known p
     → FindsNext p known new (Stopped stop)
-    → CanStop p stop → AreReadFrom old (stream_with v (frames, stop))
-HasFound-stops v frames None known new p stop s r can =
-    let h : CanStop (At v (length frames) (offset_after v frames)) stop =
-    subst (λ (x : Position). CanStop x stop) s.position_is can in
+    → CanStop m p stop → AreReadFrom (origin m old) (stream_with v (frames, stop))
+HasFound-stops m v frames None known new p stop s r can =
+    let h : CanStop m (At v (length frames) (offset_after v frames)) stop =
+    subst (λ (x : Position). CanStop m x stop) s.position_is can in
     record {
       input = input_of v frames h.bytes h.ending;
       from_source = tt;
+      may_end = h.may_end;
       stream = stream_of-stops v frames h.bytes h.ending stop s.are_open h.stops;
     }
-HasFound-stops v frames (Some bytes) known new p stop s r can =
+HasFound-stops m v frames (Some bytes) known new p stop s r can =
     let number = length frames in
     let offset = offset_after v frames in
     let (rest, is_known, split) = left_of v frames bytes known s.lost in
     let there = subst (λ (x : Position). FindsNext x known new (Stopped stop)) s.position_is r in
-    let h = read_stop v number offset rest new stop
+    let h = read_stop m v number offset rest new stop
     (subst (λ (k : Option (List ℕ)). FindsNext (At v number offset) k new (Stopped stop))
-    is_known there) in
+    is_known there) (subst (λ (x : Position). CanStop m x stop) s.position_is can) in
     let same : stream_of (input_of v frames h.read h.ending) ≡ stream_with v (frames, stop) =
     stream_of-stops v frames h.read h.ending stop s.are_open h.stops in
     record {
@@ -238,70 +278,73 @@ HasFound-stops v frames (Some bytes) known new p stop s r can =
         all = h.all;
         error = λ e. ((h.error e).0, ap (λ (t : Stream). t.finish) same ∙ (h.error e).1);
       };
+      may_end = h.may_end;
       stream = same;
     }
 
 -- where nothing more is read, the source begins with the frames that were found
-pub HasFound-begins : (v : Version) (frames : List PacketFrame) (old known : Option (List ℕ))
-    (p : Position) → HasFound v frames old known p → IsBegunBy old v frames
-HasFound-begins v frames None known p s = tt
-HasFound-begins v frames (Some bytes) known p s =
+pub HasFound-begins : (m : Bool) (v : Version) (frames : List PacketFrame)
+    (old known : Option (List ℕ))
+    (p : Position) → HasFound v frames old known p → IsBegunBy (origin m old) v frames
+HasFound-begins m v frames None known p s = tt
+HasFound-begins m v frames (Some bytes) known p s =
     let (rest, is_known, split) = left_of v frames bytes known s.lost in (rest, split)
 
 -- No magic could be read: the stream counts as one of version 1, it has no frames, and the reader
 -- is done.
-pub record IsUnopened (v : Version) (frames : List PacketFrame) (old : Option (List ℕ))
+pub record IsUnopened (v : Version) (frames : List PacketFrame) (source : Origin)
     (position : Position) : Type 0 where
   pub fault : Fault
   pub first : v ≡ One
   pub none : frames ≡ []
   pub position_is : position ≡ Done One (finish.Fault fault 0)
-  pub read : AreReadFrom old (unopened fault)
+  pub read : AreReadFrom source (unopened fault)
 
 -- the reader has read the magic of this version and then these frames, or it found no magic
-abbrev pub HasBegun : Version → List PacketFrame → Option (List ℕ) → Option (List ℕ) → Position
-    → Type 0
-HasBegun v frames old known position =
-    HasFound v frames old known position ⊎ IsUnopened v frames old position
+abbrev pub HasBegun : Version → List PacketFrame → Origin → Option (List ℕ) → Position → Type 0
+HasBegun v frames source known position =
+    HasFound v frames source.bytes known position ⊎ IsUnopened v frames source position
 
 -- a fresh reader has begun when the magic is read
-pub HasBegun-opens : (v : Version) (old new : Option (List ℕ)) (after : Position)
-    → OpensStream Fresh old new after → IsBegunVersion (begun_at after) v
-    → HasBegun v [] old new after
-HasBegun-opens v old new after opens is = go opens.0 opens.1 opens.2 opens.3
+pub HasBegun-opens : (v : Version) (source : Origin) (new : Option (List ℕ)) (after : Position)
+    → OpensStream source.may_fail Fresh source.bytes new after → IsBegunVersion (begun_at after) v
+    → HasBegun v [] source new after
+HasBegun-opens v source new after opens is = go opens.0 opens.1 opens.2 opens.3
   where
-    go : (magic : Result Version Fault) → ReadsMagic old new magic → MayOpen magic
-        → after ≡ position_opened magic → HasBegun v [] old new after
+    go : (magic : Result Version Fault) → ReadsMagic source.bytes new magic
+        → MayOpen source.may_fail magic
+        → after ≡ position_opened magic → HasBegun v [] source new after
     go (Ok w) reads may position_is =
         let told = subst (λ (x : Position). IsBegunVersion (begun_at x) v) position_is is in
         let same : v ≡ w = told w refl in
-        inl (subst (λ (x : Position). HasFound v [] old new x)
+        inl (subst (λ (x : Position). HasFound v [] source.bytes new x)
         (ap (λ (x : Version). At x 0 4) same ∙ sym position_is)
-        (HasFound-opened v old new
-        (subst (λ (x : Version). ReadsMagic old new (Ok x)) (sym same) reads)))
+        (HasFound-opened v source.bytes new
+        (subst (λ (x : Version). ReadsMagic source.bytes new (Ok x)) (sym same) reads)))
     go (Err fault) reads may position_is = inr (record {
       fault = fault;
       first = subst (λ (x : Position). IsBegunVersion (begun_at x) v) position_is is;
       none = refl;
       position_is = position_is;
-      read = unopened_from old new fault reads may;
+      read = unopened_from source.may_fail source.bytes new fault reads may;
     })
 
 -- these frames are allowed in the stream
-pub HasBegun-open : (v : Version) (frames : List PacketFrame) (old known : Option (List ℕ))
-    (p : Position) → HasBegun v frames old known p → AreOpen v frames
-HasBegun-open v frames old known p (inl s) = s.are_open
-HasBegun-open v frames old known p (inr u) = subst (AreOpen v) (sym u.none) (AreOpen-nil v)
+pub HasBegun-open : (v : Version) (frames : List PacketFrame) (source : Origin)
+    (known : Option (List ℕ)) (p : Position) → HasBegun v frames source known p → AreOpen v frames
+HasBegun-open v frames source known p (inl s) = s.are_open
+HasBegun-open v frames source known p (inr u) = subst (AreOpen v) (sym u.none) (AreOpen-nil v)
 
 -- a call that finds one more frame, for which there is room
-pub HasBegun-found : (v : Version) (frames : List PacketFrame) (old known new : Option (List ℕ))
-    (p q : Position) (f : PacketFrame) → HasBegun v frames old known p
-    → Finds p known new q (Found f)
-    → HasFound v (frames ++ f ∷ []) old new q × (length frames < max_frames) × IsPacketFrame v f
-HasBegun-found v frames old known new p q f (inl s) h =
+pub HasBegun-found : (v : Version) (frames : List PacketFrame) (source : Origin)
+    (known new : Option (List ℕ)) (p q : Position) (f : PacketFrame)
+    → HasBegun v frames source known p → Finds source.may_fail p known new q (Found f)
+    → HasFound v (frames ++ f ∷ []) source.bytes new q × (length frames < max_frames)
+    × IsPacketFrame v f
+HasBegun-found v frames source known new p q f (inl s) h =
     let here = At v (length frames) (offset_after v frames) in
     let (begun_is, left_is) = subst
-    (λ (x : Position). OpensStream x known h.left h.begun) s.position_is h.opens in
+    (λ (x : Position). OpensStream source.may_fail x known h.left h.begun) s.position_is h.opens in
     let begun : h.begun ≡ p = begun_is ∙ sym s.position_is in
     let open_here = subst (λ (x : Position). IsOpen x f) begun h.room in
     let reads = subst (λ (k : Option (List ℕ)). FindsNext p k new (Found f)) left_is
@@ -309,38 +352,58 @@ HasBegun-found v frames old known new p q f (inl s) h =
     let may = subst (λ (x : Position). IsOpen x f) s.position_is open_here in
     let moved : q ≡ next_position p (Found f) =
     h.position_is ∙ ap (λ (x : Position). next_position x (Found f)) begun in (
-      subst (HasFound v (frames ++ f ∷ []) old new) (sym moved)
-          (HasFound-next v frames old known new p f s reads open_here),
+      subst (HasFound v (frames ++ f ∷ []) source.bytes new) (sym moved)
+          (HasFound-next v frames source.bytes known new p f s reads open_here),
       may.0,
       may.1,
     )
-HasBegun-found v frames old known new p q f (inr u) h =
+HasBegun-found v frames source known new p q f (inr u) h =
     let (begun_is, left_is) = subst
-    (λ (x : Position). OpensStream x known h.left h.begun) u.position_is h.opens in
+    (λ (x : Position). OpensStream source.may_fail x known h.left h.begun) u.position_is h.opens in
     absurd (subst (λ (x : Position). IsOpen x f) begun_is h.room)
 
 -- what a reader that is done finds
-done_stops : (v : Version) (stop found : Finish) → CanStop (Done v stop) found → stop ≡ found
-done_stops v stop found can = let h : Some stop ≡ Some found = can.stops in cc
+done_stops : (m : Bool) (v : Version) (stop found : Finish) → CanStop m (Done v stop) found
+    → stop ≡ found
+done_stops m v stop found can = let h : Some stop ≡ Some found = can.stops in cc
 
 -- a call that finds the end or a fault: the frames that were found and that end or fault were read
-pub HasBegun-stopped : (v : Version) (frames : List PacketFrame) (old known new : Option (List ℕ))
-    (p q : Position) (stop : Finish) → HasBegun v frames old known p
-    → Finds p known new q (Stopped stop)
-    → AreReadFrom old (stream_with v (frames, stop))
-HasBegun-stopped v frames old known new p q stop (inl s) h =
+pub HasBegun-stopped : (v : Version) (frames : List PacketFrame) (source : Origin)
+    (known new : Option (List ℕ)) (p q : Position) (stop : Finish)
+    → HasBegun v frames source known p → Finds source.may_fail p known new q (Stopped stop)
+    → AreReadFrom source (stream_with v (frames, stop))
+HasBegun-stopped v frames source known new p q stop (inl s) h =
     let (begun_is, left_is) = subst
-    (λ (x : Position). OpensStream x known h.left h.begun) s.position_is h.opens in
+    (λ (x : Position). OpensStream source.may_fail x known h.left h.begun) s.position_is h.opens in
     let begun : h.begun ≡ p = begun_is ∙ sym s.position_is in
     let reads = subst (λ (k : Option (List ℕ)). FindsNext p k new (Stopped stop)) left_is
     (subst (λ (x : Position). FindsNext x h.left new (Stopped stop)) begun h.reads) in
-    HasFound-stops v frames old known new p stop s reads
-    (subst (λ (x : Position). CanStop x stop) begun h.room)
-HasBegun-stopped v frames old known new p q stop (inr u) h =
+    HasFound-stops source.may_fail v frames source.bytes known new p stop s reads
+    (subst (λ (x : Position). CanStop source.may_fail x stop) begun h.room)
+HasBegun-stopped v frames source known new p q stop (inr u) h =
     let (begun_is, left_is) = subst
-    (λ (x : Position). OpensStream x known h.left h.begun) u.position_is h.opens in
-    let same = done_stops One (finish.Fault u.fault 0) stop
-    (subst (λ (x : Position). CanStop x stop) begun_is h.room) in
+    (λ (x : Position). OpensStream source.may_fail x known h.left h.begun) u.position_is h.opens in
+    let same = done_stops source.may_fail One (finish.Fault u.fault 0) stop
+    (subst (λ (x : Position). CanStop source.may_fail x stop) begun_is h.room) in
     let whole : unopened u.fault ≡ stream_with v (frames, stop) =
     rw (u.first, u.none, ← same) refl in
-    subst (AreReadFrom old) whole u.read
+    subst (AreReadFrom source) whole u.read
+
+-- ---- a source that never fails
+
+-- the stream that was read from bytes in memory is the stream of all these bytes
+pub AreReadFrom-in_memory : (bytes : List ℕ) (found : Stream)
+    → AreReadFrom (in_memory bytes) found
+    → found ≡ stream_of (record { bytes = bytes; ending = ByEnd })
+AreReadFrom-in_memory bytes found read =
+    sym read.stream ∙ whole read.input.bytes read.input.ending read.from_source read.may_end
+  where
+    whole : (given : List ℕ) (e : InputEnding)
+        → IsReadFrom bytes (record { bytes = given; ending = e }) → MayEnd false e
+        → stream_of (record { bytes = given; ending = e })
+        ≡ stream_of (record { bytes = bytes; ending = ByEnd })
+    whole given ByEnd h may =
+        let same : given ≡ bytes =
+        sym (h.split ∙ ap (λ (l : List ℕ). given ++ l) (h.all refl) ∙ append-nil given) in
+        ap (λ (b : List ℕ). stream_of (record { bytes = b; ending = ByEnd })) same
+    whole given ByError h may = absurd cc

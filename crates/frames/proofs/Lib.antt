@@ -3,3 +3,4 @@ pub mod Parts
 pub mod Stopping
 pub mod Findings
 pub mod InputsLaws
+pub mod BuffersLaws

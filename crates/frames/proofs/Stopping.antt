@@ -1,15 +1,17 @@
 -- Why some bytes are no record, and why some are no magic.
-use Rattle.std.proofs.Common.{◌≡◌, ◌≢◌, ℕ, ◌+◌, ◌<◌, ◌≤◌, List, [], ◌∷◌, ◌++◌, length, nat_eq, nat_lt, false, Some, Err, refl, arith, le-ltb}
+use Rattle.std.proofs.Common.{◌≡◌, ◌≢◌, ℕ, zero, suc, ◌+◌, ◌<◌, ◌≤◌, List, [], ◌∷◌, ◌++◌, length, drop, ap, ◌∙◌, nat_eq, nat_lt, ◌==◌, Bool, true, false, if◌then◌else◌, Some, None, Option, Ok, Err, Result, refl, arith, le-ltb}
 use Rattle.std.proofs.lemmas.List.{get_or_append_left}
 use Rattle.std.proofs.lemmas.Bool.Decides.{nat_tests}
 use Rattle.isa_model.specs.declared.streams.Fault.TheVariants.{BadMagic, TruncatedHead, TooLong, TruncatedBody, ReadFailed, TooManyRecords}
+use Rattle.isa_model.specs.declared.streams.Fault.{Fault}
+use Rattle.isa_model.specs.declared.streams.Finish.{Finish}
 use Rattle.isa_model.specs.declared.streams.Finish.TheVariants as finish
 use Rattle.std.specs.List.{starts_with}
 use Rattle.isa_model.specs.declared.versions.Version.{Version}
 use Rattle.isa_model.specs.declared.versions.Version.TheVariants.{One, Two}
 use Rattle.isa_model.specs.Code.Versions.{stream_magic, head_size}
 use Rattle.isa_model.specs.Code.Limits.{max_body}
-use Rattle.isa_model.specs.Reporting.Streams.{max_frames, cut_by, length_field, InputEnding, ByError, opened, stop_at}
+use Rattle.isa_model.specs.Reporting.Streams.{PacketFrame, max_frames, cut_by, length_field, InputEnding, ByEnd, ByError, opened, stop_at, packet_frame_of, record_size, frames_from, stream_opened, stream_of}
 use Rattle.isa_model.proofs.StreamLaws.{some_head}
 
 -- a part of a head
@@ -83,3 +85,82 @@ pub opened-other : (bytes : List ℕ) (e : InputEnding) → 4 ≤ length bytes
 unfolding opened
 opened-other bytes e h p q =
     let long : nat_lt (length bytes) 4 ≡ false = le-ltb _ _ h in rw (long, p, q) refl
+
+-- ---- where the input ends without an error
+
+no_read_error : (many short long cut : Bool) (offset at : ℕ)
+    → (if many then Some (finish.Fault TooManyRecords offset)
+    else if short then Some (finish.Fault TruncatedHead offset)
+    else if long then Some (finish.Fault TooLong offset)
+    else if cut then Some (finish.Fault TruncatedBody offset)
+    else None) ≡ Some (finish.Fault ReadFailed at) → ⊥
+no_read_error true short long cut offset at h = absurd cc
+no_read_error false true long cut offset at h = absurd cc
+no_read_error false false true cut offset at h = absurd cc
+no_read_error false false false true offset at h = absurd cc
+no_read_error false false false false offset at h = absurd cc
+
+-- no read fails before the end of the bytes
+pub stop_at-sound : (v : Version) (number offset : ℕ) (bytes : List ℕ) (at : ℕ)
+    → stop_at v number offset bytes ByEnd ≡ Some (finish.Fault ReadFailed at) → ⊥
+unfolding stop_at
+stop_at-sound v number offset [] at h = absurd cc
+stop_at-sound v number offset (b ∷ bytes) at h =
+    let all = b ∷ bytes in
+    no_read_error (number == max_frames) (nat_lt (length all) (head_size v))
+    (nat_lt (max_body v) (length_field all))
+    (nat_lt (length all) (head_size v + length_field all)) offset at h
+
+no_magic_error : (short one two : Bool)
+    → (if short then Err BadMagic else if one then Ok One else if two then Ok Two
+    else Err BadMagic) ≡ Err ReadFailed → ⊥
+no_magic_error true one two h = absurd cc
+no_magic_error false true two h = absurd cc
+no_magic_error false false true h = absurd cc
+no_magic_error false false false h = absurd cc
+
+pub opened-sound : (bytes : List ℕ) → opened bytes ByEnd ≡ Err ReadFailed → ⊥
+unfolding opened
+opened-sound bytes h =
+    no_magic_error (nat_lt (length bytes) 4)
+    (starts_with nat_eq bytes (stream_magic One))
+    (starts_with nat_eq bytes (stream_magic Two)) h
+
+no_read_error_from : (fuel : ℕ) (v : Version) (number offset : ℕ) (bytes : List ℕ) (at : ℕ)
+    → (frames_from fuel v number offset bytes ByEnd).1 ≡ finish.Fault ReadFailed at → ⊥
+unfolding frames_from
+no_read_error_from zero v number offset bytes at h = absurd cc
+no_read_error_from (suc fuel) v number offset bytes at h =
+    let size = record_size v (packet_frame_of v bytes) in
+    go (no_read_error_from fuel v (number + 1) (offset + size) (drop size bytes) at)
+    (stop_at v number offset bytes ByEnd) refl h
+  where
+    go : ((frames_from fuel v (number + 1) (offset + record_size v (packet_frame_of v bytes))
+        (drop (record_size v (packet_frame_of v bytes)) bytes) ByEnd).1
+        ≡ finish.Fault ReadFailed at → ⊥)
+        → (found : Option Finish) → stop_at v number offset bytes ByEnd ≡ found
+        → (let f = packet_frame_of v bytes in
+        let size = record_size v f in
+        let more = frames_from fuel v (number + 1) (offset + size) (drop size bytes) ByEnd in
+        let all : List PacketFrame × Finish = elim found [
+          | Some stop ↦ ([], stop)
+          | None ↦ (f ∷ more.0, more.1)
+        ] in
+        all.1 ≡ finish.Fault ReadFailed at) → ⊥
+    go later (Some stop) is k =
+        stop_at-sound v number offset bytes at (is ∙ ap (λ (s : Finish). Some s) k)
+    go later None is k = later k
+
+-- the stream of these bytes has no read that failed
+pub stream_of-sound : (bytes : List ℕ) (at : ℕ)
+    → (stream_of (record { bytes = bytes; ending = ByEnd })).finish ≡ finish.Fault ReadFailed at → ⊥
+stream_of-sound bytes at h = go (opened bytes ByEnd) refl h
+  where
+    go : (magic : Result Version Fault) → opened bytes ByEnd ≡ magic
+        → (stream_opened (record { bytes = bytes; ending = ByEnd }) magic).finish
+        ≡ finish.Fault ReadFailed at → ⊥
+    go (Ok v) is k =
+        no_read_error_from (suc (length bytes)) v 0 4 (drop 4 bytes) at k
+    go (Err fault) is k =
+        let failed : fault ≡ ReadFailed = cc in
+        opened-sound bytes (is ∙ ap (λ (f : Fault). Err f) failed)

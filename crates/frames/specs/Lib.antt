@@ -1,3 +1,5 @@
+pub mod Sources
+pub mod Buffers
 pub mod Readers
 pub mod Stages
 pub mod Reading

@@ -1,5 +1,5 @@
 -- What the calls of a frame reader find, and what they do to the bytes that its source has left.
-use Rattle.std.specs.Prelude.{◌≡◌, ℕ, ◌+◌, ◌<◌, ◌≤◌, List, ◌++◌, take, Option, Some, None, Result, Ok, Err}
+use Rattle.std.specs.Prelude.{◌≡◌, ℕ, ◌+◌, ◌<◌, ◌≤◌, Bool, true, List, ◌++◌, take, Option, Some, None, Result, Ok, Err}
 use Rattle.std.specs.Io.KnownBytes.{Consumes}
 use Rattle.isa_model.specs.declared.streams.Fault.{Fault}
 use Rattle.isa_model.specs.declared.streams.Fault.TheVariants.{BadMagic, ReadFailed}
@@ -32,18 +32,27 @@ ReadsMagic (Some bytes) new (Err fault) = opened bytes ByEnd ≡ Err fault
 ReadsMagic (Some bytes) None (Ok version) = ⊥
 ReadsMagic (Some bytes) (Some rest) (Ok version) = bytes ≡ stream_magic version ++ rest
 
--- there are bytes and an ending of them with this fault instead of the magic
-abbrev pub MayOpen : Result Version Fault → Type 0
-MayOpen (Ok version) = Unit {0}
-MayOpen (Err fault) = (bytes : List ℕ) × (ending : InputEnding) × (opened bytes ending ≡ Err fault)
+-- an input ends by an error only if a read of its source may fail
+abbrev pub MayEnd : Bool → InputEnding → Type 0
+MayEnd may_fail ByEnd = Unit {0}
+MayEnd may_fail ByError = may_fail ≡ true
+
+-- there are bytes and an ending of them that the source may have, with this fault instead of the
+-- magic
+abbrev pub MayOpen : Bool → Result Version Fault → Type 0
+MayOpen may_fail (Ok version) = Unit {0}
+MayOpen may_fail (Err fault) = (bytes : List ℕ) × (ending : InputEnding)
+    × (opened bytes ending ≡ Err fault) × MayEnd may_fail ending
 
 -- the magic is read once: a reader after it reads nothing and stays there
-abbrev pub OpensStream : Position → Option (List ℕ) → Option (List ℕ) → Position → Type 0
-OpensStream Fresh old new after = (magic : Result Version Fault) × ReadsMagic old new magic
-    × MayOpen magic × (after ≡ position_opened magic)
-OpensStream (At version number offset) old new after =
+abbrev pub OpensStream : Bool → Position → Option (List ℕ) → Option (List ℕ) → Position → Type 0
+OpensStream may_fail Fresh old new after =
+    (magic : Result Version Fault) × ReadsMagic old new magic
+    × MayOpen may_fail magic × (after ≡ position_opened magic)
+OpensStream may_fail (At version number offset) old new after =
     (after ≡ At version number offset) × (new ≡ old)
-OpensStream (Done version stop) old new after = (after ≡ Done version stop) × (new ≡ old)
+OpensStream may_fail (Done version stop) old new after =
+    (after ≡ Done version stop) × (new ≡ old)
 
 -- the version of the stream that is read, or the fault that ended it
 abbrev pub begun_at : Position → Result ℕ (Fault × ℕ)
@@ -111,26 +120,28 @@ abbrev pub IsOpen : Position → PacketFrame → Type 0
 IsOpen (At version number offset) f = (number < max_frames) × IsPacketFrame version f
 IsOpen position f = ⊥
 
--- there are bytes and an ending of them with which a stream stops at the position as `stop` says
-pub record CanStop (position : Position) (stop : Finish) : Type 0 where
+-- there are bytes and an ending of them that the source may have, with which a stream stops at the
+-- position as `stop` says
+pub record CanStop (may_fail : Bool) (position : Position) (stop : Finish) : Type 0 where
   pub bytes : List ℕ
   pub ending : InputEnding
   pub stops : stop_from position bytes ending ≡ Some stop
+  pub may_end : MayEnd may_fail ending
 
 -- the position allows what is found: the record, or the end or fault of the stream
-abbrev pub HasRoom : Position → Finding → Type 0
-HasRoom position (Found f) = IsOpen position f
-HasRoom position (Stopped stop) = CanStop position stop
+abbrev pub HasRoom : Bool → Position → Finding → Type 0
+HasRoom may_fail position (Found f) = IsOpen position f
+HasRoom may_fail position (Stopped stop) = CanStop may_fail position stop
 
 -- What a call of `next` finds, and where it leaves the reader. The magic is read first, if it was
 -- not read before.
-pub record Finds (before : Position) (old new : Option (List ℕ)) (after : Position)
-    (finding : Finding) : Type 0 where
+pub record Finds (may_fail : Bool) (before : Position) (old new : Option (List ℕ))
+    (after : Position) (finding : Finding) : Type 0 where
   pub begun : Position
   pub left : Option (List ℕ)
-  pub opens : OpensStream before old left begun
+  pub opens : OpensStream may_fail before old left begun
   pub reads : FindsNext begun left new finding
-  pub room : HasRoom begun finding
+  pub room : HasRoom may_fail begun finding
   pub position_is : after ≡ next_position begun finding
 
 -- a body fits the buffer

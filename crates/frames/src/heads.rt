@@ -1,6 +1,6 @@
 //! The bytes before a record's body: u64 time, u32 interface, u32 queue, u32 length of the body,
 //! and in `XPF2` u32 reason.
-ghost use Rattle.std.specs.Prelude.{◌≡◌, length};
+ghost use Rattle.std.specs.Prelude.{◌≡◌, ◌+◌, ◌≤◌, true, length};
 ghost use Rattle.isa_model.specs.declared.versions.Version.TheVariants.{One, Two};
 ghost use Rattle.isa_model.specs.Code.Versions.{head_size};
 ghost use Rattle.isa_model.specs.Reporting.Streams.{head_bytes, length_field, ReasonFits};
@@ -26,6 +26,18 @@ pub fn decode_head(version: Version, bytes: &[u8]) -> (FrameHead, u32, u32)
         Version::One => (head, length, 0),
         Version::Two => (head, length, LittleEndian::read_u32(&bytes[20..])),
     }
+}
+
+/// Whether these bytes begin with all bytes of a record, by the length in its head.
+pub fn holds_record(version: Version, bytes: &[u8]) -> bool
+    ensures { result ≡ true → head_size version + length_field bytes.now ≤ length bytes.now }
+{
+    let head = version.head_size();
+    if bytes.len() < head {
+        return false;
+    }
+    let length = LittleEndian::read_u32(&bytes[16..]) as usize;
+    length <= bytes.len() - head
 }
 
 /// The 20 bytes before a body of `length` bytes, without a reason.

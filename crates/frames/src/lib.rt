@@ -6,10 +6,15 @@
 //! and `specs/Inputs.antt` here says that a reader returns exactly these.
 #![tactic(auto)]
 
+mod buffers;
 mod filling;
 mod heads;
 mod reader;
+mod sources;
 mod writer;
 
+pub use buffers::{Ahead, Buffered, FRONT};
+pub use filling::fill;
 pub use reader::{FrameReader, Next};
+pub use sources::{InMemory, Source};
 pub use writer::{Unwritten, write_frame, write_frame2, write_record, write_whole};

@@ -5,11 +5,11 @@ ghost use Rattle.frames.specs.Readers.{Position, Fresh, At};
 ghost use Rattle.frames.specs.Reading.{ReadsMagic, MayOpen, OpensStream, begun_at, Finds, finding_of, FindsNext, HasRoom, FitsBuffer, StaysDone};
 ghost use Rattle.frames.specs.Stages.{position_of, OffsetFits, max_record, HasRoomForRecord, IsStageAfter};
 
-use super::filling::fill_at_once;
-use super::heads::decode_head;
-use exact_io::{Filled, fill};
+use super::filling::{fill, fill_at_once};
+use super::heads::{decode_head, holds_record};
+use super::sources::Source;
+use exact_io::Filled;
 use isa_model::{Fault, Finish, FrameHead, MAX_PACKET, Version};
-use std::io::Read;
 use std::marker::Model;
 
 /// What a call of `FrameReader::next` found.
@@ -54,7 +54,7 @@ impl<R> Model for FrameReader<R> {
     ghost invariant = { λ r. OffsetFits r.stage };
 }
 
-impl<R: Read> FrameReader<R> {
+impl<R: Source> FrameReader<R> {
     /// A reader of the stream that begins at the source's next byte. It reads nothing yet.
     pub fn new(source: R) -> Self
         ensures { result ≡ record { source = source; position = Fresh } }
@@ -68,7 +68,7 @@ impl<R: Read> FrameReader<R> {
     /// Reads the magic, and returns the stream's version, 1 or 2, or else the fault. If the
     /// magic was read before, it reads nothing, and returns the same again.
     pub fn begin(&mut self) -> Result<u8, (Fault, u64)>
-        ensures opens { OpensStream self.old.position (R.remaining self.old.source)
+        ensures opens { OpensStream R.may_fail self.old.position (R.remaining self.old.source)
             (R.remaining self.new.source) self.new.position }
         ensures begun { result ≡ begun_at self.new.position }
         ensures again { self.old.position ≢ Fresh → self.new ≡ self.old }
@@ -90,7 +90,7 @@ impl<R: Read> FrameReader<R> {
     /// again. After the end or a fault each further call returns the same and reads nothing.
     #[inline(always)]
     pub fn next(&mut self, buffer: &mut [u8; MAX_PACKET]) -> Next
-        ensures finds { Finds self.old.position (R.remaining self.old.source)
+        ensures finds { Finds R.may_fail self.old.position (R.remaining self.old.source)
             (R.remaining self.new.source) self.new.position (finding_of result buffer.new) }
         ensures fits { FitsBuffer result }
         ensures done { StaysDone self.old self.new (finding_of result buffer.new) }
@@ -107,13 +107,23 @@ impl<R: Read> FrameReader<R> {
             Stage::Done(_, Finish::Fault(fault, offset)) => Next::Fault(fault, offset),
         }
     }
+
+    /// Whether the next record may have to be waited for, since the bytes that its source holds do
+    /// not have all of it. This is advice: no proof relies on it.
+    #[inline(always)]
+    pub fn may_wait(&self) -> bool {
+        match (self.stage, self.source.held()) {
+            (Stage::At(version, _, _), Some(bytes)) => !holds_record(version, bytes),
+            _ => false,
+        }
+    }
 }
 
 // The stage after the magic is read, if it was not read before.
 #[inline(always)]
-fn stage_begun<R: Read>(source: &mut R, stage: Stage) -> Stage
+fn stage_begun<R: Source>(source: &mut R, stage: Stage) -> Stage
     requires within { OffsetFits stage }
-    ensures opens { OpensStream (position_of stage)
+    ensures opens { OpensStream R.may_fail (position_of stage)
         (R.remaining source.old) (R.remaining source.new)
         (position_of result) }
     ensures within { OffsetFits result }
@@ -149,9 +159,9 @@ fn stage_after(version: Version, number: u32, offset: u64, next: &Next) -> Stage
 // Reads the magic, or returns the fault that was found instead.
 #[cold]
 #[inline(never)]
-fn read_magic<R: Read>(source: &mut R) -> Result<Version, Fault>
+fn read_magic<R: Source>(source: &mut R) -> Result<Version, Fault>
     ensures bytes { ReadsMagic (R.remaining source.old) (R.remaining source.new) result }
-    ensures room { MayOpen result }
+    ensures room { MayOpen R.may_fail result }
 {
     let mut magic = [0; 4];
     match fill(source, &mut magic) {
@@ -178,7 +188,7 @@ fn in_range(body: &[u8])
 
 // Reads the record with this number, which begins at this offset.
 #[inline(always)]
-fn read_record<R: Read>(
+fn read_record<R: Source>(
     source: &mut R,
     version: Version,
     number: u32,
@@ -187,7 +197,7 @@ fn read_record<R: Read>(
 ) -> Next
     ensures bytes { FindsNext (At version number offset) (R.remaining source.old)
         (R.remaining source.new) (finding_of result buffer.new) }
-    ensures room { HasRoom (At version number offset) (finding_of result buffer.new) }
+    ensures room { HasRoom R.may_fail (At version number offset) (finding_of result buffer.new) }
     ensures fits { FitsBuffer result }
 {
     let mut head_buffer = [0; 24];

@@ -1,6 +1,7 @@
 -- One more turn of the loop over a stream, and how the loop ends.
 use Rattle.std.proofs.Common.{◌≡◌, ℕ, suc, ◌+◌, ◌<◌, ◌≤◌, List, [], ◌∷◌, ◌++◌, length, Option, Result, Ok, Err, IfOk, refl, sym, ap, ◌∙◌, subst, append_assoc, append-nil, length-append, add-zero, zero-add, arith, inl, inr}
-use Rattle.std.specs.Io.KnownBytes.{Appends}
+use Rattle.std.specs.Io.KnownBytes.{Appends, Keeps}
+use Rattle.std.proofs.KnownBytes.{Appends-kept}
 use Rattle.exact_io.specs.Transfers.{AppendsBeginning}
 use Rattle.isa_model.specs.declared.map_defs.MapDef.{MapDef}
 use Rattle.isa_model.specs.declared.streams.Fault.{Fault}
@@ -13,6 +14,7 @@ use Rattle.isa_model.specs.Machine.States.{KeyValues}
 use Rattle.isa_model.specs.Reporting.Streams.{PacketFrame, Stream, max_frames, stream_with}
 use Rattle.isa_model.proofs.StreamLaws.{AreOpen-nil}
 use Rattle.isa_model.specs.Reporting.Reports.{OutputPiece, Rule, ReportForm, ToReport, ToFrames, turns_pieces, contents_after, turn_on, turn_pieces, contents_left, maps_pieces, last_line}
+use Rattle.frames.specs.Sources.{Origin}
 use Rattle.frames.specs.Readers.{Position, Fresh}
 use Rattle.frames.specs.Reading.{OpensStream, begun_at, Found, Stopped, Finds}
 use Rattle.frames.proofs.InputsLaws.{HasBegun, HasBegun-opens, HasBegun-open, HasBegun-found, HasBegun-stopped, HasFound-begins, unopened}
@@ -20,7 +22,7 @@ use Rattle.frames.specs.Inputs.{IsBegunVersion}
 use Rattle.host.specs.declared.errors.HostError.{HostError}
 use Rattle.host.specs.declared.errors.HostError.TheVariants as failure
 use Rattle.host.specs.declared.traced.Traced.{Traced}
-use Rattle.host.specs.Stops.{Noted, Noting, noted_of, noted_after, ShowsNoted}
+use Rattle.host.specs.Stops.{Noted, Noting, noted_of, noted_after, AreMaps, ShowsNoted}
 use Rattle.host.specs.Tallies.{tally_of}
 use Rattle.host.specs.Writing.{Outputs, Wrote, WroteBefore, WritesEach}
 use Rattle.host.specs.Reported.{front_in, ReportsBy}
@@ -33,13 +35,14 @@ body_short One n h = omega arith
 body_short Two n h = h
 
 -- a reader that was made and then read the magic has begun
-pub begin_opens : (v : Version) (source old new : Option (List ℕ)) (p after : Position)
-    (begun : Result ℕ (Fault × ℕ)) → p ≡ Fresh → old ≡ source → OpensStream p old new after
+pub begin_opens : (v : Version) (source : Origin) (old new : Option (List ℕ)) (p after : Position)
+    (begun : Result ℕ (Fault × ℕ)) → p ≡ Fresh → old ≡ source.bytes
+    → OpensStream source.may_fail p old new after
     → begun ≡ begun_at after → IsBegunVersion begun v → HasBegun v [] source new after
 begin_opens v source old new p after begun fresh same opens begins is =
     HasBegun-opens v source new after
-    (subst (λ (k : Option (List ℕ)). OpensStream Fresh k new after) same
-    (subst (λ (x : Position). OpensStream x old new after) fresh opens))
+    (subst (λ (k : Option (List ℕ)). OpensStream source.may_fail Fresh k new after) same
+    (subst (λ (x : Position). OpensStream source.may_fail x old new after) fresh opens))
     (subst (λ (b : Result ℕ (Fault × ℕ)). IsBegunVersion b v) begins is)
 
 -- ---- packet frames one after another
@@ -71,7 +74,7 @@ contents_after-append rule c (f ∷ fs) gs =
 
 -- ---- frames that are run one after another, from these contents on, over this source
 
-module _ (form : ReportForm) (rule : Rule) (start : List KeyValues) (source : Option (List ℕ))
+module _ (form : ReportForm) (rule : Rule) (start : List KeyValues) (source : Origin)
     (before : Outputs) where
   -- the pieces so far and those of one more frame
   front_more : (frames : List PacketFrame) (f : PacketFrame) (number : ℕ)
@@ -106,7 +109,7 @@ module _ (form : ReportForm) (rule : Rule) (start : List KeyValues) (source : Op
   module _ (frames : List PacketFrame) (known new : Option (List ℕ)) (p q : Position) (number : ℕ)
       (contents : List KeyValues) (now : Outputs)
       (so : WrittenSoFar form rule start source before frames known p number contents now) where
-    module _ (f : PacketFrame) (h : Finds p known new q (Found f)) where
+    module _ (f : PacketFrame) (h : Finds source.may_fail p known new q (Found f)) where
       -- there is a number for the frame, and its body fits
       pub turn_fits : (number < max_frames) × (length f.body ≤ max_body form.stream)
       turn_fits =
@@ -136,6 +139,24 @@ module _ (form : ReportForm) (rule : Rule) (start : List KeyValues) (source : Op
                 ∙ sym (contents_after-append rule start frames (f ∷ []));
           }
 
+-- the outputs were flushed
+pub after_flush : (form : ReportForm) (rule : Rule) (start : List KeyValues) (source : Origin)
+    (before : Outputs) (frames : List PacketFrame) (known : Option (List ℕ)) (p : Position)
+    (number : ℕ) (contents : List KeyValues) (now after : Outputs)
+    → WrittenSoFar form rule start source before frames known p number contents now
+    → Keeps now.report after.report → Keeps now.sent after.sent
+    → WrittenSoFar form rule start source before frames known p number contents after
+after_flush form rule start source before frames known p number contents now after so report sent =
+    record {
+      begun = so.begun;
+      numbered = so.numbered;
+      wrote = record {
+        report = Appends-kept before.report now.report after.report _ so.wrote.report report;
+        sent = Appends-kept before.sent now.sent after.sent _ so.wrote.sent sent;
+      };
+      carried = so.carried;
+    }
+
 -- ---- how the loop ends
 
 -- pieces after others, where one of the later ones may have failed
@@ -145,17 +166,20 @@ WritesEach-append : (a b c : Outputs) (front more : List OutputPiece)
 WritesEach-append a b c front more (Ok traced) v w = Wrote-append a b c front more v w
 WritesEach-append a b c front more (Err e) v w = WroteBefore-append a b c front more e v w
 
--- two facts about the result of a run over a stream
-both : (result : Result Traced HostError) (n : ℕ) (finish : Finish) (noted : Noted)
+-- three facts about the result of a run over a stream
+all_told : (result : Result Traced HostError) (n : ℕ) (finish : Finish) (noted : Noted)
+    (rows : List MapDef) (contents : List KeyValues)
     → IfOk result (λ t. t.tally ≡ tally_of n finish) → IfOk result (λ t. noted_of t.stops ≡ noted)
-    → IfOk result (λ t. (t.tally ≡ tally_of n finish) × (noted_of t.stops ≡ noted))
-both (Ok traced) n finish noted tally told = (tally, told)
-both (Err e) n finish noted tally told = tt
+    → IfOk result (λ t. AreMaps rows contents t.maps)
+    → IfOk result (λ t. (t.tally ≡ tally_of n finish) × (noted_of t.stops ≡ noted)
+    × AreMaps rows contents t.maps)
+all_told (Ok traced) n finish noted rows contents tally told left = (tally, told, left)
+all_told (Err e) n finish noted rows contents tally told left = tt
 
 module _ (limit : ℕ) (program : Version) (rows : List MapDef) (rule : Rule) (start : List KeyValues)
-    (source : Option (List ℕ)) (notes : Noting) (none : Noted) where
+    (source : Origin) (notes : Noting) (none : Noted) where
   abbrev Agrees : Stream → Traced → Type 0
-  Agrees = ShowsNoted notes rule none start
+  Agrees = ShowsNoted rows notes rule none start
 
   abbrev report_form_on : Version → ReportForm
   report_form_on v = record { limit = limit; program = program; stream = v }
@@ -173,8 +197,7 @@ module _ (limit : ℕ) (program : Version) (rows : List MapDef) (rule : Rule) (s
       version = v;
       frames = [];
       are_open = s.are_open;
-      begun = HasFound-begins v
-          [] source known p s;
+      begun = HasFound-begins source.may_fail v [] source.bytes known p s;
       writes = frames_failed r f g (stream_magic v) [] b;
     },
   )
@@ -193,7 +216,7 @@ module _ (limit : ℕ) (program : Version) (rows : List MapDef) (rule : Rule) (s
     -- one of the pieces of the next frame failed
     pub one_failed : (now after : Outputs) (f : PacketFrame) (error : HostError)
         → WrittenSoFar (report_form_on v) rule start source before frames known p number contents
-        now → Finds p known new q (Found f)
+        now → Finds source.may_fail p known new q (Found f)
         → WroteBefore now after
         (turn_pieces (report_form_on v) number f (turn_on rule contents f)) error
         → ReportsBy source limit program rows rule start Agrees before after (Err error)
@@ -206,7 +229,7 @@ module _ (limit : ℕ) (program : Version) (rows : List MapDef) (rule : Rule) (s
             version = v;
             frames = frames ++ f ∷ [];
             are_open = found.are_open;
-            begun = HasFound-begins v (frames ++ f ∷ []) source new q found;
+            begun = HasFound-begins source.may_fail v (frames ++ f ∷ []) source.bytes new q found;
             writes =
                 subst (λ (l : List OutputPiece). WroteBefore before after l error)
                 (front_more (report_form_on v) rule start source before frames f number contents
@@ -220,15 +243,16 @@ module _ (limit : ℕ) (program : Version) (rows : List MapDef) (rule : Rule) (s
     pub stream_ended : (r s g : Option (List ℕ)) (finish : Finish)
         (result : Result Traced HostError) (noted : Noted)
         → WrittenSoFar (report_form_on v) rule start source before frames known p number contents
-        (record { report = r; sent = g }) → Finds p known new q (Stopped finish)
+        (record { report = r; sent = g }) → Finds source.may_fail p known new q (Stopped finish)
         → WritesEach (record { report = r; sent = g }) (record { report = s; sent = g }) result
         (maps_pieces 0 rows contents ++ ToReport (last_line number finish) ∷ [])
         → IfOk result (λ traced. traced.tally ≡ tally_of number finish)
         → IfOk result (λ traced. noted_of traced.stops ≡ noted)
+        → IfOk result (λ traced. AreMaps rows contents traced.maps)
         → noted ≡ noted_after notes rule none 0 start frames
         → ReportsBy source limit program rows rule start Agrees before
         (record { report = s; sent = g }) result
-    stream_ended r s g finish result noted so h written tally told told_is =
+    stream_ended r s g finish result noted so h written tally told left told_is =
         let now : Outputs = record { report = r; sent = g } in
         let after : Outputs = record { report = s; sent = g } in
         let front = front_in (report_form_on v) rule start frames in
@@ -247,7 +271,10 @@ module _ (limit : ℕ) (program : Version) (rows : List MapDef) (rule : Rule) (s
               subst (λ (c : List KeyValues). WritesEach before after result
               (front ++ (maps_pieces 0 rows c ++ ToReport (last_line (length frames) finish) ∷ [])))
               so.carried counted;
-          tells = both result (length frames) finish (noted_after notes rule none 0 start frames)
+          tells = all_told result (length frames) finish
+              (noted_after notes rule none 0 start frames) rows (contents_after rule start frames)
               (subst (λ (n : ℕ). IfOk result (λ t. t.tally ≡ tally_of n finish)) so.numbered tally)
-              (subst (λ (x : Noted). IfOk result (λ t. noted_of t.stops ≡ x)) told_is told);
+              (subst (λ (x : Noted). IfOk result (λ t. noted_of t.stops ≡ x)) told_is told)
+              (subst (λ (c : List KeyValues). IfOk result (λ t. AreMaps rows c t.maps)) so.carried
+              left);
         })

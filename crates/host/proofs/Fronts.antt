@@ -9,7 +9,7 @@ use Rattle.isa_model.specs.Machine.States.{KeyValues}
 use Rattle.isa_model.specs.Running.Runs.{Outcome, Turn}
 use Rattle.isa_model.proofs.RunLaws.{turn-outcome, HasOutcome-same}
 use Rattle.isa_model.specs.Reporting.Streams.{PacketFrame, stream_with}
-use Rattle.isa_model.specs.Reporting.Reports.{OutputPiece, ToReport, ToFrames, ReportForm, frame_line, frame_pieces, skip_pieces, turn_on, turn_pieces, contents_left, turns_pieces, maps_pieces, last_line, checked_rule, turn_by, starting_contents, ReportsFrame, ReportsFrames, report_form_of, IsReport}
+use Rattle.isa_model.specs.Reporting.Reports.{OutputPiece, ToReport, ToFrames, ReportForm, frame_line, frame_pieces, skip_pieces, turn_on, turn_pieces, contents_left, turns_pieces, maps_pieces, last_line, checked_rule, turn_by, contents_after, ReportsFrame, ReportsFrames, report_form_of, IsReportFrom}
 use Rattle.isa_model.specs.Running.Outcomes.{ExitsOn, AllExit}
 use Rattle.host.specs.Reported.{front_in}
 
@@ -79,20 +79,35 @@ module _ (p : Program) (n : ℕ) where
             ∙ ap (λ (l : List OutputPiece). here ++ l) same ∙ sym (append_assoc here later rest),
       )
 
+  -- the contents that frames leave whose runs exit
+  pub last_contents : (form : ReportForm) (number : ℕ) (contents : List KeyValues)
+      (fs : List PacketFrame) (pieces : List OutputPiece) (last : List KeyValues)
+      → AllExit p n contents fs → ReportsFrames form p number contents fs pieces last
+      → last ≡ contents_after (checked_rule p n) contents fs
+  last_contents form number contents [] pieces last exits h = h.1
+  last_contents form number contents (f ∷ fs) pieces last exits h =
+      let (next, on, all) = exits in
+      let (front, behind, after, one, split, more) = h in
+      let t = turn_on (checked_rule p n) contents f in
+      let (is, leaves, exits_to) =
+      one_frame form number contents f (f.reason == 0) front next after on one in
+      let all_left = subst (λ (c : List KeyValues). AllExit p n c fs) exits_to all in
+      let more_left = subst
+      (λ (c : List KeyValues). ReportsFrames form p (number + 1) c fs behind last) leaves more in
+      last_contents form (number + 1) (contents_left contents t) fs behind last all_left more_left
+
   -- a report begins with the magic and the first frames' pieces
-  pub first_pieces : (v : Version) (frames more : List PacketFrame) (finish : Finish)
-      (pieces : List OutputPiece) → AllExit p n (starting_contents p.maps) frames
-      → IsReport p (stream_with v (frames ++ more, finish)) pieces
+  pub first_pieces : (v : Version) (contents : List KeyValues) (frames more : List PacketFrame)
+      (finish : Finish) (pieces : List OutputPiece) → AllExit p n contents frames
+      → IsReportFrom p contents (stream_with v (frames ++ more, finish)) pieces
       → (rest : List OutputPiece)
       × (pieces ≡ front_in (record { limit = n; program = p.version; stream = v })
-      (checked_rule p n) (starting_contents p.maps) frames ++ rest)
-  first_pieces v frames more finish pieces exits h =
+      (checked_rule p n) contents frames ++ rest)
+  first_pieces v contents frames more finish pieces exits h =
       let found = stream_with v (frames ++ more, finish) in
       let form = report_form_of p found in
-      let (rest, same) = first_frames form 0
-      (starting_contents p.maps) frames more h.turns h.last exits h.frames in
-      let front = turns_pieces (limited form) (checked_rule p n) 0
-      (starting_contents p.maps) frames in
+      let (rest, same) = first_frames form 0 contents frames more h.turns h.last exits h.frames in
+      let front = turns_pieces (limited form) (checked_rule p n) 0 contents frames in
       let closing = maps_pieces 0 p.maps h.last
       ++ ToReport (last_line (length (frames ++ more)) finish) ∷ [] in (
         rest ++ closing,

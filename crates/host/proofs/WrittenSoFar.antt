@@ -3,6 +3,7 @@ use Rattle.std.proofs.Common.{◌≡◌, ℕ, List, length, Option}
 use Rattle.isa_model.specs.Machine.States.{KeyValues}
 use Rattle.isa_model.specs.Reporting.Streams.{PacketFrame}
 use Rattle.isa_model.specs.Reporting.Reports.{Rule, ReportForm, contents_after}
+use Rattle.frames.specs.Sources.{Origin}
 use Rattle.frames.specs.Readers.{Position}
 use Rattle.frames.proofs.InputsLaws.{HasBegun}
 use Rattle.host.specs.Writing.{Outputs, Wrote}
@@ -10,7 +11,7 @@ use Rattle.host.specs.Reported.{front_in}
 
 -- these frames were found and taken, and their pieces were written
 pub record WrittenSoFar (form : ReportForm) (rule : Rule) (start : List KeyValues)
-    (source : Option (List ℕ)) (before : Outputs) (frames : List PacketFrame)
+    (source : Origin) (before : Outputs) (frames : List PacketFrame)
     (known : Option (List ℕ)) (position : Position) (number : ℕ) (contents : List KeyValues)
     (now : Outputs) : Type 0 where
   pub begun : HasBegun form.stream frames source known position

@@ -7,9 +7,11 @@ use Rattle.isa_model.specs.declared.ends.End.{End}
 use Rattle.isa_model.specs.declared.ends.End.TheVariants.{Exit, Trap, Limit}
 use Rattle.isa_model.specs.Reporting.Frames.{action_of}
 use Rattle.isa_model.specs.Reporting.Streams.{PacketFrame, Stream}
-use Rattle.isa_model.specs.Reporting.Reports.{Rule, turn_on, contents_left, checked_rule, starting_contents}
+use Rattle.isa_model.specs.declared.map_defs.MapDef.{MapDef}
+use Rattle.isa_model.specs.Reporting.Reports.{Rule, turn_on, contents_left, contents_after, checked_rule, starting_contents}
 use Rattle.isa_model.specs.Code.Instructions.{Program}
 use Rattle.isa_model.specs.Machine.States.{KeyValues}
+use Rattle.maps.specs.Maps.{MapState, rows_of, contents_of}
 use Rattle.checked_vm.specs.declared.stops.RunEnd.{RunEnd}
 use Rattle.checked_vm.specs.Stops.{stop_of}
 use Rattle.host.specs.declared.stops.FrameStop.{FrameStop}
@@ -85,14 +87,26 @@ no_notes noted number head body contents = noted
 
 -- ---- runs over streams
 
--- what the last line shows, and what is noted of the stream's frames
-abbrev pub ShowsNoted : Noting → Rule → Noted → List KeyValues → Stream → Traced → Type 0
-ShowsNoted notes rule noted contents found traced =
+-- maps with these rows and these contents
+abbrev pub AreMaps : List MapDef → List KeyValues → List MapState → Type 0
+AreMaps rows contents maps = (rows_of maps ≡ rows) × (contents_of maps ≡ contents)
+
+-- what the last line shows, what is noted of the stream's frames, and the maps as the last of them
+-- leaves them
+abbrev pub ShowsNoted : List MapDef → Noting → Rule → Noted → List KeyValues → Stream → Traced
+    → Type 0
+ShowsNoted rows notes rule noted contents found traced =
     (traced.tally ≡ tally_of (length found.frames) found.finish)
     × (noted_of traced.stops ≡ noted_after notes rule noted 0 contents found.frames)
+    × AreMaps rows (contents_after rule contents found.frames) traced.maps
 
--- the same of a run over a stream with checks
+-- the same of a run over a stream with checks, from these contents of the maps on
+abbrev pub ShowsTracedFrom : Program → ℕ → List KeyValues → Stream → Traced → Type 0
+ShowsTracedFrom p limit contents found traced =
+    ShowsNoted p.maps (checked_notes p limit) (checked_rule p limit) nothing_noted contents found
+    traced
+
+-- from new maps on
 abbrev pub ShowsTraced : Program → ℕ → Stream → Traced → Type 0
 ShowsTraced p limit found traced =
-    ShowsNoted (checked_notes p limit) (checked_rule p limit) nothing_noted
-    (starting_contents p.maps) found traced
+    ShowsTracedFrom p limit (starting_contents p.maps) found traced

@@ -1,9 +1,10 @@
 //! The loop over all packet frames of a stream, written once for every machine. It takes no memory.
 ghost use Rattle.std.specs.Prelude.{◌≡◌, ◌≢◌, ◌≤◌, [], ◌∷◌, ◌++◌, length, IfOk};
+ghost use Rattle.std.specs.Io.KnownBytes.{Keeps};
 ghost use Rattle.isa_model.specs.Code.Limits.{max_body};
 ghost use Rattle.isa_model.specs.Reporting.Reports.{ToReport, maps_pieces, last_line, frame_pieces, skip_pieces, turn_pieces, turn_on, contents_left};
 ghost use Rattle.host.specs.Forms.{report_form_by};
-ghost use Rattle.host.specs.Stops.{noted_of, noted_on, ShowsNoted};
+ghost use Rattle.host.specs.Stops.{noted_of, noted_on, AreMaps, ShowsNoted};
 ghost use Rattle.host.specs.Tallies.{tally_of};
 ghost use Rattle.host.specs.Writing.{WritesEach, WritesReport};
 ghost use Rattle.host.specs.Reported.{ReportsBy};
@@ -18,9 +19,9 @@ use super::runners::Runner;
 use super::tallies::Tally;
 use super::traced::Traced;
 use super::versions::version_begun;
-use frames::{FrameReader, Next, write_record, write_whole};
+use frames::{FrameReader, Next, Source, write_record, write_whole};
 use isa_model::{Finish, FrameHead, MAX_PACKET, Version};
-use std::io::{Read, Write};
+use std::io::Write;
 
 // A frame of the stream without its body: its number, its head, and its reason.
 #[derive(Clone, Copy)]
@@ -148,6 +149,8 @@ fn end_report<M: Runner + Drop, W1: Write>(
         ++ ToReport (last_line number finish) ∷ []) }
     ensures tally { IfOk result (λ traced. traced.tally ≡ tally_of number finish) }
     ensures noted { IfOk result (λ traced. noted_of traced.stops ≡ M.noted machine) }
+    ensures maps { IfOk result
+        (λ traced. AreMaps (M.rows machine) (M.contents machine) traced.maps) }
     ensures made { result ≢ Err HostError.Memory }
 {
     let (mut maps, stops) = machine.into_parts();
@@ -166,16 +169,31 @@ fn end_report<M: Runner + Drop, W1: Write>(
                 },
             },
             stops,
+            maps,
         }),
         Err(_) => Err(HostError::Report),
     }
 }
 
+// Hands on what was written, if more frames may have to be waited for. A writer that fails here has
+// to fail again when it is next written to or flushed.
+#[inline(always)]
+fn hand_on<R: Source, W1: Write, W2: Write>(reader: &FrameReader<R>, report: &mut W1, out: &mut W2)
+    ensures report { Keeps (W1.contents report.old) (W1.contents report.new) }
+    ensures out { Keeps (W2.contents out.old) (W2.contents out.new) }
+{
+    if !reader.may_wait() {
+        return;
+    }
+    let _ = report.flush();
+    let _ = out.flush();
+}
+
 /// Runs a program of this version on the frames of the stream that a source returns. The report is
 /// written to one writer, and the frames out to the other, with the magic of the stream that is
-/// read. Returns the tally, and what the machine noted of the frames, which is nothing if it does
-/// not trace.
-pub fn run_frames<M: Runner + Drop, R: Read + Drop, W1: Write, W2: Write>(
+/// read. Returns the tally, what the machine noted of the frames, which is nothing if it does not
+/// trace, and its maps. Before frames are waited for, both writers are flushed.
+pub fn run_frames<M: Runner + Drop, R: Source + Drop, W1: Write, W2: Write>(
     mut machine: M,
     limit: u32,
     program: Version,
@@ -183,9 +201,10 @@ pub fn run_frames<M: Runner + Drop, R: Read + Drop, W1: Write, W2: Write>(
     report: &mut W1,
     out: &mut W2,
 ) -> Result<Traced, HostError>
-    ensures reports { ReportsBy (R.remaining source) limit program
-        (M.rows machine) (M.rule machine) (M.contents machine)
-        (ShowsNoted (M.notes machine) (M.rule machine) (M.noted machine) (M.contents machine))
+    ensures reports { ReportsBy record { bytes = R.remaining source; may_fail = R.may_fail } limit
+        program (M.rows machine) (M.rule machine) (M.contents machine)
+        (ShowsNoted (M.rows machine) (M.notes machine) (M.rule machine) (M.noted machine)
+        (M.contents machine))
         record { report = W1.contents report.old; sent = W2.contents out.old }
         record { report = W1.contents report.new; sent = W2.contents out.new } result }
     ensures made { result ≢ Err HostError.Memory }
@@ -204,6 +223,7 @@ pub fn run_frames<M: Runner + Drop, R: Read + Drop, W1: Write, W2: Write>(
     };
     let mut number = 0u32;
     'frames: loop {
+        hand_on(&reader, report, out);
         match reader.next(&mut buffer) {
             Next::Frame(head, length, reason) => {
                 let frame = Arrival {

@@ -21,9 +21,9 @@ mod traced;
 mod verified;
 mod versions;
 
-pub use checked::run_checked;
+pub use checked::{run_checked, run_checked_from};
 pub use errors::HostError;
 pub use stops::{FrameStop, Stops};
 pub use tallies::Tally;
 pub use traced::{Traced, tally_in};
-pub use verified::run;
+pub use verified::{run, run_from};

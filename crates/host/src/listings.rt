@@ -63,10 +63,11 @@ fn write_key_values<W1: Write>(
     Ok(())
 }
 
-/// Writes the lines of all maps.
+/// Writes the lines of all maps, which stay as they are.
 pub fn write_maps<W1: Write>(maps: &mut Maps, report: &mut W1) -> Result<(), HostError>
     ensures writes { WritesReport (W1.contents report.old) (W1.contents report.new) result
         (maps_pieces 0 (rows_of maps.old) (contents_of maps.old)) }
+    ensures stay { maps.new ≡ maps.old }
     ensures made { result ≢ Err HostError.Memory }
 {
     for i in 0..maps.count() {

@@ -6,13 +6,15 @@ ghost use Rattle.host.specs.Tallies.{tallied};
 use super::errors::HostError;
 use super::stops::Stops;
 use super::tallies::Tally;
+use maps::Maps;
 
-/// What the report's last line shows, and the packet frames whose runs ended without an action. Of
-/// a run over a stream without checks only the tally is returned, and no frames are noted.
+/// What the report's last line shows, the packet frames whose runs ended without an action, and the
+/// maps as the last frame left them. Of a run over a stream without checks no frames are noted.
 #[derive(Drop)]
 pub struct Traced {
     pub tally: Tally,
     pub stops: Stops,
+    pub maps: Maps,
 }
 
 /// The tally of a run over a stream, if it came to its last line.

@@ -1,1 +1,2 @@
 pub mod LexingLaws
+pub mod LexemeFronts

@@ -4,6 +4,7 @@ use Rattle.std.specs.declared.io.ErrorKind.{ErrorKind}
 use Rattle.assembler.specs.Assembling.{assembled}
 use Rattle.isa_model.specs.{Program}
 use Rattle.bounds.specs.Bounds.{Bounded}
+use Rattle.frames.specs.Sources.{Origin}
 use Rattle.words.specs.Requests.{RunFiles}
 use Rattle.task_outcomes.specs.declared.forms.FileForm.{FileForm}
 use Rattle.task_outcomes.specs.declared.outcomes.TaskOutcome.{TaskOutcome}
@@ -24,8 +25,8 @@ OpensNone-failed files old new r e (inr h) = inr (h, e)
 -- ---- a program with its bound
 
 -- standard output got the report of the runs
-pub runs_on : (files : RunFiles) (old new before after source : Option (List ℕ)) (form : FileForm)
-    (cause : Option ErrorKind) (v : Bounded) (r : TaskOutcome)
+pub runs_on : (files : RunFiles) (old new before after : Option (List ℕ)) (source : Origin)
+    (form : FileForm) (cause : Option ErrorKind) (v : Bounded) (r : TaskOutcome)
     → RunsAccepted v source form files.out cause (record { report = old; sent = before })
     (record { report = new; sent = after }) r → RunsOn files v old new r
 runs_on files old new before after source form cause v r runs =

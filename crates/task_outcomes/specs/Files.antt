@@ -6,6 +6,7 @@ use Rattle.isa_model.specs.Text.CanonicalText.{canonical_text}
 use Rattle.image.specs.Images.{IsImage}
 use Rattle.assembler.specs.Assembling.{assembled}
 use Rattle.bounds.specs.Bounds.{Bounded}
+use Rattle.frames.specs.Sources.{Origin}
 use Rattle.task_outcomes.specs.declared.forms.FileForm.{FileForm}
 use Rattle.task_outcomes.specs.declared.outcomes.TaskOutcome.{TaskOutcome}
 use Rattle.task_outcomes.specs.declared.outcomes.TaskOutcome.TheVariants as outcome
@@ -44,7 +45,7 @@ OpensNone files old new result =
 -- out are written to the file at the path
 pub record RunsSome (v : Bounded) (out : List ℕ) (old new : Option (List ℕ))
     (result : TaskOutcome) : Type 0 where
-  pub source : Option (List ℕ)
+  pub source : Origin
   pub form : FileForm
   pub before : Option (List ℕ)
   pub after : Option (List ℕ)

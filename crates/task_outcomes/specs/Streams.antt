@@ -5,6 +5,7 @@ use Rattle.std.specs.Io.KnownBytes.{Keeps, append_known}
 use Rattle.std.specs.declared.io.ErrorKind.{ErrorKind}
 use Rattle.isa_model.specs.declared.streams.Fault.{Fault}
 use Rattle.bounds.specs.Bounds.{Bounded}
+use Rattle.frames.specs.Sources.{Origin}
 use Rattle.host.specs.declared.errors.HostError.{HostError}
 use Rattle.host.specs.declared.errors.HostError.TheVariants as failure
 use Rattle.host.specs.declared.tallies.Tally.{Tally}
@@ -52,7 +53,7 @@ EndsTask path cause form ended handed got result =
 -- An accepted program is run on a stream: what is written is exactly the report of the program and
 -- of the packet frames that were found, which are those that the source's bytes spell, if those are
 -- known; no run meets a trap, and each exits within the bound.
-pub record RunsAccepted (v : Bounded) (source : Option (List ℕ)) (form : FileForm) (path : List ℕ)
+pub record RunsAccepted (v : Bounded) (source : Origin) (form : FileForm) (path : List ℕ)
     (cause : Option ErrorKind) (old new : Outputs) (result : TaskOutcome) : Type 0 where
   pub ended : Result Tally HostError
   pub handed : Option (List ℕ)

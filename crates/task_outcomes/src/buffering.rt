@@ -40,3 +40,15 @@ pub fn buffered<W: Write + Drop>(
         unbuffered(alloc, out)
     }
 }
+
+/// Puts the buffer in front of standard output that is a pipe. The first byte goes through
+/// immediately, so that a pipe without a reader is found before frames are written out; the others
+/// are written in parts of 64 KiB, or when they are flushed.
+pub fn piped<W: Write + Drop>(alloc: Global, out: W) -> io::Result<PromptWriter<W>>
+    ensures behind { IfOk result (λ w. behind w ≡ out) }
+    ensures empty { IfOk result (λ w. waiting w ≡ []) }
+    ensures prompt { IfOk result (λ w. prompt_left w ≡ 1) }
+    ensures sound { IfOk result (λ w. failure_of w ≡ None) }
+{
+    PromptWriter::new(alloc, BUFFER, 1, out)
+}

@@ -9,21 +9,22 @@ ghost use Rattle.task_outcomes.specs.Files.{LoadsNone, RunsOn, DisassemblesFile,
 
 use super::endings::Ending;
 use super::forms::FileForm;
-use super::fronts::{Ahead, Watched, read_ahead};
+use super::fronts::{Watched, read_ahead};
 use super::outcomes::TaskOutcome;
 use super::reading::{read_file, read_start};
 use super::same::is_same_file;
 use super::screens::Screen;
 use super::streams::{run_stream, store_image};
 use super::verdicts::{assembled, image_of, say_text, size_line};
-use super::watching::{is_null_device, is_plain_file};
+use super::watching::is_plain_file;
 use bounds::Verified;
 use exact_io::PromptWriter;
+use frames::{Ahead, Buffered};
 use image::Image;
 use isa_model::{MAX_MAPS, MAX_SLOTS};
 use std::alloc::Global;
 use std::fs;
-use std::io::{BufReader, Write};
+use std::io::Write;
 use std::rt::{Clock, Files};
 use words::{AssemblyPaths, RunPaths, TablePaths};
 
@@ -40,7 +41,7 @@ const MAGIC: usize = 4;
 
 /// A source of frames, what it is by its first bytes, and where the frames out go.
 pub type Streams<'b, R> = (
-    Ahead<BufReader<Watched<'b, R, <R as Files>::File>>>,
+    Ahead<Watched<'b, R, <R as Files>::File>>,
     FileForm,
     PromptWriter<<R as Files>::File>,
 );
@@ -61,17 +62,6 @@ fn create_file<'a, R: Files>(
     match fs::create(rt, path) {
         Ok(file) => Ok(file),
         Err(error) => Err(TaskOutcome::of_write(path, &error)),
-    }
-}
-
-// How many bytes of the frames out are written to the file at once. Packet frames that do not come
-// from a file on a disk may come one by one: then all bytes, so that each frame is handed on before
-// the next one is waited for, unless nobody can see it.
-fn prompt_bytes<R: Files>(rt: &R, paths: RunPaths<'_>) -> usize {
-    if is_plain_file(rt, paths.frames) || is_null_device(rt, paths.out) {
-        MAGIC
-    } else {
-        usize::MAX
     }
 }
 
@@ -112,14 +102,14 @@ pub fn open_streams<'a, 'b, R: Files + Clock>(
         Err(error) => return Err(TaskOutcome::of_read(paths.frames, &error)),
     };
     let source = Watched::new(source, Screen::shared(rt, alloc));
-    let Ok(source) = BufReader::with_capacity(alloc, BUFFER, source) else {
+    let Ok(source) = Buffered::new(alloc, BUFFER, source) else {
         return Err(TaskOutcome::NoMemory);
     };
     let file = create_file(rt, paths.out, read)?;
-    let Ok(file) = PromptWriter::new(alloc, BUFFER, prompt_bytes(rt, paths), file) else {
+    let Ok(file) = PromptWriter::new(alloc, BUFFER, MAGIC, file) else {
         return Err(TaskOutcome::NoMemory);
     };
-    let (source, form) = read_ahead(source);
+    let (source, form) = read_ahead(source, !is_plain_file(rt, paths.frames));
     Ok((source, form, file))
 }
 

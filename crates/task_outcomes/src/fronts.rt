@@ -1,17 +1,16 @@
 //! The source of packet frames, whose first bytes are read ahead.
 
-ghost use Rattle.std.specs.Prelude.{IfSome};
+ghost use Rattle.std.specs.Prelude.{◌≤◌, IfSome};
+ghost use Rattle.frames.specs.Buffers.{buffered_remaining};
 ghost use Rattle.task_outcomes.specs.Forms.{IsFileFormOf};
 
 use super::forms::{FileForm, file_form_of};
 use super::screens::Screen;
-use exact_io::{Filled, fill};
+use exact_io::Filled;
+use frames::{Ahead, Buffered, FRONT, Source, fill};
 use std::io;
-use std::io::{Chain, Cursor, ErrorKind, Read, Take};
+use std::io::{ErrorKind, Read};
 use std::rt::{Clock, Files};
-
-/// How many bytes are read ahead.
-const FRONT: usize = 4;
 
 /// A source of packet frames. Once a read has failed, each later one fails too. A terminal shows
 /// how much was read.
@@ -58,12 +57,10 @@ impl<R: Files + Clock, S: Read> Read for Watched<'_, R, S> {
     }
 }
 
-/// A source whose first bytes were read ahead.
-pub type Ahead<S> = Chain<Take<Cursor<[u8; FRONT]>>, S>;
-
 // Reads the first bytes: how many there are, and what the file is by them.
-fn read_front<S: Read>(source: &mut S, front: &mut [u8; FRONT]) -> (usize, FileForm)
-    ensures { IfSome (S.remaining source.old) (λ bytes. IsFileFormOf bytes result.1) }
+fn read_front<S: Source>(source: &mut S, front: &mut [u8; FRONT]) -> (usize, FileForm)
+    ensures form { IfSome (S.remaining source.old) (λ bytes. IsFileFormOf bytes result.1) }
+    ensures count { result.0 ≤ 4 }
 {
     match fill(source, front) {
         Filled::Whole => (FRONT, file_form_of(&front[..])),
@@ -73,11 +70,13 @@ fn read_front<S: Read>(source: &mut S, front: &mut [u8; FRONT]) -> (usize, FileF
 }
 
 /// A source with the bytes of the given one, and what the given one is by its first bytes. If
-/// reading them failed, each later read of the given one has to fail too.
-pub fn read_ahead<S: Read>(mut source: S) -> (Ahead<S>, FileForm)
-    ensures { IfSome (S.remaining source) (λ bytes. IsFileFormOf bytes result.1) }
+/// reading them failed, each later read of the given one has to fail too. `waits` says whether a
+/// read of it may wait for bytes to come.
+pub fn read_ahead<S: Read>(mut source: Buffered<S>, waits: bool) -> (Ahead<S>, FileForm)
+    ensures { IfSome (buffered_remaining S.remaining source)
+        (λ bytes. IsFileFormOf bytes result.1) }
 {
     let mut front = [0; FRONT];
     let (count, form) = read_front(&mut source, &mut front);
-    (Cursor::new(front).take(count as u64).chain(source), form)
+    (Ahead::new(front, count, source, waits), form)
 }

@@ -9,10 +9,11 @@ use super::outcomes::{STANDARD_OUTPUT, TaskOutcome};
 use super::verdicts::say_line;
 use bounds::Verified;
 use exact_io::PromptWriter;
+use frames::Source;
 use host::{HostError, Tally, run};
 use image::Image;
 use std::alloc::Global;
-use std::io::{Read, Write};
+use std::io::Write;
 
 /// How a task ended that ran a program on a frame stream, and wrote the frames out to the file at
 /// the path. The rest of the buffer is written to the file, unless the file has failed before. A
@@ -45,7 +46,7 @@ pub fn outcome_of<'a, W: Write + Drop>(
 
 /// Runs an accepted program on a frame stream of this file form. The report is written to `out` as
 /// it is made, and the frames out through a buffer to a file that was opened by this path.
-pub fn run_stream<'a, R: Read + Drop, W1: Write, W2: Write + Drop>(
+pub fn run_stream<'a, R: Source + Drop, W1: Write, W2: Write + Drop>(
     alloc: Global,
     verified: Verified,
     source: R,
@@ -54,7 +55,8 @@ pub fn run_stream<'a, R: Read + Drop, W1: Write, W2: Write + Drop>(
     out: &mut W1,
     file: &mut PromptWriter<W2>,
 ) -> TaskOutcome<'a>
-    ensures { RunsAccepted verified (R.remaining source) form path.now (failure_of file.new)
+    ensures { RunsAccepted verified
+        record { bytes = R.remaining source; may_fail = R.may_fail } form path.now (failure_of file.new)
         record { report = W1.contents out.old; sent = held W2.contents file.old }
         record { report = W1.contents out.new; sent = W2.contents (behind file.new) } result }
 {

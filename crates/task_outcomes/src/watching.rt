@@ -1,4 +1,5 @@
-//! Which paths lead to a terminal, to a file on a disk, and to where nobody sees when bytes come.
+//! Which paths lead to a terminal, to a file on a disk, to a pipe, and to where nobody sees when bytes
+//! come.
 
 use std::fs;
 use std::os::unix::fs::{FileTypeExt, MetadataExt};
@@ -27,8 +28,8 @@ pub fn is_plain_file<R: Files>(rt: &R, path: &str) -> bool {
     }
 }
 
-/// Whether a path is the device that takes all bytes and keeps none.
-pub fn is_null_device<R: Files>(rt: &R, path: &str) -> bool {
+// Whether a path is the device that takes all bytes and keeps none.
+fn is_null_device<R: Files>(rt: &R, path: &str) -> bool {
     match fs::metadata(rt, path) {
         Ok(output) => output.file_type().is_char_device() && output.rdev() == NULL_DEVICE,
         Err(_) => false,
@@ -39,4 +40,12 @@ pub fn is_null_device<R: Files>(rt: &R, path: &str) -> bool {
 /// somebody may.
 pub fn is_unwatched<R: Files>(rt: &R, path: &str) -> bool {
     is_plain_file(rt, path) || is_null_device(rt, path)
+}
+
+/// Whether a path is a pipe.
+pub fn is_pipe<R: Files>(rt: &R, path: &str) -> bool {
+    match fs::metadata(rt, path) {
+        Ok(output) => output.file_type().is_fifo(),
+        Err(_) => false,
+    }
 }

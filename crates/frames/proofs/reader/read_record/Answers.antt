@@ -4,34 +4,35 @@ use Rattle.frames.proofs.reader.read_record.Goals as goal
 
 pub returns-in-Whole-clause-bytes : goal.returns-in-Whole-clause-bytes
 returns-in-Whole-clause-bytes g c =
-    record_many _ _ _ _ _ _ (search rules) (search rules) c.in-Whole.ensures
+    record_many _ _ _ _ _ _ (search rules) (search rules) c.in-Whole.ensures.fills
 
 pub returns-in-Ended-clause-bytes : goal.returns-in-Ended-clause-bytes
 returns-in-Ended-clause-bytes g c =
     record_end _ _ _ _ _ _ _
-    (search (rules, c.in-Ended.ensures.0)) c.in-Ended.ensures.1 c.in-Ended.ensures.2
+    (search (rules, c.in-Ended.ensures.fills.0)) c.in-Ended.ensures.fills.1
+    c.in-Ended.ensures.fills.2
 
 pub returns-in-Failed-clause-bytes : goal.returns-in-Failed-clause-bytes
 returns-in-Failed-clause-bytes g c =
-    record_failed _ _ _ _ _ _ _ (λ _. search (rules, c.in-Failed.ensures.0))
-    (search rules) c.in-Failed.ensures.0 c.in-Failed.ensures.1
+    record_failed _ _ _ _ _ _ _ (λ _. search (rules, c.in-Failed.ensures.fills.0))
+    (search rules) c.in-Failed.ensures.fills.0 c.in-Failed.ensures.fills.1
 
 pub returns-in-Ended-eq0-clause-bytes : goal.returns-in-Ended-eq0-clause-bytes
 returns-in-Ended-eq0-clause-bytes g c =
-    record_end _ _ _ _ _ _ _ c.in-Ended-eq0.field-0-test c.in-Ended-eq0.ensures.1
-    c.in-Ended-eq0.ensures.2
+    record_end _ _ _ _ _ _ _ c.in-Ended-eq0.field-0-test c.in-Ended-eq0.ensures.fills.1
+    c.in-Ended-eq0.ensures.fills.2
 
 pub returns-in-Ended-fill_at_once-clause-bytes : goal.returns-in-Ended-fill_at_once-clause-bytes
 returns-in-Ended-fill_at_once-clause-bytes g c =
     record_cut _ _ _ _ _ _ _ (search rules) (search rules)
     (whole_head _ _ _ _ c.fill_at_once.auto.buffer c.head_size.ensures.size
-    c.head_size.ensures.short refl) c.in-Ended-fill_at_once.ensures.0
-    c.in-Ended-fill_at_once.ensures.1 c.in-Ended-fill_at_once.ensures.2
+    c.head_size.ensures.short refl) c.in-Ended-fill_at_once.ensures.fills.0
+    c.in-Ended-fill_at_once.ensures.fills.1 c.in-Ended-fill_at_once.ensures.fills.2
 
 pub returns-in-Failed-fill_at_once-clause-bytes : goal.returns-in-Failed-fill_at_once-clause-bytes
 returns-in-Failed-fill_at_once-clause-bytes g c =
     record_failed _ _ _ _ _ _ _ (λ last. search rules)
-    (search rules) c.in-Failed-fill_at_once.ensures.0 c.in-Failed-fill_at_once.ensures.1
+    (search rules) c.in-Failed-fill_at_once.ensures.fills.0 c.in-Failed-fill_at_once.ensures.fills.1
 
 pub returns-then-length-max_body-clause-bytes : goal.returns-then-length-max_body-clause-bytes
 returns-then-length-max_body-clause-bytes g c =
@@ -39,12 +40,12 @@ returns-then-length-max_body-clause-bytes g c =
     (whole_head _ _ _ _ c.fill_at_once.auto.buffer c.head_size.ensures.size
     c.head_size.ensures.short refl)
     (omega (arith, c.max_body.ensures.most, c.decode_head-length.ensures.field))
-    c.in-Whole-fill_at_once.ensures
+    c.in-Whole-fill_at_once.ensures.fills
 
 pub returns-in-Whole-fill_at_once-2-clause-bytes : goal.returns-in-Whole-fill_at_once-2-clause-bytes
 returns-in-Whole-fill_at_once-2-clause-bytes g c =
     record_whole _ _ _ _ _ _ _ _ _ _ _ _ c.decode_head-length.ensures.spelled
-    (search rules) c.in-Whole-fill_at_once.ensures c.in-Whole-fill_at_once-2.ensures
+    (search rules) c.in-Whole-fill_at_once.ensures.fills c.in-Whole-fill_at_once-2.ensures.fills
 
 pub returns-in-Ended-fill_at_once-2-clause-bytes : goal.returns-in-Ended-fill_at_once-2-clause-bytes
 returns-in-Ended-fill_at_once-2-clause-bytes g c =
@@ -52,8 +53,8 @@ returns-in-Ended-fill_at_once-2-clause-bytes g c =
     (whole_head _ _ _ _ c.fill_at_once.auto.buffer c.head_size.ensures.size
     c.head_size.ensures.short refl)
     (omega (arith, c.max_body.ensures.most, c.decode_head-length.ensures.field))
-    (search rules) c.in-Ended-fill_at_once-2.ensures.0 c.in-Whole-fill_at_once.ensures
-    c.in-Ended-fill_at_once-2.ensures.1 c.in-Ended-fill_at_once-2.ensures.2
+    (search rules) c.in-Ended-fill_at_once-2.ensures.fills.0 c.in-Whole-fill_at_once.ensures.fills
+    c.in-Ended-fill_at_once-2.ensures.fills.1 c.in-Ended-fill_at_once-2.ensures.fills.2
 
 pub returns-in-Failed-fill_at_once-2-clause-bytes : goal.returns-in-Failed-fill_at_once-2-clause-bytes
 returns-in-Failed-fill_at_once-2-clause-bytes g c =
@@ -61,30 +62,31 @@ returns-in-Failed-fill_at_once-2-clause-bytes g c =
     (whole_head _ _ _ _ c.fill_at_once.auto.buffer c.head_size.ensures.size
     c.head_size.ensures.short refl)
     (omega (arith, c.max_body.ensures.most, c.decode_head-length.ensures.field))
-    (search rules) c.in-Failed-fill_at_once-2.ensures.0 c.in-Whole-fill_at_once.ensures
-    c.in-Failed-fill_at_once-2.ensures.1
+    (search rules) c.in-Failed-fill_at_once-2.ensures.fills.0 c.in-Whole-fill_at_once.ensures.fills
+    c.in-Failed-fill_at_once-2.ensures.fills.1
 
 pub returns-in-Whole-clause-room : goal.returns-in-Whole-clause-room
-returns-in-Whole-clause-room g c = can_be_many _ _ _ (search rules)
+returns-in-Whole-clause-room g c = can_be_many _ _ _ _ (search rules)
 
 pub returns-in-Ended-clause-room : goal.returns-in-Ended-clause-room
-returns-in-Ended-clause-room g c = can_end _ _ _
+returns-in-Ended-clause-room g c = can_end _ _ _ _
 
 pub returns-in-Failed-clause-room : goal.returns-in-Failed-clause-room
-returns-in-Failed-clause-room g c = can_fail _ _ _
+returns-in-Failed-clause-room g c = can_fail _ _ _ _ (c.in-Failed.ensures.fails tt)
 
 pub returns-in-Ended-eq0-clause-room : goal.returns-in-Ended-eq0-clause-room
-returns-in-Ended-eq0-clause-room g c = can_end _ _ _
+returns-in-Ended-eq0-clause-room g c = can_end _ _ _ _
 
 pub returns-in-Ended-fill_at_once-clause-room : goal.returns-in-Ended-fill_at_once-clause-room
-returns-in-Ended-fill_at_once-clause-room g c = can_be_cut _ _ _ (search rules)
+returns-in-Ended-fill_at_once-clause-room g c = can_be_cut _ _ _ _ (search rules)
 
 pub returns-in-Failed-fill_at_once-clause-room : goal.returns-in-Failed-fill_at_once-clause-room
-returns-in-Failed-fill_at_once-clause-room g c = can_fail _ _ _
+returns-in-Failed-fill_at_once-clause-room g c =
+    can_fail _ _ _ _ (c.in-Failed-fill_at_once.ensures.fails tt)
 
 pub returns-then-length-max_body-clause-room : goal.returns-then-length-max_body-clause-room
 returns-then-length-max_body-clause-room g c =
-    can_be_long _ _ _ c.fill_at_once.new.buffer (search rules)
+    can_be_long _ _ _ _ c.fill_at_once.new.buffer (search rules)
     (whole_head _ _ _ _ c.fill_at_once.auto.buffer c.head_size.ensures.size
     c.head_size.ensures.short refl)
     (omega (arith, c.max_body.ensures.most, c.decode_head-length.ensures.field))
@@ -97,11 +99,12 @@ returns-in-Whole-fill_at_once-2-clause-room g c =
 
 pub returns-in-Ended-fill_at_once-2-clause-room : goal.returns-in-Ended-fill_at_once-2-clause-room
 returns-in-Ended-fill_at_once-2-clause-room g c =
-    can_lack_body _ _ _ c.fill_at_once.new.buffer _ _ (search rules)
+    can_lack_body _ _ _ _ c.fill_at_once.new.buffer _ _ (search rules)
     (whole_head _ _ _ _ c.fill_at_once.auto.buffer c.head_size.ensures.size
     c.head_size.ensures.short refl)
     (omega (arith, c.max_body.ensures.most, c.decode_head-length.ensures.field))
-    (search rules) c.in-Ended-fill_at_once-2.ensures.0
+    (search rules) c.in-Ended-fill_at_once-2.ensures.fills.0
 
 pub returns-in-Failed-fill_at_once-2-clause-room : goal.returns-in-Failed-fill_at_once-2-clause-room
-returns-in-Failed-fill_at_once-2-clause-room g c = can_fail _ _ _
+returns-in-Failed-fill_at_once-2-clause-room g c =
+    can_fail _ _ _ _ (c.in-Failed-fill_at_once-2.ensures.fails tt)

@@ -1,4 +1,5 @@
-use Rattle.std.proofs.Common.{rules}
+use Rattle.std.proofs.Common.{rules, List, ap, ◌∙◌}
+use Rattle.maps.specs.Maps.{MapState, rows_of, contents_of}
 use Rattle.host.proofs.Listing.{maps_failed, last_failed, last_written}
 use Rattle.host.proofs.engine.end_report.Goals as goal
 
@@ -19,3 +20,10 @@ returns-in-Ok-write_whole-clause-writes g c =
 
 pub returns-in-Ok-write_whole-clause-tally : goal.returns-in-Ok-write_whole-clause-tally
 returns-in-Ok-write_whole-clause-tally g c = search rules
+
+pub returns-in-Ok-write_whole-clause-maps : goal.returns-in-Ok-write_whole-clause-maps
+returns-in-Ok-write_whole-clause-maps g c =
+    let stay = c.in-Ok.ensures.stay in (
+      ap (λ (maps : List MapState). rows_of maps) stay ∙ c.into_parts-maps.ensures.rows,
+      ap (λ (maps : List MapState). contents_of maps) stay ∙ c.into_parts-maps.ensures.contents,
+    )

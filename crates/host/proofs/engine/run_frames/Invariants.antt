@@ -8,9 +8,9 @@ use Rattle.host.proofs.engine.run_frames.Given as goal
 abbrev pub invariant-frames : goal.invariant-frames
 invariant-frames g l = (taken : List PacketFrame) × WrittenSoFar (report_form_by l.form)
     (g.M.Runner.rule l.fn.machine) (g.M.Runner.contents l.fn.machine)
-    (g.R.Read.remaining l.fn.source)
+    (record { bytes = g.R.Source.remaining l.fn.source; may_fail = g.R.Source.may_fail })
     (record { report = g.W1.Write.contents l.fn.report; sent = g.W2.Write.contents l.fn.out })
-    taken (g.R.Read.remaining l.reader.source) l.reader.position l.number
+    taken (g.R.Source.remaining l.reader.source) l.reader.position l.number
     (g.M.Runner.contents l.machine)
     (record { report = g.W1.Write.contents l.report; sent = g.W2.Write.contents l.out })
     × (g.M.Runner.rule l.machine ≡ g.M.Runner.rule l.fn.machine)

@@ -1,24 +1,28 @@
-use Rattle.std.proofs.Common.{ap, ◌∙◌}
-use Rattle.isa_model.specs.Code.Instructions.{Program}
-use Rattle.isa_model.specs.Code.Versions.{version_number}
+use Rattle.std.proofs.Common.{◌≡◌, sym, ap, ◌∙◌}
+use Rattle.isa_model.specs.Reporting.Reports.{starting_contents}
+use Rattle.maps.specs.Maps.{contents_of}
 use Rattle.maps.proofs.MapLaws.{rows_of-starting, contents_of-starting}
-use Rattle.host.proofs.Accepted.{ReportsRun-machine}
+use Rattle.host.specs.Tallies.{tallied}
+use Rattle.host.proofs.Accepted.{ReportsRun-tallied, tallied-memory}
 use Rattle.host.proofs.verified.run.Goals as goal
 
-pub new-requires-2 : goal.new-requires-2
-new-requires-2 g c =
-    rw (c.in-Ok.ensures, c.image-2.ensures.program)
-    (record { rows = rows_of-starting c.args.verified.program.maps })
+pub run_from-requires : goal.run_from-requires
+run_from-requires g c =
+    rw (c.in-Ok.ensures, c.image.ensures.program) (rows_of-starting c.args.verified.program.maps)
+
+pub returns-clause-report_untouched : goal.returns-clause-report_untouched
+returns-clause-report_untouched g c = λ e.
+    c.run_from.ensures.report_untouched (tallied-memory _ (sym c.tally_in.ensures ∙ e))
+
+pub returns-clause-out_untouched : goal.returns-clause-out_untouched
+returns-clause-out_untouched g c = λ e.
+    c.run_from.ensures.out_untouched (tallied-memory _ (sym c.tally_in.ensures ∙ e))
 
 pub returns-clause-reports : goal.returns-clause-reports
 returns-clause-reports g c = λ wrote.
+    let start : contents_of c.in-Ok.maps ≡ starting_contents c.args.verified.program.maps =
+    rw (c.in-Ok.ensures, c.image.ensures.program)
+    (contents_of-starting c.args.verified.program.maps) in
     rw c.tally_in.ensures
-    (ReportsRun-machine c.args.verified _ _ _ _ c.bound-bound.result
-    c.version_of-program_version.result _ _ _ _ c.bound-bound.ensures.verified
-    c.bound-bound.ensures.bound
-    (c.version_of-program_version.ensures _
-    (c.version.ensures
-    ∙ ap (λ (p : Program). version_number p.version) c.image.ensures.program))
-    (rw (c.in-Ok.ensures, c.image-2.ensures.program)
-    (contents_of-starting c.args.verified.program.maps)) c.in-Ok-new.ensures.made
-    c.run_frames.ensures.reports)
+    (ReportsRun-tallied c.args.verified _ _ _ _ c.run_from.result start
+    (c.run_from.ensures.reports (λ e. wrote (c.tally_in.ensures ∙ ap tallied e))))

@@ -1,0 +1,100 @@
+#!/usr/bin/env python3
+"""Runs the checks of the gate side by side, on the programs that were built.
+
+usage: python3 -m checks [--list] [--jobs N] [NAME ..]        (at the top of the repository)
+
+NAME is one of --list, which prints each with its command and what it checks; without a name all run. --jobs: so many at once (the
+default: the cores). What a check prints is shown if it fails. The last line is 'N passed, M failed': a check counts once, and the
+pages' examples each. The exit status is 0 if all pass.
+"""
+import argparse
+import os
+import re
+import subprocess
+import sys
+import time
+from concurrent.futures import ThreadPoolExecutor, as_completed
+from dataclasses import dataclass
+
+from .listed import CHECKS, TOP, Check
+
+CANNOT = 77
+EXAMPLES = re.compile(r"^(\d+) examples, (\d+) differ$")
+MOST_SHOWN = 20000  # characters of a check's output, from its end
+
+
+@dataclass(frozen=True)
+class Result:
+    """How a check ended."""
+
+    check: Check
+    status: int
+    said: str
+    seconds: float
+
+    def counts(self) -> tuple[int, int]:
+        """How many tests of it passed and failed."""
+        lines = self.said.splitlines()
+        found = EXAMPLES.match(lines[-1]) if lines else None
+        if found:
+            total, differ = int(found[1]), int(found[2])
+            return total - differ, differ if self.status == 0 or differ else 1
+        return (1, 0) if self.is_passed() else (0, 1)
+
+    def is_passed(self) -> bool:
+        return self.status == 0 or self.check.skips and self.status == CANNOT
+
+
+def run(check: Check) -> Result:
+    begin = time.monotonic()
+    ran = subprocess.run(check.command.split(), cwd=TOP, stdin=subprocess.DEVNULL, stdout=subprocess.PIPE, stderr=subprocess.STDOUT, text=True, errors="replace", check=False)
+    return Result(check, ran.returncode, ran.stdout, time.monotonic() - begin)
+
+
+def tell(result: Result) -> None:
+    """A line for a check, with the last line that it printed; all that it printed where it failed."""
+    lines = result.said.strip().splitlines()
+    if result.is_passed():
+        last = lines[-1] if lines else ""
+        print(f"{result.check.name}: {result.seconds:.0f} s{': ' + last[:160] if last else ''}", flush=True)
+        return
+    print(result.said[-MOST_SHOWN:].rstrip())
+    print(f"FAILED: {result.check.name}: {result.check.command} ended with status {result.status}", flush=True)
+
+
+def run_all(checks: list[Check], jobs: int) -> list[Result]:
+    found = []
+    with ThreadPoolExecutor(jobs) as pool:
+        waiting = [pool.submit(run, it) for it in sorted(checks, key=lambda it: -it.seconds) if not it.alone]
+        for ended in as_completed(waiting):
+            found.append(ended.result())
+            tell(found[-1])
+    for check in checks:
+        if check.alone:
+            found.append(run(check))
+            tell(found[-1])
+    return found
+
+
+def main() -> int:
+    words = argparse.ArgumentParser(prog="python3 -m checks", description=__doc__, formatter_class=argparse.RawDescriptionHelpFormatter)
+    words.add_argument("--list", action="store_true")
+    words.add_argument("--jobs", type=int, default=len(os.sched_getaffinity(0)))
+    words.add_argument("names", nargs="*", metavar="NAME")
+    given = words.parse_args()
+    if given.list:
+        for check in CHECKS:
+            print(f"{check.name}: {check.command}\n    {check.about}")
+        return 0
+    unknown = [name for name in given.names if name not in {it.name for it in CHECKS}]
+    if unknown:
+        words.error(f"there is no check {unknown[0]}; --list prints them")
+    results = run_all([it for it in CHECKS if not given.names or it.name in given.names], max(given.jobs, 1))
+    counts = [it.counts() for it in results]
+    passed, failed = sum(it[0] for it in counts), sum(it[1] for it in counts)
+    print(f"{passed} passed, {failed} failed")
+    return 1 if failed else 0
+
+
+if __name__ == "__main__":
+    sys.exit(main())

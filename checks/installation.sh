@@ -1,0 +1,52 @@
+#!/bin/bash
+# Installs the programs that rt ci left into a fresh folder, and runs there what a user runs. In the gate.
+set -euo pipefail
+top=$(dirname "$(dirname "$(realpath "$0")")")
+cd "$top"
+work=$(mktemp -d)
+trap 'rm -rf "$work"' EXIT
+bash install.sh "$work/bin" crates/xdpvm/out/xdpvm crates/xdpvm_survey/out/xdpvm_survey
+cd "$work"
+PATH=$work/bin:$PATH
+
+# Runs a command that has to be refused.
+refused() {
+    if "$@" 2> refusal; then
+        echo "installation.sh: not refused: $*" >&2
+        exit 1
+    fi
+}
+
+xdpvm-frames "$top/examples/firewall.pcapng" firewall.frames
+xdpvm run "$top/examples/firewall.image" firewall.frames sent.frames > report
+cmp report "$top/examples/firewall.report"
+xdpvm-run run "$top/examples/firewall.text" "$top/examples/firewall.pcapng" sent.pcapng > report
+cmp report "$top/examples/firewall.report"
+xdpvm-xdp share/xdpvm/examples/firewall.text share/xdpvm/examples/firewall.pcapng passed.pcapng > counts
+grep -q '^8 frames: 4 PASS, 4 DROP$' counts
+cmp passed.pcapng sent.pcapng
+xdpvm-frames sent.pcapng again.frames
+cmp again.frames sent.frames
+
+# an output that is an input, words of help, what is not installed
+refused xdpvm-xdp "$top/examples/firewall.text" again.frames again.frames
+cmp again.frames sent.frames
+xdpvm-image --help > help
+refused grep -q "python3 tools/" help
+xdpvm-table --help > help
+xdpvm-kernel --help > help
+[[ ! -e bin/xdpvm-limits && ! -e bin/frames.py && -s share/xdpvm/docs/GUIDE.md && -s include/xdpvm.h && -s lib/libxdpvm_c.a ]]
+refused bash "$top/install.sh" "$work/wrong" /bin/true
+[[ ! -e $work/wrong ]]
+
+xdpvm-object --source "$top/examples/firewall.text" "$top/examples/firewall.image" firewall.o
+xdpvm-image firewall.o again.image
+cmp again.image "$top/examples/firewall.image"
+xdpvm_survey --format csv --no-header "$top/examples/firewall.image" > rows
+grep -q '^[^,]*firewall.image,ok,,35,0,32,' rows
+xdpvm-survey --format csv --no-header "$top/examples/firewall.text" > rows
+grep -q '^[^,]*firewall.text,ok,,35,0,32,' rows
+grep -q '^.TH XDPVM 1' share/man/man1/xdpvm.1
+grep -q '^.TH XDPVM_SURVEY 1' share/man/man1/xdpvm_survey.1
+bash -n share/bash-completion/completions/xdpvm
+[[ -s share/zsh/site-functions/_xdpvm && -s share/fish/vendor_completions.d/xdpvm.fish ]]

@@ -1,0 +1,61 @@
+"""The checks, in the order in which they are listed. The dearest begin first; those that measure time run alone, at the end."""
+from dataclasses import dataclass
+from pathlib import Path
+
+TOP = Path(__file__).resolve().parent.parent
+PROGRAM = "crates/xdpvm/out/xdpvm"
+
+
+@dataclass(frozen=True)
+class Check:
+    """A command that ends with status 0 where all is as it is to be. `seconds` is about what it takes by itself on an idle machine
+    of four cores. Status 77 is that it cannot be tried here, where `skips` says that this may be."""
+
+    name: str
+    command: str
+    about: str
+    seconds: int = 1
+    skips: bool = False
+    alone: bool = False
+
+
+CHECKS = (
+    Check("guide", "python3 examples/guide.py", "every example of the pages, on the program; that links lead somewhere, and that clauses which pages name exist", 40),
+    Check("cases", "python3 tests/commands.py", "the commands of both programs on cases that are written by hand: what is written to each output and file, and the status", 6),
+    Check("programs", "python3 tests/programs.py", "texts: verdicts, bounds and runs of programs that are written by hand", 8),
+    Check("messages", "python3 examples/messages.py", "what is said of wrong inputs", 4),
+    Check("edits_fit", "python3 assurance/run.py --fit", "whether the text that each edit replaces is still there", 2),
+    Check("laws", "python3 assurance/laws.py", "which laws are in specs/ without need", 2),
+    Check("names", "python3 assurance/names.py", "which public names mean different things in two crates", 2),
+    Check("file_map", "python3 assurance/file_map.py", "whether the map of the files agrees with the tree", 2),
+    Check("trusted", "python3 assurance/trusted.py", "which definitions the promise rests on", 2),
+    Check("scripts", "python3 assurance/scripts.py", "whether each script has a run", 1),
+    Check("script_tests", "python3 assurance/test_scripts.py", "the scripts of assurance/ on small cases", 5),
+    Check("limits", "python3 tools/limits.py", "which numbers stand for a limit and do not cite its name", 2),
+    Check("version", "python3 tools/version.py", "that the version is the same wherever it stands", 1),
+    Check("header", "python3 examples/embed/header.py", "the declarations for C and Rust against the exports of the library", 1),
+    Check("embedding", "bash examples/embed/build.sh --short", "the library, called from C and Rust on every image in examples/, with each request for memory refused in turn", 12),
+    Check("installation", "bash checks/installation.sh", "install.sh into a fresh folder, and what a user runs there", 5),
+    Check("releases", "bash checks/releases.sh", "the archives of a release, tried without the toolchain", 25),
+    Check("tools", "python3 tools/test_tools.py", "frames.py, image.py, table.py and xdp.py on small cases", 15),
+    Check("objects_made", "python3 tools/test_object.py", "objects for Linux, made and read", 8),
+    Check("files", "python3 tools/test_files.py", "that no tool writes over a file that it reads, and that outputs are whole", 10),
+    Check("objects_run", "python3 tests/object_files.py", "stored objects of clang and gcc against their C, compiled here", 8),
+    Check("damage", "python3 assurance/damage_tools.py --each 20", "damaged objects, captures and texts", 10),
+    Check("manual", "python3 tools/manual.py --check", "the man pages and completions against what --help says", 2),
+    Check("pictures", "python3 tools/pictures.py --check", "the pictures of the pages against what they show", 1),
+    Check("expressions", "python3 tests/tcpdump.py", "filters of tcpdump's expressions against stored results of tcpdump", 12),
+    Check("terminal", "python3 assurance/terminal.py", "what a terminal shows while a command takes over a second", 8, skips=True, alone=True),
+    Check("devices", "python3 assurance/devices.py", "that files on two devices are two", 1, skips=True),
+    Check("pipes", "python3 assurance/pipes.py", "that each frame is handed on before the next one is waited for, with a slow writer within 50 ms", 3, alone=True),
+    Check("endless", "python3 assurance/endless.py", "that inputs without an end are refused as their first bytes are, within a second and 64 MB", 6, alone=True),
+    Check("failures", "bash assurance/break.sh --few", "what happens where memory, a read or a write fails, on three programs", 12),
+    Check("survey_failures", "python3 assurance/break_survey.py", "the same of the survey", 8),
+    Check("tables", "python3 assurance/proofs.py --random 20 --damages 3", "that recheck accepts what prove wrote, and refuses what is damaged", 12),
+    Check("kernel", "bash checks/kernel.sh", "that Linux runs an example alike", 2, skips=True),
+    Check("objects_of_cases", "python3 assurance/object_sweep.py stored --every 10", "objects of the cases in tests/programs", 8),
+    Check("objects_of_random", "python3 assurance/object_sweep.py random --count 100", "objects of random programs", 5),
+    Check("loading", "python3 examples/loading.py", "every example of LOADING.md in a network namespace", 10, skips=True),
+    Check("interfaces", "python3 assurance/interfaces.py", "examples on a pair of virtual interfaces, by each loader", 12, skips=True),
+    Check("bridge", "python3 tests/bridge.py", "the bridge between two network namespaces: traffic, filters that change, and random frames against `xdpvm run`", 20, skips=True),
+)

@@ -1,0 +1,10 @@
+use Rattle.std.proofs.Common.{take}
+use Rattle.std.specs.Io.KnownBytes.{Appends}
+use Rattle.maps.specs.Listing.{listed_key_values}
+use Rattle.map_texts.specs.Listings.{lines_of}
+use Rattle.map_texts.proofs.listings.write_key_values.Given as goal
+
+abbrev pub invariant-loop-k : goal.invariant-loop-k
+invariant-loop-k g l =
+    Appends (g.W.Write.contents l.fn.writer) (g.W.Write.contents l.writer)
+    (lines_of l.index (take l.k (listed_key_values l.key_values)))
