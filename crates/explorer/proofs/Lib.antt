@@ -10,3 +10,5 @@ pub mod Walking
 pub mod Counting
 pub mod Telling
 pub mod Trails
+pub mod SameMaps
+pub mod ProvedBytesLaws

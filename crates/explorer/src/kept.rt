@@ -2,8 +2,10 @@
 
 ghost use Rattle.std.specs.Prelude.{◌≡◌, IfOk, IfSome, IsTrue};
 ghost use Rattle.state_index.specs.Parts.{AreBlankBeside, AreParts};
+ghost use Rattle.explorer.specs.ProvedBytes.{with_proved};
 
 use crate::kept_frames::{KeptFrame, are_frames, keep_all, restore_all};
+use crate::proved_bytes::{NOTHING, ProvedBytes, give_proved, may_have_many, take_proved};
 use control_flow::SlotMask;
 use isa_model::STACK_SIZE;
 use stack_state::{AbstractFrame, State};
@@ -101,7 +103,8 @@ fn own_words(innermost: &KeptFrame, callers: &Rc<Vec<KeptFrame>>) -> u32 {
     words
 }
 
-/// A state that is kept for later: its live call frames only.
+/// A state that is kept for later: its live call frames only. What a packet test shows of many
+/// pointers at once may be kept apart from them, so that they are the same in other states.
 ///
 /// Contracts see the state.
 #[derive(Drop)]
@@ -109,6 +112,9 @@ pub struct Kept {
     slot: u32,
     /// How many words it took that it did not share when it was kept.
     words: u32,
+    /// What is proved besides, of two identities.
+    proved: ProvedBytes,
+    also_proved: ProvedBytes,
     callers: Rc<Vec<KeptFrame>>,
     innermost: KeptFrame,
 }
@@ -116,14 +122,15 @@ pub struct Kept {
 impl Model for Kept {
     ghost use Rattle.std.specs.Prelude.{◌≤◌, length};
     ghost use Rattle.stack_state.specs.declared.states.State.{State};
+    ghost use Rattle.explorer.specs.ProvedBytes.{with_proved};
 
     ghost Value = { State };
 
-    ghost view = { λ kept. record {
+    ghost view = { λ kept. with_proved kept.proved (with_proved kept.also_proved (record {
       slot = kept.slot;
       callers = record { items = kept.callers.value.items };
       innermost = kept.innermost;
-    } };
+    })) };
 
     ghost invariant = { λ kept. length kept.callers.value.items ≤ 7 };
 }
@@ -151,19 +158,42 @@ impl Kept {
     }
 
     /// The same for a state whose innermost call frame has only these stack slots about which
-    /// something may be known.
+    /// something may be known. It is scratch space afterwards.
     pub(crate) fn of_forgotten(
         alloc: Global,
-        state: &State,
+        state: &mut State,
         stack_slots: SlotMask,
         parts: &mut Vec<Part>,
         others: Others<'_>,
     ) -> Result<Self, AllocError>
-        requires { AreBlankBeside stack_slots state.now.innermost.stack.slots }
-        ensures { IfOk result (λ kept. kept ≡ state.now) }
+        requires { AreBlankBeside stack_slots state.old.innermost.stack.slots }
+        ensures { IfOk result (λ kept. kept ≡ state.old) }
     {
+        let proved = match may_have_many(state) {
+            true => take_proved(state, NOTHING),
+            false => NOTHING,
+        };
+        if proved.bytes != 0 {
+            return Kept::beside(alloc, state, parts, others, proved);
+        }
         take_parts_in(parts, &state.innermost, stack_slots)?;
         Kept::of_parts(alloc, state, parts, others)
+    }
+
+    /// The same, where this is proved of its pointers besides.
+    #[inline(never)]
+    fn beside(
+        alloc: Global,
+        state: &mut State,
+        parts: &mut Vec<Part>,
+        others: Others<'_>,
+        proved: ProvedBytes,
+    ) -> Result<Self, AllocError>
+        ensures { IfOk result (λ kept. kept ≡ with_proved proved state.old) }
+    {
+        let also_proved = take_proved(state, proved);
+        take_parts(parts, &state.innermost)?;
+        Kept::of_rest(alloc, state, parts, others, (proved, also_proved))
     }
 
     /// Keeps a state whose innermost frame has these parts. The parts of its other frames are
@@ -176,6 +206,21 @@ impl Kept {
     ) -> Result<Self, AllocError>
         requires { AreParts parts.old.items state.now.innermost }
         ensures { IfOk result (λ kept. kept ≡ state.now) }
+    {
+        Kept::of_rest(alloc, state, parts, others, (NOTHING, NOTHING))
+    }
+
+    /// The same, where this is proved of its pointers besides, of two identities.
+    fn of_rest(
+        alloc: Global,
+        state: &State,
+        parts: &mut Vec<Part>,
+        others: Others<'_>,
+        proved: (ProvedBytes, ProvedBytes),
+    ) -> Result<Self, AllocError>
+        requires { AreParts parts.old.items state.now.innermost }
+        ensures { IfOk result (λ kept.
+            kept ≡ with_proved proved.0 (with_proved proved.1 state.now)) }
     {
         let Ok(slot) = u32::try_from(state.slot) else {
             return Err(AllocError);
@@ -193,6 +238,8 @@ impl Kept {
         Ok(Kept {
             slot,
             words,
+            proved: proved.0,
+            also_proved: proved.1,
             callers,
             innermost,
         })
@@ -203,10 +250,18 @@ impl Kept {
         self.words
     }
 
-    /// Makes the key that of the state.
-    pub(crate) fn put_key(&self, key: &mut Key) -> Result<(), AllocError> {
+    /// Whether its parts say all that is known.
+    fn has_all_parts(&self) -> bool {
+        self.proved.bytes == 0 && self.also_proved.bytes == 0
+    }
+
+    /// Makes the key that of the state, which this is.
+    pub(crate) fn put_key(&self, state: &State, key: &mut Key) -> Result<(), AllocError> {
         if !key.is_sought {
             return Ok(());
+        }
+        if !self.has_all_parts() {
+            return key.take(state, SlotMask::all());
         }
         key.parts.clear();
         self.innermost.put_parts(&mut key.parts)?;
@@ -249,6 +304,9 @@ impl Kept {
     pub(crate) fn may_cover(&self, state: &State) -> bool
         ensures { self.now ≡ state.now → IsTrue result }
     {
+        if self.proved.bytes != 0 || self.also_proved.bytes != 0 {
+            return true;
+        }
         self.innermost.may_cover(&state.innermost)
     }
 
@@ -259,5 +317,7 @@ impl Kept {
         state.slot = self.slot as usize;
         restore_all(self.callers.as_ref().as_slice(), &mut state.callers);
         self.innermost.restore(&mut state.innermost);
+        give_proved(state, self.also_proved);
+        give_proved(state, self.proved);
     }
 }

@@ -20,6 +20,8 @@ use std::marker::Model;
 #[derive(Drop)]
 pub struct KeptFrame {
     return_slot: usize,
+    /// How many of its parts name an identity.
+    named: u16,
     parts: KeptParts,
 }
 
@@ -63,9 +65,11 @@ impl KeptFrame {
             first: groups_in(others.0),
             second: groups_in(others.1),
         };
+        let named = u16::try_from(named_in(parts)).unwrap_or(u16::MAX);
         let parts = KeptParts::of(alloc, parts, others, FEW, is_innermost)?;
         Ok(KeptFrame {
             return_slot: frame.return_slot,
+            named,
             parts,
         })
     }
@@ -168,13 +172,9 @@ impl KeptFrame {
         u32::try_from(words).unwrap_or(u32::MAX)
     }
 
-    /// How many of its parts name an identity. A constant names none.
+    /// How many of its parts name an identity.
     pub fn named(&self) -> usize {
-        let mut count = named_in(self.parts.others());
-        for group in self.parts.groups() {
-            count = count.saturating_add(named_in(group.parts()));
-        }
-        count
+        usize::from(self.named)
     }
 }
 

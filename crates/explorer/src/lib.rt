@@ -15,6 +15,7 @@ mod latest;
 pub mod listened;
 mod listening;
 mod moves;
+mod proved_bytes;
 mod search;
 mod shared_parts;
 mod state_trees;

@@ -143,7 +143,7 @@ impl Search {
                 forget(flow, false, &mut self.scratch);
                 let mask = kept_slots(flow, self.scratch.slot);
                 let others = self.path.others_at(self.scratch.slot, self.states.last());
-                match Kept::of_forgotten(alloc, &self.scratch, mask, parts, others) {
+                match Kept::of_forgotten(alloc, &mut self.scratch, mask, parts, others) {
                     Ok(other) => Some(other),
                     Err(_) => return Err(NO_MEMORY),
                 }

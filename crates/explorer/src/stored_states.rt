@@ -166,7 +166,7 @@ impl StoredStates {
         self.key.has_limits = self.index.has_trees();
         match kept {
             None => self.key.take(state, stack_slots),
-            Some(kept) => kept.put_key(&mut self.key),
+            Some(kept) => kept.put_key(state, &mut self.key),
         }
     }
 

@@ -121,7 +121,7 @@ search_of : (c : After-push)
     ≡ record c.args.self.now { current = c.step_in_place.new.state; scratch = scratch })
 search_of c = elim c.match-ways.branch [
   | in-One w ↦ (c.step_in_place.new.other, w.self-is)
-  | in-Two+in-Ok-of_forgotten w ↦ (w.forget.new.state, w.self-is)
+  | in-Two+in-Ok-of_forgotten w ↦ (w.of_forgotten.new.state, w.self-is)
 ]
 
 pub come-requires-clause-comes : goal.come-requires-clause-comes

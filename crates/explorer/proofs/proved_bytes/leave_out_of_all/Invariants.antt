@@ -1,0 +1,7 @@
+use Rattle.std.proofs.Common.{◌≡◌, map, length}
+use Rattle.stack_state.specs.Effects.{proved_kind}
+use Rattle.explorer.proofs.proved_bytes.leave_out_of_all.Given as goal
+
+abbrev pub invariant-loop-index : goal.invariant-loop-index
+invariant-loop-index l =
+    map (proved_kind l.proved.identity l.proved.bytes) l.kinds ≡ map (proved_kind l.proved.identity l.proved.bytes) l.fn.kinds
