@@ -242,10 +242,11 @@ def comes_at_once():
     words = [program, "run", image("pass"), "/dev/stdin", "made"]
     with subprocess.Popen(words, stdin=subprocess.PIPE, stdout=subprocess.PIPE, bufsize=0) as running:
         running.stdin.write(front)
-        ready, _, _ = select.select([running.stdout], [], [], 20)
-        first = os.read(running.stdout.fileno(), 4096) if ready else b""
+        first = b""
+        while not first.endswith(b"\n") and select.select([running.stdout], [], [], 20)[0]:
+            first += os.read(running.stdout.fileno(), 4096) or b"\n"
         with open("made", "rb") as it:
-            magic = it.read()
+            magic = it.read(4)
         running.stdin.write(stream[len(front):])
         running.stdin.close()
         rest = running.stdout.read()
