@@ -5,8 +5,9 @@ usage: python3 assurance/library.py FOLDER
 
 FOLDER is a copy of this repository in which `rt ci` ran. The library is crates/xdpvm_c/out/libxdpvm_c.a; only `xdpvm_c` itself
 is proved, over its libraries: `rt lib` in crates/xdpvm_c would build these once more. Where `rt ci` took a program as passed
-earlier it leaves no object file, of which release.sh links the static programs. It is built here, and stays only if the program
-that the toolchain links of it is, byte for byte, the one that `rt ci` left. The exit status is 0, or 1 with a message.
+earlier it leaves no object file, of which release.sh links the static programs. Then it is built here, unless an earlier record
+of the gate has one of the same program, and stays only if the program that the toolchain links of it is, byte for byte, the one
+that `rt ci` left. The exit status is 0, or 1 with a message.
 """
 import os
 import shutil
@@ -15,6 +16,8 @@ import sys
 import tempfile
 from pathlib import Path
 from typing import Any
+
+from record import object_of
 
 PROGRAMS = ("xdpvm", "xdpvm_survey")
 
@@ -54,7 +57,7 @@ def main() -> int:
     for name in PROGRAMS:
         program = top / "crates" / name / "out" / name
         made = program.with_name(f"{name}.o")
-        if made.is_file() or not program.is_file():
+        if not program.is_file() or object_of(program):
             continue
         crate = rtlib.Crate(str(top / "crates" / name), str(top), {})
         if not built(kit, crate, crate.words(["--jobs", "2"]), f"out/{name}.o"):
