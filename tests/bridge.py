@@ -420,6 +420,12 @@ out: exit
 """
 
 
+def can_be_tried() -> bool:
+    """Whether network namespaces with virtual interfaces can be made here."""
+    words = ["unshare", "-n", "ip", "link", "add", "name", "try0", "type", "veth", "peer", "name", "try1"]
+    return not os.geteuid() and not subprocess.run(words, capture_output=True, check=False).returncode
+
+
 def main() -> int:
     words = argparse.ArgumentParser(description=__doc__, formatter_class=argparse.RawDescriptionHelpFormatter)
     words.add_argument("archive", nargs="?", type=Path, default=TOP / "crates/xdpvm_c/out/libxdpvm_c.a")
@@ -428,7 +434,7 @@ def main() -> int:
     words.add_argument("--inside", action="store_true", help=argparse.SUPPRESS)
     given_words = words.parse_intermixed_args()
     if not given_words.inside:
-        if os.geteuid() or subprocess.run(["unshare", "-n", "ip", "link", "add", "name", "try0", "type", "veth", "peer", "name", "try1"], capture_output=True, check=False).returncode:
+        if not can_be_tried():
             print("bridge.py: not tried, since network namespaces with virtual interfaces cannot be made here")
             return CANNOT
         return subprocess.run(["unshare", "-n", sys.executable, __file__, "--inside", *sys.argv[1:]], check=False).returncode
