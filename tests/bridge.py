@@ -1,12 +1,12 @@
 #!/usr/bin/env python3
 """examples/bridge between two network namespaces: what it passes on, what it says, and how it ends.
 
-usage: python3 tests/bridge.py [ARCHIVE [PROGRAM]] [--fuzz SECONDS]
+usage: python3 tests/bridge.py [ARCHIVE [PROGRAM]] [--fuzz SECONDS [--pause MICROSECONDS]]
 
 Builds the bridge over the library ARCHIVE (the default: crates/xdpvm_c/out/libxdpvm_c.a), and runs it between two pairs of
 virtual interfaces: ICMP, 100 MB of TCP with their checksum, UDP to a port that is allowed and to one that is not, a filter that
 changes and one that is refused while frames come, and random frames, of which those that come out are those that PROGRAM
-(crates/xdpvm/out/xdpvm) writes for the bridge's own capture. --fuzz only sends random frames, for so long.
+(crates/xdpvm/out/xdpvm) writes for the bridge's own capture. --fuzz only sends random frames, for so long, with a pause after each (50 microseconds).
 
 The exit status is 0 if all is as it is to be, 1 if not, and 77 where network namespaces cannot be made.
 """
@@ -349,13 +349,13 @@ def test_traffic(program: Path, work: Path, ends: Ends, images: dict[str, Path])
     need(counts["DROP"] == 200 and not counts["lost"] and not counts["not sent"] and not counts["too long"], f"{counts}")
 
 
-def test_frames(program: Path, xdpvm: Path, work: Path, ends: Ends, image: Path, seed: int, count: int) -> int:
+def test_frames(program: Path, xdpvm: Path, work: Path, ends: Ends, image: Path, seed: int, count: int, pause: float = 0.00005) -> int:
     """Random frames: those that come out are those that `xdpvm run` writes for the bridge's capture, in order."""
     capture, stream, out, report = (work / name for name in ("capture.pcap", "capture.frames", "out.frames", "report"))
     bridge = Bridge(program, work, str(image), "in0", "out0", "--pcap", str(capture))
     there = Task(ends.right, frames_out)
     time.sleep(0.3)
-    count = Task(ends.left, send_frames, seed, count, 0.00005).answer()
+    count = Task(ends.left, send_frames, seed, count, pause).answer()
     came = there.answer()
     need(bridge.end(signal.SIGINT) == 0, "the bridge did not end with 0")
     counts = bridge.counts()
@@ -383,7 +383,7 @@ def test_down(program: Path, work: Path, image: Path) -> None:
     called("ip", "link", "set", "dev", "in0", "up")
 
 
-def tried(program: Path, xdpvm: Path, work: Path, fuzz: int) -> None:
+def tried(program: Path, xdpvm: Path, work: Path, fuzz: int, pause: float) -> None:
     texts = {"pass": "r0 = 2\nexit\n", "ports": (TOP / "examples/bridge/ports.text").read_text(), "wrong": "exit\n", "mixed": MIXED}
     images = {name: image_of(xdpvm, text, work / f"{name}.image") for name, text in texts.items()}
     ends = Ends()
@@ -392,7 +392,7 @@ def tried(program: Path, xdpvm: Path, work: Path, fuzz: int) -> None:
             end, count = time.monotonic() + fuzz, 0
             while time.monotonic() < end:
                 seed = random.randrange(1 << 30)
-                count += test_frames(program, xdpvm, work, ends, images["mixed"], seed, 20000)
+                count += test_frames(program, xdpvm, work, ends, images["mixed"], seed, 20000, pause)
                 print(f"seed {seed}: {count} frames came out so far", flush=True)
             return
         test_refusals(program, work, images)
@@ -431,6 +431,7 @@ def main() -> int:
     words.add_argument("archive", nargs="?", type=Path, default=TOP / "crates/xdpvm_c/out/libxdpvm_c.a")
     words.add_argument("program", nargs="?", type=Path, default=TOP / "crates/xdpvm/out/xdpvm")
     words.add_argument("--fuzz", type=int, default=0)
+    words.add_argument("--pause", type=float, default=50)
     words.add_argument("--inside", action="store_true", help=argparse.SUPPRESS)
     given_words = words.parse_intermixed_args()
     if not given_words.inside:
@@ -442,7 +443,7 @@ def main() -> int:
         work = Path(folder)
         try:
             called("bash", str(TOP / "examples/bridge/build.sh"), str(work / "bridge"), str(given_words.archive.resolve()))
-            tried(work / "bridge", given_words.program.resolve(), work, given_words.fuzz)
+            tried(work / "bridge", given_words.program.resolve(), work, given_words.fuzz, given_words.pause / 1e6)
         except Wrong as why:
             print(f"bridge.py: {why}")
             return 1
