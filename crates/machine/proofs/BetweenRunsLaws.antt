@@ -25,7 +25,7 @@ use Rattle.maps.specs.ReportOrder.{with_key_of}
 use Rattle.maps.proofs.MapLaws.{FitsRow-IsMap, FitRows-IsMap, contents_of-at, contents_of-set, rows_of-set, length-rows_of}
 use Rattle.word_machine.specs.declared.memory.Memory.{Memory}
 use Rattle.machine.specs.Running.{Running}
-use Rattle.machine.specs.Ready.{IsReady, IsKept}
+use Rattle.machine.specs.Ready.{IsReady, IsVersioned}
 use Rattle.machine.specs.BetweenRuns.{row_at, content_at, ordered_at, with_content, key_or, value_or, AnswersUpdate, AnswersDelete, CopiesKeyValue}
 
 abbrev no_row : MapDef
@@ -125,10 +125,10 @@ ready_again p bound memory new ready rows are = record {
   capacity = ready.capacity;
 }
 
-pub kept_again : (p : Program) (bound version : ℕ) (memory : Memory) (new : List MapState)
-    → IsKept p bound version memory → rows_of new ≡ p.maps → All IsMap new
-    → IsKept p bound version (record memory { maps = new })
-kept_again p bound version memory new kept rows are = record {
+pub versioned_again : (p : Program) (bound version : ℕ) (memory : Memory) (new : List MapState)
+    → IsVersioned p bound version memory → rows_of new ≡ p.maps → All IsMap new
+    → IsVersioned p bound version (record memory { maps = new })
+versioned_again p bound version memory new kept rows are = record {
   ready = ready_again p bound memory new kept.ready rows are;
   version_is = kept.version_is;
 }

@@ -20,6 +20,6 @@ pub record IsReady (p : Program) (bound : ℕ) (memory : Memory) : Type 0 where
   pub capacity : vec_capacity memory.saved ≡ max_call_frames
 
 -- it is ready, and the number beside its program is that of the program's version
-pub record IsKept (p : Program) (bound version : ℕ) (memory : Memory) : Type 0 where
+pub record IsVersioned (p : Program) (bound version : ℕ) (memory : Memory) : Type 0 where
   pub ready : IsReady p bound memory
   pub version_is : version ≡ version_number p.version

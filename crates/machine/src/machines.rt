@@ -50,7 +50,7 @@ pub struct Machine {
 impl Model for Machine {
     ghost use Rattle.maps.specs.Maps.{contents_of};
     ghost use Rattle.machine.specs.Running.{Running};
-    ghost use Rattle.machine.specs.Ready.{IsKept};
+    ghost use Rattle.machine.specs.Ready.{IsVersioned};
 
     ghost Value = { Running };
 
@@ -60,7 +60,7 @@ impl Model for Machine {
       contents = contents_of machine.memory.maps;
     } };
 
-    ghost invariant = { λ machine. IsKept machine.program machine.bound machine.version
+    ghost invariant = { λ machine. IsVersioned machine.program machine.bound machine.version
         machine.memory };
 }
 

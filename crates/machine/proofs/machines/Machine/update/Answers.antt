@@ -1,4 +1,4 @@
-use Rattle.machine.proofs.BetweenRunsLaws.{keeps_rows, updates, kept_again}
+use Rattle.machine.proofs.BetweenRunsLaws.{keeps_rows, updates, versioned_again}
 use Rattle.machine.proofs.machines.Machine.update.Goals as goal
 
 pub invariant_of-self : goal.invariant_of-self
@@ -7,7 +7,7 @@ invariant_of-self c =
     let bound = c.self.inside.bound in
     let memory = c.self.inside.memory in
     let new = c.update-answer.new.self in
-    kept_again p bound c.self.inside.version memory new c.self.invariant
+    versioned_again p bound c.self.inside.version memory new c.self.invariant
     (keeps_rows p bound memory.maps c.self.invariant.ready.rows c.args.self.now c.self.view_is
     c.args.map c.requires.map new c.update-answer.ensures.others c.update-answer.ensures.updated.row)
     c.say_fits-2.ensures
