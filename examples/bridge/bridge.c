@@ -102,11 +102,8 @@ static void *run(void *given) {
         }
         if (read(way->wake, &woken, sizeof woken) < 0) continue;
         struct filter *fresh = atomic_exchange(&way->fresh, NULL);
-        if (fresh) {
-            filter_follow(fresh, &way->filter);
-            way->filter = *fresh;
-            free(fresh);
-        }
+        if (fresh && !filter_follow(fresh, &way->filter)) way->filter = *fresh;
+        free(fresh);
         if (atomic_exchange(&way->asked, 0)) print(way);
     }
     return NULL;

@@ -7,7 +7,6 @@
 #include <stdio.h>
 
 enum status { USAGE = 1, REFUSED = 2, UNREADABLE = 3, UNWRITABLE = 4, NO_MEMORY = 5, INTERFACE = 6, PERMISSION = 7, DOWN = 8 };
-enum { MOST_MAPS = 16, MOST_KEY = 64, MOST_VALUE = 4096 };
 
 /* Says one line on standard error. */
 __attribute__((format(printf, 1, 2))) void tell(const char *format, ...);
@@ -48,16 +47,10 @@ int link_send(const struct link *link, const struct arrival *frame);
 /* How many frames came while the ring was full, since the last call. */
 unsigned link_lost(const struct link *link);
 
-/* A row of an image: what a map is. */
-struct row {
-    uint16_t kind, key;
-    uint32_t value, entries;
-};
-
 struct filter {
     struct xdpvm_session session;
     size_t maps;
-    struct row rows[MOST_MAPS];
+    struct xdpvm_map_row rows[XDPVM_MAX_MAPS];
 };
 
 /* Where a filter comes from; `table` and `contents` may be NULL. */
@@ -69,8 +62,9 @@ struct sources {
    are kept from `before`, which may be NULL. */
 int filter_load(struct filter *filter, const struct sources *from, const struct filter *before);
 
-/* Moves the contents of maps with equal rows from one filter to another, which has not run, and closes the first. */
-void filter_follow(struct filter *filter, struct filter *before);
+/* Moves the contents of maps with equal rows from one filter to another, which has not run, and closes the first: 0, or -1 where
+   memory ran out, and then the other one is closed. */
+int filter_follow(struct filter *filter, struct filter *before);
 
 /* Prints the lines of all maps, as a report has them. */
 void filter_print(struct filter *filter, FILE *to);

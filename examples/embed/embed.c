@@ -74,5 +74,6 @@ int main(int count, char **words) {
     if (status != XDPVM_OK || assembled.size != 24) return 1;
     struct xdpvm_verdict verdict;
     if (xdpvm_verify(made, assembled.size, 1, text, sizeof text, &verdict) != XDPVM_UNDECIDED) return 1;
+    if (xdpvm_verify(made, 8, 1, text, 0, &verdict) != XDPVM_REFUSED || verdict.code != 202) return 1;
     return 0;
 }

@@ -4,7 +4,7 @@
 
 mod xdpvm;
 
-use xdpvm::{End, Error, Head, Session};
+use xdpvm::{End, Error, Head, MapRefusal, MapRow, Session};
 
 /// Prints what the command prints, and returns the bound of an accepted program.
 fn judge(image: &[u8]) -> Result<Option<u32>, Error> {
@@ -95,6 +95,37 @@ other: r0 = 1
 exit
 ";
 
+/// The text that fills the map of the session, and what the map holds.
+fn texts() -> Result<(), Error> {
+    let image = xdpvm::assemble(COUNTS)?;
+    let found = xdpvm::describe(&image)?;
+    assert_eq!((found.version, found.slots, found.maps.len()), (1, 14, 1));
+    let row = MapRow {
+        kind: 1,
+        key_size: 4,
+        value_size: 8,
+        entries: 8,
+    };
+    assert_eq!(found.maps[0], row);
+    assert_eq!(xdpvm::assemble(&xdpvm::disassemble(&image)?)?, image);
+    let mut session = Session::open(&image)?;
+    let text =
+        b"# two interfaces\nmap 0 02000000 0100000000000000\nmap 0 07000000 0000000000000000";
+    assert_eq!(session.fill(text)?, None);
+    let wrong = MapRefusal {
+        line: 2,
+        column: 7,
+        code: 3,
+    };
+    assert_eq!(
+        session.fill(b"map 0 09000000 0900000000000000\nmap 0 07 00")?,
+        Some(wrong)
+    );
+    let held = "map 0 02000000 0100000000000000\nmap 0 07000000 0000000000000000\nmap 0 09000000 0900000000000000\n";
+    assert_eq!(session.list()?, held);
+    Ok(())
+}
+
 fn main() -> Result<(), Box<dyn std::error::Error>> {
     assert_eq!(xdpvm::version(), "0.1.0");
     for path in std::env::args().skip(1) {
@@ -123,6 +154,13 @@ fn main() -> Result<(), Box<dyn std::error::Error>> {
         Session::open_with_table(&image, b"XPT1"),
         Err(Error::Refused(_))
     ));
+    assert_eq!(
+        xdpvm::refusal(&xdpvm::assemble("r0 = *(u64 *)(r10 - 8)\nexit\n")?)?,
+        Some((7, 0))
+    );
+    assert_eq!(xdpvm::refusal(b"XBP1")?, Some((202, 0)));
+    assert_eq!(xdpvm::refusal(&image)?, None);
     count()?;
+    texts()?;
     Ok(())
 }

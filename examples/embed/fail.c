@@ -1,6 +1,6 @@
 /* Every request for memory refused, one after the other, in every call that takes some: the answer is XDPVM_MEMORY, or what
-   it is with all memory; no memory is lost, and nothing is written. On an open session no call asks for any. Linked with
-   the library alone, whose three heap functions are defined here.
+   it is with all memory; no memory is lost, and nothing is written. On an open session no call asks for any, but the one
+   that lists the maps. Linked with the library alone, whose three heap functions are defined here.
 
    usage: fail IMAGE.. (with a text beside each image that is to be assembled, NAME.text, and a proof table, NAME.table) */
 #include "xdpvm.h"
@@ -56,10 +56,11 @@ static size_t read_file(const char *path, uint8_t *to, size_t room) {
     return size;
 }
 
-enum { ASSEMBLE, VERIFY, RUN_ONCE, TRACE_ONCE, RUN_STREAM, RECHECK, OPEN, OPEN_WITH_TABLE, OPENED, CALLS };
+enum { ASSEMBLE, DESCRIBE, DISASSEMBLE, VERIFY, RUN_ONCE, TRACE_ONCE, RUN_STREAM, RECHECK, OPEN, OPEN_WITH_TABLE, LIST, OPENED, CALLS };
 
-static const char *const NAMES[CALLS] = {"assemble", "verify", "run_once", "trace_once", "run_stream", "recheck", "open",
-                                         "open_with_table", "run, lookup, update, delete, next"};
+static const char *const NAMES[CALLS] = {"assemble", "describe", "disassemble", "verify", "run_once", "trace_once", "run_stream",
+                                         "recheck", "open", "open_with_table", "list",
+                                         "run, lookup, update, delete, next, fill"};
 
 /* The status of opening a session; where that is not XDPVM_OK, the session is still closed. */
 static uint32_t opened(int with_table, struct xdpvm_session *session) {
@@ -74,6 +75,7 @@ static uint32_t call_session(void) {
     struct xdpvm_session session = {0};
     struct xdpvm_ended ended;
     struct xdpvm_changed changed;
+    struct xdpvm_map_refusal filled;
     static uint8_t key[64], value[1 << 12];
     long some = left;
     left = -1;
@@ -82,23 +84,49 @@ static uint32_t call_session(void) {
     if (most == XDPVM_OK) {
         size_t key_size = image[10], value_size = image[12] | (size_t)image[13] << 8;
         int maps = image[4] != 0;
-        uint32_t answers[5] = {
+        uint32_t answers[6] = {
             xdpvm_run(&session, &head, made, 64, &ended),
             maps ? xdpvm_update(&session, 0, key, key_size, value, value_size, 0, &changed) : 0,
             maps ? xdpvm_lookup(&session, 0, key, key_size, value, value_size) : 0,
             maps ? xdpvm_next(&session, 0, 0, key, key_size, value, value_size) : 0,
             maps ? xdpvm_delete(&session, 0, key, key_size, &changed) : 0,
+            xdpvm_fill(&session, (const uint8_t *)"# no line of a map", 18, &filled),
         };
-        for (int i = 0; i < 5; i++) most = answers[i] > most ? answers[i] : most;
+        for (int i = 0; i < 6; i++) most = answers[i] > most ? answers[i] : most;
         xdpvm_close(&session);
     }
     return most;
 }
 
+/* The status of listing the maps of a session that was opened with all memory. Where memory is refused, the session
+   stays open, and a later call succeeds. */
+static uint32_t call_list(void) {
+    struct xdpvm_session session = {0};
+    struct xdpvm_text_size listed = {0};
+    struct xdpvm_ended ended;
+    static uint8_t other[64];
+    long some = left;
+    left = -1;
+    uint32_t status = opened(0, &session);
+    if (status != XDPVM_OK) return status;
+    left = some, requests = 0;
+    status = xdpvm_list(&session, made, sizeof made, &listed);
+    long asked = requests;
+    left = -1;
+    if (status == XDPVM_MEMORY && listed.size) status = 98;
+    if (xdpvm_run(&session, &head, other, sizeof other, &ended) != XDPVM_OK) status = 97;
+    xdpvm_close(&session);
+    requests = asked;
+    return status;
+}
+
 /* One call, into buffers that are zero-filled before it; a status of 5 has to leave them so. */
 static uint32_t call(int which) {
     struct xdpvm_assembled assembled = {0, 0, 0};
-    struct xdpvm_verdict verdict = {0, 0, 0};
+    struct xdpvm_described described = {0, 0, 0};
+    struct xdpvm_map_row rows[XDPVM_MAX_MAPS];
+    struct xdpvm_text_size listed = {0};
+    struct xdpvm_verdict verdict = {0, 0, 0, 0};
     struct xdpvm_ended ended = {0, 0};
     struct xdpvm_traced_end traced = {0, 0, 0, 0};
     struct xdpvm_streamed streamed = {0, 0, 0, 0, 0};
@@ -107,12 +135,15 @@ static uint32_t call(int which) {
     uint32_t status;
     switch (which) {
     case ASSEMBLE: return xdpvm_assemble(text, text_size, made, sizeof made, why, sizeof why, &assembled);
+    case DESCRIBE: return xdpvm_describe(image, image_size, rows, XDPVM_MAX_MAPS, &described);
+    case DISASSEMBLE: return xdpvm_disassemble(image, image_size, made, sizeof made, &listed);
     case VERIFY: return xdpvm_verify(image, image_size, XDPVM_MAX_EXPLORED, why, sizeof why, &verdict);
     case RUN_ONCE: return xdpvm_run_once(image, image_size, &head, packet, sizeof packet, &ended);
     case TRACE_ONCE: return xdpvm_trace_once(image, image_size, &head, packet, sizeof packet, 100000, &traced);
     case RUN_STREAM:
         return xdpvm_run_stream(image, image_size, frames, sizeof frames, made, sizeof made, why, sizeof why, &streamed);
     case RECHECK: return xdpvm_recheck(image, image_size, table, table_size, why, sizeof why, &rechecked);
+    case LIST: return call_list();
     case OPENED: return call_session();
     default:
         status = opened(which == OPEN_WITH_TABLE, &session);

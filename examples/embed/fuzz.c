@@ -67,7 +67,7 @@ static void change_map(struct xdpvm_session *session, const uint8_t *code, size_
 }
 
 static void compare(const uint8_t *code, size_t size, const struct xdpvm_head *head, size_t length) {
-    struct xdpvm_verdict verdict = {0, 0, 0};
+    struct xdpvm_verdict verdict = {0, 0, 0, 0};
     struct xdpvm_ended ended = {0, 0};
     struct xdpvm_traced_end traced = {0, 0, 9, 0};
     uint32_t judged = xdpvm_verify(code, size, MOST_EXPLORED, why, sizeof why, &verdict);
@@ -121,7 +121,7 @@ static void recheck(const uint8_t *code, size_t size, const uint8_t *table, size
 /* A run over a stream writes the same into buffers of any size: each gets the front of it. */
 static void stream(const uint8_t *code, size_t size, const uint8_t *frames, size_t count) {
     static uint8_t report[2][1 << 16], sent[2][1 << 16];
-    struct xdpvm_verdict verdict = {0, 0, 0};
+    struct xdpvm_verdict verdict = {0, 0, 0, 0};
     struct xdpvm_streamed told[2] = {{0, 0, 0, 0, 0}, {0, 0, 0, 0, 0}};
     if (xdpvm_verify(code, size, MOST_EXPLORED, why, 0, &verdict) != XDPVM_OK) return;
     uint32_t first = xdpvm_run_stream(code, size, frames, count, report[0], sizeof report[0], sent[0], sizeof sent[0], &told[0]);

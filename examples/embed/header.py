@@ -34,9 +34,10 @@ def c_parameters(name, kind):
     """What C passes for a parameter: none for the allocator, two for a slice."""
     if kind == "Global":
         return []
-    if kind in ("&[u8]", "&mut [u8]"):
-        const = "" if "mut" in kind else "const "
-        return [f"{const}uint8_t *{name}", f"size_t {name}_len"]
+    slice_of = re.fullmatch(r"&(mut )?\[(\w+)\]", kind)
+    if slice_of:
+        const = "" if slice_of[1] else "const "
+        return [f"{const}{NUMBERS.get(slice_of[2]) or c_name(slice_of[2])} *{name}", f"size_t {name}_len"]
     if kind.startswith("&mut "):
         return [f"{c_name(kind[5:])} *{name}"]
     if kind.startswith("&"):
@@ -46,8 +47,9 @@ def c_parameters(name, kind):
 
 def rust_parameters(name, kind):
     """The same for Rust."""
-    if kind in ("&[u8]", "&mut [u8]"):
-        return [f"{name}: *{'mut' if 'mut' in kind else 'const'} u8", f"{name}_len: usize"]
+    slice_of = re.fullmatch(r"&(mut )?\[(\w+)\]", kind)
+    if slice_of:
+        return [f"{name}: *{'mut' if slice_of[1] else 'const'} {slice_of[2]}", f"{name}_len: usize"]
     return [] if kind == "Global" else [f"{name}: {kind}"]
 
 
@@ -93,7 +95,7 @@ def rust_wanted(source):
 
 def rust_declared(text):
     functions = {}
-    for name, words, result in re.findall(r"fn (xdpvm_\w+)\(([^)]*)\)(?: -> (\w+))?;", text):
+    for name, words, result in re.findall(r"fn (xdpvm_\w+)\(([^)]*)\)(?:\s+-> (\w+))?;", text):
         functions[name] = rust_function(name, " ".join(words.split()).rstrip(","), result)
     return functions, {name: str(fields) for name, fields in structs(text)}
 
@@ -122,7 +124,9 @@ def limits(source):
     for name in ("MAX_PACKET", "MAX_STEPS", "MAX_EXPLORED"):
         yield f"XDPVM_{name}", constant(below, name)
     maps, slots = constant(below, "MAX_MAPS"), constant(below, "MAX_SLOTS")
+    yield "XDPVM_MAX_MAPS", maps
     yield "XDPVM_MAX_IMAGE", str(8 + 12 * int(maps) + 8 * int(slots)) if maps and slots else None
+    yield from zip(("XDPVM_HASH", "XDPVM_ARRAY"), re.findall(r"MapType::\w+ => (\d),", source))
     ends = re.findall(r"kind: (\d),", source.split("fn end_of(")[1])
     yield from zip(("XDPVM_EXIT", "XDPVM_TRAP", "XDPVM_LIMIT"), ends)
     yield "XDPVM_VERSION", f'"{re.search(r"fill.buffer, b.([0-9.]+)", source)[1]}"'

@@ -38,6 +38,28 @@ static uint64_t count(struct xdpvm_session *session, uint32_t interface) {
     return packets;
 }
 
+/* What the map holds, as text, fills a second session. */
+static void texts(struct xdpvm_session *session, const uint8_t *image, size_t image_size) {
+    static const uint8_t wrong[] = "map 0 01000000 0000000000000000\nmap 1 01000000 0000000000000000\n";
+    static uint8_t lines[4096], text[4096];
+    struct xdpvm_text_size listed, size;
+    struct xdpvm_session other = {0};
+    struct xdpvm_map_refusal filled;
+    struct xdpvm_described found;
+    struct xdpvm_map_row row;
+    need(xdpvm_list(session, lines, sizeof lines, &listed) == XDPVM_OK && listed.size == 64, "a list");
+    need(xdpvm_open(image, image_size, &other) == XDPVM_OK, "a second session");
+    need(xdpvm_fill(&other, lines, listed.size, &filled) == XDPVM_OK && filled.code == 0, "a text that fills the map");
+    need(count(&other, 1) == 3 && count(&other, 2) == 3, "the counts of the second session");
+    need(xdpvm_fill(&other, wrong, sizeof wrong - 1, &filled) == XDPVM_REFUSED && filled.code == 2, "a map that has no row");
+    need(filled.line == 2 && filled.column == 5 && count(&other, 1) == 0, "the line before it");
+    xdpvm_close(&other);
+    need(xdpvm_describe(image, image_size, &row, 1, &found) == XDPVM_OK && found.maps == 1 && found.version == 1, "a description");
+    need(row.kind == XDPVM_HASH && row.key_size == 4 && row.value_size == 8 && row.entries == 8, "a map row");
+    need(xdpvm_disassemble(image, image_size, text, sizeof text, &size) == XDPVM_OK && size.size < sizeof text, "a text");
+    need(memcmp(text, "map hash 4 8 8\n", 15) == 0, "the first line of the text");
+}
+
 int main(void) {
     static uint8_t image[XDPVM_MAX_IMAGE], why[4096], packet[60];
     struct xdpvm_assembled made;
@@ -67,6 +89,7 @@ int main(void) {
     for (size_t rank = 0; xdpvm_next(&session, 0, rank, (uint8_t *)&key, 4, (uint8_t *)&value, 8) == XDPVM_OK; rank++) {
         printf("interface %u: %llu packets\n", key, (unsigned long long)value);
     }
+    texts(&session, image, made.size);
     key = 1;
     need(xdpvm_delete(&session, 0, (uint8_t *)&key, 4, &changed) == XDPVM_OK && changed.answer == 0, "a delete");
     need(xdpvm_lookup(&session, 0, (uint8_t *)&key, 3, (uint8_t *)&value, 8) == XDPVM_WRONG, "a key of another size");

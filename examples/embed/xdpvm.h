@@ -44,6 +44,9 @@ extern "C" {
 /* An image never has more bytes: 8, 12 for each of 16 maps, 8 for each of 4,096 slots. */
 #define XDPVM_MAX_IMAGE 32968
 
+/* The most map rows of an image. */
+#define XDPVM_MAX_MAPS 16
+
 /* The most bytes of a packet. */
 #define XDPVM_MAX_PACKET 9216
 
@@ -60,12 +63,46 @@ struct xdpvm_assembled {
     size_t column;
 };
 
-/* Accepted: the most steps of a run, and the rest is 0. Refused: the slot, 0 for what is no image, and the size of the text
-   that says why; the bound is 0. */
+/* Accepted: the most steps of a run, and the rest is 0. Refused: the slot, 0 for what is no image; the size of the text that
+   says why; and the code as a number: 9 for V9; for G3, of the control flow, 103; for I5, of what is no image, 205. The bound
+   is 0 then. docs/REFUSALS.md has all codes. */
 struct xdpvm_verdict {
     size_t said;
     size_t slot;
     uint32_t bound;
+    uint32_t code;
+};
+
+/* How many bytes a text has. */
+struct xdpvm_text_size {
+    size_t size;
+};
+
+/* The types of maps; the numbers are those of bpf(2). */
+#define XDPVM_HASH 1
+#define XDPVM_ARRAY 2
+
+/* A map row: the type, the sizes in bytes of a key and of a value, and the most keys. */
+struct xdpvm_map_row {
+    uint32_t kind;
+    uint32_t key_size;
+    uint32_t value_size;
+    uint32_t entries;
+};
+
+/* How many slots and map rows an image has, and its version: 1 or 2. */
+struct xdpvm_described {
+    size_t slots;
+    size_t maps;
+    uint32_t version;
+};
+
+/* The line and the column, from 1, at which a text of maps is refused, and the code as a number: 3 for M3. All are 0 where no
+   line is refused. */
+struct xdpvm_map_refusal {
+    size_t line;
+    size_t column;
+    uint32_t code;
 };
 
 /* What comes with a packet: a time in nanoseconds, which the helper bpf_ktime_get_ns answers, and the interface and the
@@ -133,6 +170,15 @@ size_t xdpvm_version(uint8_t *buffer, size_t buffer_len);
 uint32_t xdpvm_assemble(const uint8_t *text, size_t text_len, uint8_t *image, size_t image_len, uint8_t *why, size_t why_len,
                         struct xdpvm_assembled *out);
 
+/* Says what an image has: `rows` gets its map rows, as far as there is room for `rows_len` of them, and `out` how many they
+   are, the slots and the version. The program is not verified. XDPVM_REFUSED: the bytes are no image; xdpvm_verify says why. */
+uint32_t xdpvm_describe(const uint8_t *image, size_t image_len, struct xdpvm_map_row *rows, size_t rows_len,
+                        struct xdpvm_described *out);
+
+/* Writes the canonical text of an image's program, as `xdpvm dis` does; xdpvm_assemble makes the same image of it. The program
+   is not verified. XDPVM_REFUSED: the bytes are no image; xdpvm_verify says why. */
+uint32_t xdpvm_disassemble(const uint8_t *image, size_t image_len, uint8_t *text, size_t text_len, struct xdpvm_text_size *out);
+
 /* Verifies the program of an image. XDPVM_OK: no run of it traps, and each exits within out->bound steps, on every packet
    of at most 9,216 bytes. XDPVM_REFUSED: `why` gets what `xdpvm verify` prints: the code and the place, a sentence, the
    instruction, and what is known there; but not which other file bytes that are no image look like. What is known is looked
@@ -152,8 +198,8 @@ uint32_t xdpvm_run_once(const uint8_t *image, size_t image_len, const struct xdp
 uint32_t xdpvm_trace_once(const uint8_t *image, size_t image_len, const struct xdpvm_head *head, uint8_t *packet, size_t packet_len,
                           uint32_t limit, struct xdpvm_traced_end *out);
 
-/* Verifies an image, and runs its program on the frames of a stream (docs/FORMATS.md); the maps keep their contents from
-   frame to frame. `report` gets what `xdpvm run` prints, and `sent` the frames out. A fault of the stream ends the run; the
+/* Verifies an image, and runs its program on the frames of a stream (docs/FORMATS.md), with starting maps, which keep their
+   contents from frame to frame. `report` gets what `xdpvm run` prints, and `sent` the frames out. A fault of the stream ends the run; the
    report and `out` have it, and the status is XDPVM_OK. */
 uint32_t xdpvm_run_stream(const uint8_t *image, size_t image_len, const uint8_t *stream, size_t stream_len, uint8_t *report,
                           size_t report_len, uint8_t *sent, size_t sent_len, struct xdpvm_streamed *out);
@@ -180,8 +226,8 @@ uint32_t xdpvm_run(struct xdpvm_session *session, const struct xdpvm_head *head,
 /* Closes a session, and frees its memory. A closed one stays closed. */
 void xdpvm_close(struct xdpvm_session *session);
 
-/* Maps of an open program between runs, by their number from 0. None of these calls takes memory. XDPVM_WRONG: the session is
-   closed, there is no such map, or the key or the value has another size than the map's row says.
+/* Maps of an open program between runs, by their number from 0. None of these four calls takes memory. XDPVM_WRONG: the session
+   is closed, there is no such map, or the key or the value has another size than the map's row says.
 
    The value of a key; XDPVM_ABSENT where it has none. */
 uint32_t xdpvm_lookup(struct xdpvm_session *session, size_t map, const uint8_t *key, size_t key_len, uint8_t *value, size_t value_len);
@@ -198,6 +244,15 @@ uint32_t xdpvm_delete(struct xdpvm_session *session, size_t map, const uint8_t *
    where the map has fewer keys. Each call takes time for all keys of the map. */
 uint32_t xdpvm_next(struct xdpvm_session *session, size_t map, size_t rank, uint8_t *key, size_t key_len, uint8_t *value,
                     size_t value_len);
+
+/* Fills the maps of an open program by the lines of a text (docs/FORMATS.md, "Text of maps"): `map`, the map's number, a key
+   and a value, each an update with flag 0, in order. A report is such a text. It takes no memory. XDPVM_REFUSED: `out` says
+   why and where, M1 to M6; what the lines before that one did stays. XDPVM_WRONG: the session is closed. */
+uint32_t xdpvm_fill(struct xdpvm_session *session, const uint8_t *text, size_t text_len, struct xdpvm_map_refusal *out);
+
+/* Writes what the maps of an open program hold, as a report has it: a line for each key, which xdpvm_fill reads. It takes
+   memory for all lines. XDPVM_WRONG: the session is closed. */
+uint32_t xdpvm_list(struct xdpvm_session *session, uint8_t *buffer, size_t buffer_len, struct xdpvm_text_size *out);
 
 /* The action that r0 names at the last exit, by its low 32 bits: 0 aborted, 1 drop, 2 pass, 3 tx, 4 redirect; 5 for every
    other number. */

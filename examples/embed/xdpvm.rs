@@ -9,6 +9,9 @@ use std::ptr::null_mut;
 /// The most bytes of an image.
 const MAX_IMAGE: usize = 32_968;
 
+/// The most map rows of an image.
+const MAX_MAPS: usize = 16;
+
 /// The most instructions that are explored.
 pub const MAX_EXPLORED: u32 = 1_000_000;
 
@@ -26,6 +29,40 @@ struct Verdict {
     said: usize,
     slot: usize,
     bound: u32,
+    code: u32,
+}
+
+#[repr(C)]
+#[derive(Default)]
+struct TextSize {
+    size: usize,
+}
+
+/// A map row: the type, 1 for a hash map and 2 for an array, the sizes in bytes of a key and of a value, and the most keys.
+#[repr(C)]
+#[derive(Clone, Copy, Debug, Default, PartialEq, Eq)]
+pub struct MapRow {
+    pub kind: u32,
+    pub key_size: u32,
+    pub value_size: u32,
+    pub entries: u32,
+}
+
+#[repr(C)]
+#[derive(Default)]
+struct Described {
+    slots: usize,
+    maps: usize,
+    version: u32,
+}
+
+/// Why a text of maps is refused: the line and the column, from 1, and the code as a number: 3 for M3.
+#[repr(C)]
+#[derive(Clone, Copy, Debug, Default, PartialEq, Eq)]
+pub struct MapRefusal {
+    pub line: usize,
+    pub column: usize,
+    pub code: u32,
 }
 
 /// What comes with a packet: a time in nanoseconds, the interface and the receive queue.
@@ -97,6 +134,20 @@ unsafe extern "C" {
         why_len: usize,
         out: &mut Assembled,
     ) -> u32;
+    fn xdpvm_describe(
+        image: *const u8,
+        image_len: usize,
+        rows: *mut MapRow,
+        rows_len: usize,
+        out: &mut Described,
+    ) -> u32;
+    fn xdpvm_disassemble(
+        image: *const u8,
+        image_len: usize,
+        text: *mut u8,
+        text_len: usize,
+        out: &mut TextSize,
+    ) -> u32;
     fn xdpvm_verify(
         image: *const u8,
         image_len: usize,
@@ -156,6 +207,18 @@ unsafe extern "C" {
         packet: *mut u8,
         packet_len: usize,
         out: &mut Ended,
+    ) -> u32;
+    fn xdpvm_fill(
+        session: &mut Session,
+        text: *const u8,
+        text_len: usize,
+        out: &mut MapRefusal,
+    ) -> u32;
+    fn xdpvm_list(
+        session: &mut Session,
+        buffer: *mut u8,
+        buffer_len: usize,
+        out: &mut TextSize,
     ) -> u32;
     fn xdpvm_lookup(
         session: &mut Session,
@@ -277,6 +340,58 @@ pub fn assemble(text: &str) -> Result<Vec<u8>, Error> {
     answer(status, image, why)
 }
 
+/// What an image has.
+#[derive(Clone, Debug, PartialEq, Eq)]
+pub struct Description {
+    pub version: u32,
+    pub slots: usize,
+    pub maps: Vec<MapRow>,
+}
+
+/// Says what an image has. Its program is not verified.
+pub fn describe(image: &[u8]) -> Result<Description, Error> {
+    let mut maps = vec![MapRow::default(); MAX_MAPS];
+    let mut out = Described::default();
+    // SAFETY: as above.
+    let status = unsafe {
+        xdpvm_describe(
+            image.as_ptr(),
+            image.len(),
+            maps.as_mut_ptr(),
+            maps.len(),
+            &mut out,
+        )
+    };
+    maps.truncate(out.maps);
+    let Described { slots, version, .. } = out;
+    let description = Description {
+        version,
+        slots,
+        maps,
+    };
+    answer(status, description, Vec::new())
+}
+
+/// The canonical text of an image's program, which is not verified.
+pub fn disassemble(image: &[u8]) -> Result<String, Error> {
+    let (status, text) = with_room(1 << 16, |text| {
+        let mut out = TextSize::default();
+        // SAFETY: as above.
+        let status = unsafe {
+            xdpvm_disassemble(
+                image.as_ptr(),
+                image.len(),
+                text.as_mut_ptr(),
+                text.len(),
+                &mut out,
+            )
+        };
+        (status, out.size)
+    });
+    let text = String::from_utf8_lossy(&text).into_owned();
+    answer(status, text, Vec::new())
+}
+
 /// The most steps of a run of an accepted program, none of which traps.
 pub fn verify(image: &[u8]) -> Result<u32, Error> {
     verify_within(image, MAX_EXPLORED)
@@ -285,6 +400,21 @@ pub fn verify(image: &[u8]) -> Result<u32, Error> {
 /// The same, with no more instructions explored than the limit, from 1 to `MAX_EXPLORED`: where that is not enough, the
 /// answer is `Error::Undecided`.
 pub fn verify_within(image: &[u8], limit: u32) -> Result<u32, Error> {
+    let (status, out, why) = judged(image, limit);
+    answer(status, out.bound, why)
+}
+
+/// Why an image is refused: the code as a number, 9 for V9, 103 for G3, 205 for I5, and the slot, which is 0 for what is no
+/// image. None: it is accepted.
+pub fn refusal(image: &[u8]) -> Result<Option<(u32, usize)>, Error> {
+    match judged(image, MAX_EXPLORED) {
+        (2, out, _) => Ok(Some((out.code, out.slot))),
+        (status, _, why) => answer(status, None, why),
+    }
+}
+
+/// The status and the verdict on an image, and why it is refused.
+fn judged(image: &[u8], limit: u32) -> (u32, Verdict, Vec<u8>) {
     let mut out = Verdict::default();
     let (status, why) = with_room(1024, |why| {
         // SAFETY: as above.
@@ -300,7 +430,7 @@ pub fn verify_within(image: &[u8], limit: u32) -> Result<u32, Error> {
         };
         (status, if status == 2 { out.said } else { 0 })
     });
-    answer(status, out.bound, why)
+    (status, out, why)
 }
 
 /// Runs an accepted program on a packet, on starting maps.
@@ -456,6 +586,30 @@ impl Session {
         // SAFETY: as above; the session is one that `open` returned, and no other call has it.
         let status = unsafe { xdpvm_run(self, head, packet.as_mut_ptr(), packet.len(), &mut out) };
         answer(status, out, Vec::new())
+    }
+
+    /// Fills the maps by the lines of a text, `map INDEX KEY VALUE`, each an update with flag 0, in order. Some: a line is
+    /// refused; what the lines before it did stays.
+    pub fn fill(&mut self, text: &[u8]) -> Result<Option<MapRefusal>, Error> {
+        let mut out = MapRefusal::default();
+        // SAFETY: as above.
+        let status = unsafe { xdpvm_fill(self, text.as_ptr(), text.len(), &mut out) };
+        match status {
+            2 => Ok(Some(out)),
+            _ => answer(status, None, Vec::new()),
+        }
+    }
+
+    /// The lines of what the maps hold, as a report has them. `fill` reads them.
+    pub fn list(&mut self) -> Result<String, Error> {
+        let (status, lines) = with_room(4096, |buffer| {
+            let mut out = TextSize::default();
+            // SAFETY: as above.
+            let status = unsafe { xdpvm_list(self, buffer.as_mut_ptr(), buffer.len(), &mut out) };
+            (status, out.size)
+        });
+        let lines = String::from_utf8_lossy(&lines).into_owned();
+        answer(status, lines, Vec::new())
     }
 
     /// Reads the value of a key in a map, and returns whether it has one.

@@ -4,16 +4,17 @@ use Rattle.isa_model.specs.declared.streams.Fault.{Fault}
 use Rattle.isa_model.specs.declared.streams.Fault.TheVariants.{BadMagic, TruncatedHead, TooLong, TruncatedBody, ReadFailed, TooManyRecords}
 use Rattle.isa_model.specs.declared.streams.Finish.{Finish}
 use Rattle.isa_model.specs.declared.streams.Finish.TheVariants as finish
+use Rattle.isa_model.specs.Machine.States.{KeyValues}
 use Rattle.isa_model.specs.Reporting.Streams.{ByEnd, Stream, stream_of}
 use Rattle.frames.specs.Sources.{in_memory}
 use Rattle.frames.proofs.InputsLaws.{AreReadFrom-in_memory}
 use Rattle.frames.proofs.Stopping.{stream_of-sound}
 use Rattle.bounds.specs.Bounds.{Bounded}
 use Rattle.host.specs.declared.tallies.Tally.{Tally}
-use Rattle.host.specs.Accepted.{ReportsRun, RunsWhole}
+use Rattle.host.specs.Accepted.{ReportsRunFrom, RunsWholeFrom, ShowsTallied}
 use Rattle.host.specs.Tallies.{fault_of, ShowsTally}
 use Rattle.host.specs.Writing.{Outputs}
-use Rattle.command_calls.specs.Streams.{IsReadWell, WritesStream, fault_field}
+use Rattle.command_calls.specs.Streams.{IsReadWell, WritesStreamFrom, fault_field}
 
 pair_is : (p q : Fault × ℕ) → Some p ≡ Some q → p ≡ q
 pair_is p q h = cc
@@ -25,7 +26,7 @@ fault_is (finish.Fault fault at) offset h =
     ap (λ (q : Fault × ℕ). finish.Fault q.0 q.1) (pair_is (fault, at) (ReadFailed, offset) h)
 
 -- no read of bytes in memory failed
-read_well : (source : List ℕ) (found : Stream) (tally : Tally)
+pub read_well : (source : List ℕ) (found : Stream) (tally : Tally)
     → found ≡ stream_of (record { bytes = source; ending = ByEnd }) → ShowsTally found tally
     → IsReadWell tally
 read_well source found tally all tells = λ offset failed.
@@ -34,32 +35,37 @@ read_well source found tally all tells = λ offset failed.
     stream_of-sound source offset
     (sym (ap (λ (s : Stream). s.finish) all) ∙ fault_is found.finish offset shown)
 
-runs_whole : (a : Bounded) (source : List ℕ) (old new : Outputs) (tally : Tally)
-    → ReportsRun a (in_memory source) old new (Ok tally)
-    → RunsWhole a (in_memory source) old new (Ok tally)
-runs_whole a source old new tally h = elim h.reports [
-  | inl whole ↦ whole
-  | inr failed ↦ absurd (cc failed.1)
-]
+module _ (a : Bounded) (contents : List KeyValues) (source : List ℕ) where
+  runs_whole : (old new : Outputs) (tally : Tally)
+      → ReportsRunFrom a contents (in_memory source) ShowsTallied old new (Ok tally)
+      → RunsWholeFrom a contents (in_memory source) ShowsTallied old new (Ok tally)
+  runs_whole old new tally h = elim h.reports [
+    | inl whole ↦ whole
+    | inr failed ↦ absurd (cc failed.1)
+  ]
 
--- what a run writes from empty outputs on
-pub writes_stream : (a : Bounded) (source old_report old_sent report sent : List ℕ) (tally : Tally)
-    → old_report ≡ [] → old_sent ≡ []
-    → ReportsRun a (in_memory source)
-    (record { report = Some old_report; sent = Some old_sent })
-    (record { report = Some report; sent = Some sent }) (Ok tally)
-    → WritesStream a source report sent tally
-writes_stream a source old_report old_sent report sent tally none nothing h =
-    let old : Outputs = record { report = Some old_report; sent = Some old_sent } in
-    let new : Outputs = record { report = Some report; sent = Some sent } in
-    let Runs : List ℕ → List ℕ → Type 0 =
-    λ x y. RunsWhole a (in_memory source)
-    (record { report = Some x; sent = Some y }) new (Ok tally) in
-    let runs : Runs [] [] =
-    subst (λ (y : List ℕ). Runs [] y) nothing
-    (subst (λ (x : List ℕ). Runs x old_sent) none (runs_whole a source old new tally h)) in
-    let all = AreReadFrom-in_memory source runs.found runs.read in
-    record { runs = runs; all = all; no_failure = read_well source runs.found tally all runs.tells }
+  -- what a run writes from empty outputs on
+  pub writes_stream : (old_report old_sent report sent : List ℕ) (tally : Tally)
+      → old_report ≡ [] → old_sent ≡ []
+      → ReportsRunFrom a contents (in_memory source) ShowsTallied
+      (record { report = Some old_report; sent = Some old_sent })
+      (record { report = Some report; sent = Some sent }) (Ok tally)
+      → WritesStreamFrom a contents source report sent tally
+  writes_stream old_report old_sent report sent tally none nothing h =
+      let old : Outputs = record { report = Some old_report; sent = Some old_sent } in
+      let new : Outputs = record { report = Some report; sent = Some sent } in
+      let Runs : List ℕ → List ℕ → Type 0 =
+      λ x y. RunsWholeFrom a contents (in_memory source) ShowsTallied
+      (record { report = Some x; sent = Some y }) new (Ok tally) in
+      let runs : Runs [] [] =
+      subst (λ (y : List ℕ). Runs [] y) nothing
+      (subst (λ (x : List ℕ). Runs x old_sent) none (runs_whole old new tally h)) in
+      let all = AreReadFrom-in_memory source runs.found runs.read in
+      record {
+        runs = runs;
+        all = all;
+        no_failure = read_well source runs.found tally all runs.tells;
+      }
 
 -- the field for the fault is 5 only where a read failed
 pub fault_other : (fault : Option (Fault × ℕ))

@@ -2,11 +2,13 @@
 use Rattle.std.specs.Prelude.{◌≡◌, ◌≢◌, ℕ, List, [], length, Option, Some, None, Ok}
 use Rattle.isa_model.specs.declared.streams.Fault.{Fault}
 use Rattle.isa_model.specs.declared.streams.Fault.TheVariants.{BadMagic, TruncatedHead, TooLong, TruncatedBody, ReadFailed, TooManyRecords}
+use Rattle.isa_model.specs.Machine.States.{KeyValues}
+use Rattle.isa_model.specs.Reporting.Reports.{starting_contents}
 use Rattle.isa_model.specs.Reporting.Streams.{ByEnd, stream_of}
 use Rattle.bounds.specs.Bounds.{Bounded}
 use Rattle.host.specs.declared.tallies.Tally.{Tally}
 use Rattle.frames.specs.Sources.{in_memory}
-use Rattle.host.specs.Accepted.{RunsWhole}
+use Rattle.host.specs.Accepted.{RunsWholeFrom, ShowsTallied}
 use Rattle.command_calls.specs.declared.streaming.Streamed.{Streamed}
 use Rattle.verdict_calls.specs.Crossing.{filled}
 use Rattle.verdict_calls.specs.Verdicts.{IsAcceptedImage}
@@ -42,13 +44,21 @@ streamed_of tally report_size sent_size =
 abbrev pub IsReadWell : Tally → Type 0
 IsReadWell tally = (offset : ℕ) → tally.fault ≢ Some (ReadFailed, offset)
 
--- a run of an accepted program over a stream of these bytes writes this report and these frames
--- out, and returns this tally; it is the stream of all these bytes, to their end
-pub record WritesStream (a : Bounded) (source report sent : List ℕ) (tally : Tally) : Type 0 where
-  pub runs : RunsWhole a (in_memory source) (record { report = Some []; sent = Some [] })
+-- a run of an accepted program over a stream of these bytes, from these contents of the maps on,
+-- writes this report and these frames out, and returns this tally; it is the stream of all these
+-- bytes, to their end
+pub record WritesStreamFrom (a : Bounded) (contents : List KeyValues)
+    (source report sent : List ℕ) (tally : Tally) : Type 0 where
+  pub runs : RunsWholeFrom a contents (in_memory source) ShowsTallied
+      (record { report = Some []; sent = Some [] })
       (record { report = Some report; sent = Some sent }) (Ok tally)
   pub all : runs.found ≡ stream_of (record { bytes = source; ending = ByEnd })
   pub no_failure : IsReadWell tally
+
+-- the same from new maps on
+abbrev pub WritesStream : Bounded → List ℕ → List ℕ → List ℕ → Tally → Type 0
+WritesStream a source report sent tally =
+    WritesStreamFrom a (starting_contents a.program.maps) source report sent tally
 
 -- the bytes are an accepted image, and the buffers hold what a run of its program over the stream
 -- writes

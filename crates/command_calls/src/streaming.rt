@@ -1,7 +1,7 @@
 //! The call that runs an accepted program over a frame stream.
 
-ghost use Rattle.std.specs.Prelude.{◌≡◌, ◌≢◌, IfSome};
-ghost use Rattle.verdict_calls.specs.Crossing.{IsVerdictStatus};
+ghost use Rattle.std.specs.Prelude.{◌≡◌, ◌≢◌, length, IfSome};
+ghost use Rattle.verdict_calls.specs.Crossing.{IsVerdictStatus, filled};
 ghost use Rattle.verdict_calls.specs.Verdicts.{IsRefusedImage};
 ghost use Rattle.command_calls.specs.Streams.{WritesStream, RunsStream, fault_number, streamed_of};
 
@@ -59,12 +59,24 @@ fn streamed_of(tally: Tally, report_size: usize, sent_size: usize) -> Streamed
     }
 }
 
-// What a run over a stream in memory writes.
+/// What a run over a stream in memory writes: the report and the frames out, with its tally.
 #[derive(Drop)]
-struct Written {
-    report: Vec<u8>,
-    sent: Vec<u8>,
-    tally: Tally,
+pub struct Written {
+    pub report: Vec<u8>,
+    pub sent: Vec<u8>,
+    pub tally: Tally,
+}
+
+/// Writes the report and the frames out to buffers, as far as there is room.
+pub fn fill_streamed(written: &Written, report: &mut [u8], sent: &mut [u8]) -> Streamed
+    ensures report { report.new ≡ filled report.old written.now.report.items }
+    ensures sent { sent.new ≡ filled sent.old written.now.sent.items }
+    ensures out { result ≡ streamed_of written.now.tally (length written.now.report.items)
+        (length written.now.sent.items) }
+{
+    let reported = fill(report, written.report.as_slice());
+    let sent_out = fill(sent, written.sent.as_slice());
+    streamed_of(written.tally, reported, sent_out)
 }
 
 // The report and the frames out of a run over a stream. None: memory ran out.
@@ -113,8 +125,6 @@ pub fn run_stream(
     let Some(written) = stream_written(alloc, verified, stream) else {
         return MEMORY;
     };
-    let reported = fill(report, written.report.as_slice());
-    let sent_out = fill(sent, written.sent.as_slice());
-    *out = streamed_of(written.tally, reported, sent_out);
+    *out = fill_streamed(&written, report, sent);
     OK
 }

@@ -1,2 +1,3 @@
 pub mod Crossing
+pub mod Numbers
 pub mod Verdicts

@@ -4,6 +4,7 @@ use Rattle.isa_model.specs.Code.Instructions.{Program}
 use Rattle.isa_model.specs.Code.Limits.{max_explored}
 use Rattle.image.specs.declared.errors.ImageError.{ImageError}
 use Rattle.image.specs.Images.{image_bytes}
+use Rattle.image.specs.Messages as image
 use Rattle.image.specs.Refusals.{refusal_of}
 use Rattle.bounds.specs.Bounds.{IsVerified}
 use Rattle.stack_state.specs.Starts.{start}
@@ -11,8 +12,10 @@ use Rattle.walks.specs.declared.refusals.Refusal.{Refusal}
 use Rattle.walks.specs.Refused.{IsRefused}
 use Rattle.walks.specs.Accepting.{BoundsAll}
 use Rattle.walks.specs.Counts.{HasNumber}
+use Rattle.walks.specs.Messages as walks
 use Rattle.verdict_calls.specs.declared.judging.Verdict.{Verdict}
 use Rattle.verdict_calls.specs.Crossing.{FillsBuffer, is_memory}
+use Rattle.verdict_calls.specs.Numbers.{code_number}
 use Rattle.refusal_texts.specs.Texts.{image_text, IsProgramText}
 
 -- the bytes are an image, and every run of its program exits within the bound, without a trap
@@ -23,7 +26,7 @@ pub record IsAcceptedImage (bytes : List ℕ) (bound : ℕ) : Type 0 where
 
 -- a verdict that is a bound, and says nothing of a refusal
 abbrev pub only_bound : ℕ → Verdict
-only_bound bound = record { said = 0; slot = 0; bound = bound }
+only_bound bound = record { said = 0; slot = 0; bound = bound; code = 0 }
 
 -- the bytes are an accepted image, and the verdict has the bound of its program and nothing else.
 -- The bound is the number of the start state; that of a program which must be accepted is as small
@@ -49,21 +52,26 @@ abbrev pub IsRefusedImage : List ℕ → Type 0
 IsRefusedImage bytes =
     IsNoImage bytes ⊎ ((refusal : Refusal) × (slot : ℕ) × HasRefusedProgram bytes refusal slot)
 
--- the program is refused at a slot, and a buffer has the text that says why; `said` is how many
--- bytes the text has
-abbrev pub FillsProgramRefusal : Program → ℕ → List ℕ → List ℕ → ℕ → Type 0
-FillsProgramRefusal p slot old new said =
-    (refusal : Refusal) × IsRefused p refusal slot × (is_memory refusal ≡ false)
-    × ((text : List ℕ) × IsProgramText p refusal slot text × FillsBuffer old new said text)
+-- a verdict that is the slot and the number of a refusal, and how many bytes its text has
+abbrev pub only_refusal : ℕ → ℕ → ℕ → Verdict
+only_refusal said slot code = record { said = said; slot = slot; bound = 0; code = code }
+
+-- the program is refused at a slot, and a buffer has the text that says why
+abbrev pub FillsProgramRefusal : Program → List ℕ → List ℕ → Verdict → Type 0
+FillsProgramRefusal p old new out =
+    (refusal : Refusal) × IsRefused p refusal out.slot × (is_memory refusal ≡ false)
+    × (out ≡ only_refusal out.said out.slot (code_number (walks.code_of refusal)))
+    × ((text : List ℕ) × IsProgramText p refusal out.slot text × FillsBuffer old new out.said text)
 
 -- the bytes are no image, or they are one whose program is refused, and a buffer has the text that
 -- says why
-abbrev pub FillsImageRefusal : List ℕ → ℕ → List ℕ → List ℕ → ℕ → Type 0
-FillsImageRefusal bytes slot old new said =
-    ((error : ImageError) × (refusal_of bytes ≡ Some error) × (slot ≡ 0)
-    × FillsBuffer old new said (image_text error))
+abbrev pub FillsImageRefusal : List ℕ → List ℕ → List ℕ → Verdict → Type 0
+FillsImageRefusal bytes old new out =
+    ((error : ImageError) × (refusal_of bytes ≡ Some error)
+    × (out ≡ only_refusal out.said 0 (code_number (image.code_of error)))
+    × FillsBuffer old new out.said (image_text error))
     ⊎ ((program : Program) × (bytes ≡ image_bytes program)
-    × FillsProgramRefusal program slot old new said)
+    × FillsProgramRefusal program old new out)
 
 -- the bytes are an image, and the limit is one that a search can reach
 abbrev pub IsUndecided : List ℕ → ℕ → Type 0

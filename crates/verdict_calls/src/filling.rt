@@ -12,3 +12,10 @@ pub fn fill(buffer: &mut [u8], bytes: &[u8]) -> usize
     buffer[..copied].copy_from_slice(&bytes[..copied]);
     bytes.len()
 }
+
+/// How many bytes a text has that was written to a buffer as far as there was room.
+#[repr(C)]
+#[derive(Clone, Copy, Drop)]
+pub struct TextSize {
+    pub size: usize,
+}

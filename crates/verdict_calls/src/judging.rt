@@ -13,6 +13,7 @@ ghost use Rattle.verdict_calls.specs.Verdicts.{ReturnsBound, only_bound, IsRefus
 ghost use Rattle.verdict_calls.specs.declared.statuses.NotAccepted.TheVariants as NotAccepted;
 
 use crate::filling::fill;
+use crate::numbers::{number_of_image_error, number_of_refusal};
 use crate::statuses::{MEMORY, NotAccepted, OK, REFUSED, UNDECIDED, WRONG};
 use control_flow::FlowError;
 use explorer::{Refusal, Verified, verify};
@@ -24,13 +25,15 @@ use std::alloc::Global;
 
 /// The verdict on an image: the most steps of a run if it is accepted, and otherwise the slot at
 /// which its program is refused; for bytes that are no image the slot is 0. `said` is how many
-/// bytes the text of a refusal has. What a verdict does not have is 0.
+/// bytes the text of a refusal has, and `code` is the number of its code: 9 for V9, 103 for G3, 205
+/// for I5. What a verdict does not have is 0.
 #[repr(C)]
 #[derive(Clone, Copy, Drop)]
 pub struct Verdict {
     pub said: usize,
     pub slot: usize,
     pub bound: u32,
+    pub code: u32,
 }
 
 // Whether a refusal says only that memory ran out.
@@ -76,8 +79,7 @@ fn write_refusal(
     out: &mut Verdict,
 ) -> u32
     ensures refused { result ≡ 2 → IsRefused program.now refusal slot
-        → FillsProgramRefusal program.now out.new.slot why.old why.new out.new.said }
-    ensures no_bound { result ≡ 2 → out.new.bound ≡ 0 }
+        → FillsProgramRefusal program.now why.old why.new out.new }
     ensures why_kept { result ≢ 2 → why.new ≡ why.old }
     ensures memory { result ≡ 5 → out.new ≡ out.old }
     ensures status { (result ≡ 2) ⊎ (result ≡ 5) }
@@ -92,6 +94,7 @@ fn write_refusal(
         bound: 0,
         slot,
         said: fill(why, text.as_slice()),
+        code: number_of_refusal(refusal),
     };
     REFUSED
 }
@@ -105,9 +108,7 @@ fn judge(alloc: Global, program: Image, limit: u32, why: &mut [u8], out: &mut Ve
     ensures number { result ≡ 0 → HasNumber program start out.new.bound }
     ensures bounds { result ≡ 0 → BoundsAll program out.new.bound }
     ensures alone { result ≡ 0 → out.new ≡ only_bound out.new.bound }
-    ensures refused { result ≡ 2
-        → FillsProgramRefusal program out.new.slot why.old why.new out.new.said }
-    ensures no_bound { result ≡ 2 → out.new.bound ≡ 0 }
+    ensures refused { result ≡ 2 → FillsProgramRefusal program why.old why.new out.new }
     ensures why_kept { result ≢ 2 → why.new ≡ why.old }
     ensures memory { result ≡ 5 → out.new ≡ out.old }
     ensures undecided { result ≡ 6 → (limit < max_explored) × (out.new ≡ out.old) }
@@ -122,6 +123,7 @@ fn judge(alloc: Global, program: Image, limit: u32, why: &mut [u8], out: &mut Ve
                 bound: verified.bound(),
                 slot: 0,
                 said: 0,
+                code: 0,
             };
             OK
         }
@@ -144,9 +146,7 @@ pub fn verify_image(
 ) -> u32
     ensures accepted { result ≡ 0 → ReturnsBound image.now out.new }
     ensures wrong { (result ≡ 1) ↔ ((limit ≡ 0) ⊎ (max_explored < limit)) }
-    ensures refused { result ≡ 2
-        → FillsImageRefusal image.now out.new.slot why.old why.new out.new.said }
-    ensures no_bound { result ≡ 2 → out.new.bound ≡ 0 }
+    ensures refused { result ≡ 2 → FillsImageRefusal image.now why.old why.new out.new }
     ensures undecided { result ≡ 6 → IsUndecided image.now limit }
     ensures why_kept { result ≢ 2 → why.new ≡ why.old }
     ensures out_kept { result ≢ 0 → result ≢ 2 → out.new ≡ out.old }
@@ -166,6 +166,7 @@ pub fn verify_image(
                 bound: 0,
                 slot: 0,
                 said: fill(why, text.as_bytes()),
+                code: number_of_image_error(error),
             };
             REFUSED
         }

@@ -5,7 +5,9 @@
 //! call's clauses. `examples/embed/xdpvm.h` declares the same for C.
 #![tactic(auto)]
 
+pub mod images;
 pub mod map_calls;
+pub mod map_lines;
 pub mod naming;
 pub mod runs;
 pub mod sessions;

@@ -47,9 +47,7 @@ pub extern "C" fn xdpvm_verify(
 ) -> u32
     ensures accepted { result ≡ 0 → ReturnsBound image.now out.new }
     ensures wrong { (result ≡ 1) ↔ ((limit ≡ 0) ⊎ (max_explored < limit)) }
-    ensures refused { result ≡ 2
-        → FillsImageRefusal image.now out.new.slot why.old why.new out.new.said }
-    ensures no_bound { result ≡ 2 → out.new.bound ≡ 0 }
+    ensures refused { result ≡ 2 → FillsImageRefusal image.now why.old why.new out.new }
     ensures undecided { result ≡ 6 → IsUndecided image.now limit }
     ensures why_kept { result ≢ 2 → why.new ≡ why.old }
     ensures out_kept { result ≢ 0 → result ≢ 2 → out.new ≡ out.old }

@@ -19,9 +19,18 @@ pub const ENDLESS: [u8; 24] = *b"XBP1\0\0\x02\0\xb7\0\0\0\0\0\0\0\x05\0\xff\xff\
 /// Bytes that are not an image.
 pub const OTHER: [u8; 8] = *b"XBP3\0\0\x02\0";
 
+/// `r0 = 2; exit`, with a hash map of at most two keys of 2 bytes, with values of 3, and an array
+/// of four values of 4 bytes.
+pub const MAPS: [u8; 48] = *b"XBP1\x02\0\x02\0\
+    \x01\0\x02\0\x03\0\0\0\x02\0\0\0\x02\0\x04\0\x04\0\0\0\x04\0\0\0\
+    \xb7\0\0\0\x02\0\0\0\x95\0\0\0\0\0\0\0";
+
 /// Time 1000, interface 7, queue 2.
 pub const HEAD: Head = Head {
     time: 1000,
     interface: 7,
     queue: 2,
 };
+
+/// The stream of one packet frame of two bytes.
+pub const ONE_FRAME: &[u8] = b"XPF1\xe8\x03\0\0\0\0\0\0\x01\0\0\0\0\0\0\0\x02\0\0\0\xca\xfe";

@@ -1,7 +1,7 @@
 //! Programs that are run on one packet, and over a stream.
 
 use super::buffers::holds;
-use super::images::{ENDLESS, HEAD, INTERFACE, OTHER, PASS, UNGUARDED};
+use super::images::{ENDLESS, HEAD, INTERFACE, ONE_FRAME, OTHER, PASS, UNGUARDED};
 use super::rows::{Holds, hold_all};
 use command_calls::streaming::{Streamed, run_stream};
 use command_calls::tracing::{TracedEnd, trace_once};
@@ -73,10 +73,7 @@ impl Holds for Trace {
     }
 }
 
-/// The stream of one packet frame of two bytes.
-const ONE_FRAME: &[u8] = b"XPF1\xe8\x03\0\0\0\0\0\0\x01\0\0\0\0\0\0\0\x02\0\0\0\xca\xfe";
-
-/// The same stream, and the first byte of another record.
+/// The stream of one packet frame, and the first byte of another record.
 const CUT: &[u8] = b"XPF1\xe8\x03\0\0\0\0\0\0\x01\0\0\0\0\0\0\0\x02\0\0\0\xca\xfe\x01";
 
 /// The status, the sizes of the report and of the frames out, how many frames there were, and the

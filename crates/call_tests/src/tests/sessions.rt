@@ -1,6 +1,6 @@
 //! Sessions: opened, run, looked into and closed.
 
-use super::images::{ENDLESS, HEAD, INTERFACE, OTHER, PASS, UNGUARDED};
+use super::images::{ENDLESS, HEAD, INTERFACE, MAPS, OTHER, PASS, UNGUARDED};
 use held_machines::Session;
 use held_machines::map_calls::{Changed, delete_key, key_at_rank, look_up_key, update_key};
 use held_machines::opening::{close_session, open_image, open_with_table};
@@ -8,12 +8,6 @@ use run_calls::running::Ended;
 use session_calls::running::run_session;
 use std::alloc::Global;
 use std::process::Abort;
-
-/// `r0 = 2; exit`, with a hash map of at most two keys of 2 bytes, with values of 3, and an array
-/// of four values of 4 bytes.
-const MAPS: [u8; 48] = *b"XBP1\x02\0\x02\0\
-    \x01\0\x02\0\x03\0\0\0\x02\0\0\0\x02\0\x04\0\x04\0\0\0\x04\0\0\0\
-    \xb7\0\0\0\x02\0\0\0\x95\0\0\0\0\0\0\0";
 
 /// A call on a session.
 enum Call {

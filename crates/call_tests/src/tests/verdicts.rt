@@ -53,17 +53,19 @@ impl Holds for Text {
     }
 }
 
-/// The status, and the bound, the slot and the size of the message, within a limit.
-type Judged = (u32, u32, usize, usize);
+/// The status, and the bound, the slot, the size of the message and the number of the code, within
+/// a limit.
+type Judged = (u32, u32, usize, usize, u32);
 
 fn verdict(alloc: Global, image: &[u8], limit: u32, why: &mut [u8]) -> Judged {
     let mut out = Verdict {
         said: 9,
         slot: 9,
         bound: 9,
+        code: 9,
     };
     let status = verify_image(alloc, image, limit, why, &mut out);
-    (status, out.bound, out.slot, out.said)
+    (status, out.bound, out.slot, out.said, out.code)
 }
 
 /// An image and a limit of explored instructions, and what is returned and said: `PASS` has two
@@ -72,17 +74,17 @@ fn verdict(alloc: Global, image: &[u8], limit: u32, why: &mut [u8]) -> Judged {
 type Judging = (&'static [u8], u32, (Judged, &'static str));
 
 const IMAGES: &[Judging] = &[
-    (&PASS, 1_000_000, ((0, 2, 0, 0), "")),
-    (&PASS, 0, ((1, 9, 9, 9), "")),
-    (&PASS, 1, ((6, 9, 9, 9), "")),
-    (&PASS, 2, ((0, 2, 0, 0), "")),
-    (&PASS, 1_000_001, ((1, 9, 9, 9), "")),
-    (&UNGUARDED, 1, ((6, 9, 9, 9), "")),
+    (&PASS, 1_000_000, ((0, 2, 0, 0, 0), "")),
+    (&PASS, 0, ((1, 9, 9, 9, 9), "")),
+    (&PASS, 1, ((6, 9, 9, 9, 9), "")),
+    (&PASS, 2, ((0, 2, 0, 0, 0), "")),
+    (&PASS, 1_000_001, ((1, 9, 9, 9, 9), "")),
+    (&UNGUARDED, 1, ((6, 9, 9, 9, 9), "")),
     (
         &OTHER,
         1,
         (
-            (2, 0, 0, 52),
+            (2, 0, 0, 52, 201),
             "refused I1\nthe bytes do not begin with XBP1 or XBP2\n",
         ),
     ),
@@ -90,7 +92,7 @@ const IMAGES: &[Judging] = &[
         &UNGUARDED,
         1_000_000,
         (
-            (2, 0, 1, 240),
+            (2, 0, 1, 240, 9),
             "refused V9 slot 1\nthe packet bytes are not proved to be there\n\
              slot 1: r0 = *(u8 *)(r2 + 13)\nr2: packet pointer at 0, 0 bytes proved\n\
              needs bytes 13 to 13; 0 are proved: \
@@ -101,12 +103,12 @@ const IMAGES: &[Judging] = &[
         &ENDLESS,
         1_000_000,
         (
-            (2, 0, 1, 162),
+            (2, 0, 1, 162, 18),
             "refused V18 slot 1\na path comes back to a state that it was in: the loop has no end\n\
              slot 1: goto -1\nchange a register in the loop that its test reads\nway: 1 -> 1\n",
         ),
     ),
-    (&ENDLESS, 1_000_000, ((2, 0, 1, 100), "")),
+    (&ENDLESS, 1_000_000, ((2, 0, 1, 100, 18), "")),
 ];
 
 impl Holds for Judging {

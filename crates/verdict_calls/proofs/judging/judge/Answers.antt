@@ -47,8 +47,7 @@ returns-clause-refused c = λ two.
     let stop = c.in-Err-Refused in
     let call = c.write_refusal in
     let refused = rw stop.field-0-is at stop.ensures.refused in
-    subst (λ (p : Program). FillsProgramRefusal p call.new.out.slot c.args.why.now
-    call.new.why call.new.out.said)
+    subst (λ (p : Program). FillsProgramRefusal p c.args.why.now call.new.why call.new.out)
     c.in-Ok.ensures
     (call.ensures.refused two
     (subst (λ (p : Program). IsRefused p stop.refusal stop.slot) (sym c.in-Ok.ensures) refused))
