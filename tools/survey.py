@@ -28,6 +28,7 @@ import shutil
 import subprocess
 import sys
 import tempfile
+from dataclasses import replace
 from typing import Iterator, NamedTuple
 
 from image import chosen, programs
@@ -79,8 +80,8 @@ def choices(path: str, choice: Choice, folder: str) -> list[tuple[str, Choice]]:
             it = Object(file.read())
         found = [(section, name) for section, names in programs(it).items() for name in names]
         if len(found) != 1:
-            return [(f":{name}", Choice(choice.xdpvm, section, name, choice.clang, choice.flags, choice.btf)) for section, name in found]
-        return [("", Choice(choice.xdpvm, found[0][0], chosen(it, *found[0]).name, choice.clang, choice.flags, choice.btf))]
+            return [(f":{name}", replace(choice, section=section, program=name)) for section, name in found]
+        return [("", replace(choice, section=found[0][0], program=chosen(it, *found[0]).name))]
     return [("", choice)]
 
 
