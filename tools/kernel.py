@@ -132,7 +132,7 @@ class Ran:
         if self.accepted and frames is not None:
             self.run(program, image, frames, filled)
 
-    def run(self, program: str, image: str | Path, frames: list[Frame], filled: Filled | None) -> None:
+    def run(self, program: str, image: str | Path, frames: list[Frame], filled: Filled | None = None) -> None:
         """Runs the image on the frames."""
         with tempfile.TemporaryDirectory() as folder:
             given, sent = f"{folder}/in", f"{folder}/out"
