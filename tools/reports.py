@@ -26,6 +26,14 @@ def tell_place(refused: TextRefused) -> None:
         print(f"{refused.path}:{place[1]}:{place[2]}", file=sys.stderr)
 
 
+def tell_maps_refused(said: str, path: str | None) -> None:
+    """A refusal of the file of maps, if there is one, with its position as editors read it."""
+    print(said, end="", file=TOLD[0], flush=True)
+    place = re.search(r"line (\d+) column (\d+)", said)
+    if place and path:
+        print(f"{path}:{place[1]}:{place[2]}", file=sys.stderr)
+
+
 def tell_refusal(source: Source, ran: "subprocess.CompletedProcess[str]") -> None:
     """A verdict; where it is a refusal, each slot with its line of the source."""
     print(ran.stdout, end="", file=TOLD[0], flush=True)

@@ -100,6 +100,13 @@ class Values(unittest.TestCase):
             with self.assertRaisesRegex(Refused, r"has an address, at byte 8 of \.data: a map's value has numbers"):
                 Linker(it, Kernel(None)).link(image.chosen(it, None, None))
 
+    def test_an_address_that_is_not_the_variables_own_is_named(self) -> None:
+        """gcc's assembler writes a variable's address, which is 0 only at the beginning of its section."""
+        it = Object(content(f"{MADE}/values.clang14.o"))
+        with unittest.mock.patch.object(it, "has_addresses", lambda: True):
+            with self.assertRaisesRegex(Refused, "is named in program.* by an address that is not its own"):
+                Linker(it, Kernel(None)).link(image.chosen(it, None, None))
+
     def test_too_many_sections(self) -> None:
         """A section is a map, and an image has at most 16."""
         maps = image_maps.Maps()
@@ -197,6 +204,56 @@ class Beside(InFolder):
             self.assertEqual(sorted(os.listdir(self.folder)), ["a.o", "b.maps"])
 
 
+class Commands(InFolder):
+    """Messages of commands that do not come to a run."""
+
+    def test_words_that_do_not_go_together(self) -> None:
+        """They are named."""
+        xdp, its = ["xdp.py", "--xdpvm", sys.executable], f"{EXAMPLES}/pass.image"
+        for words, said in (
+            ([*xdp, its, "--maps", "list.maps"], "--maps and --maps-out go with a CAPTURE"),
+            ([*xdp, its, "-", "--maps", "-"], "standard input can be CAPTURE or MAPS, and not both"),
+        ):
+            ran = self.ran(*words)
+            self.assertNotEqual(ran.returncode, 0)
+            self.assertIn(said, ran.stderr)
+
+    def test_a_program_that_is_not_there(self) -> None:
+        """It is named before anything runs."""
+        with unittest.mock.patch.dict(os.environ, {"XDPVM_FILTER": "nowhere"}):
+            with self.assertRaisesRegex(
+                sources.Failed, "no program nowhere, which runs a filter on maps that are filled"
+            ):
+                sources.the_filter(PROGRAM)
+
+    def test_a_script_that_has_no_values_does_not_run(self) -> None:
+        """run.sh takes no values, and says so."""
+        words = ["bash", f"{EXAMPLES}/run.sh", "run", "quota", "firewall"]
+        with unittest.mock.patch.dict(os.environ, {"XDPVM": shutil.which("true") or ""}):
+            ran = subprocess.run(words, capture_output=True, text=True, timeout=100, check=False)
+        self.assertNotEqual(ran.returncode, 0)
+        self.assertIn("its variables begin with values (quota.image.maps); xdp.py runs it with them", ran.stderr)
+
+    def test_lines_of_a_map_that_is_no_section(self) -> None:
+        """object.py fills sections only from the file beside an image."""
+        shutil.copy(f"{EXAMPLES}/talkers.image", self.path("a.image"))
+        data = content(self.path("a.image"))
+        self.write("a.image.maps", map_files.first_line(data) + "map 0 c0000201 0100000000000000\n")
+        said = self.ran("object.py", "--unverified", "a.image", "a.o")
+        self.assertEqual((said.returncode, os.path.exists(self.path("a.o"))), (1, False))
+        self.assertIn("a.image.maps: map 0 is no memory of the program's; --fill takes its lines", said.stderr)
+
+    def test_an_object_says_what_it_begins_with(self) -> None:
+        """And image.py reads the same values back."""
+        self.ran("image.py", f"{MADE}/values.clang14.o", "a.image")
+        said = self.ran("object.py", "--unverified", "a.image", "a.o")
+        self.assertIn(
+            "a.o: map0, map1, map3 begin with the values of a.image.maps: each loader fills them in", said.stderr
+        )
+        self.assertEqual(self.ran("image.py", "a.o", "b.image").returncode, 0)
+        self.assertEqual(content(self.path("a.image.maps")), content(self.path("b.image.maps")))
+
+
 @unittest.skipUnless(the_filter(), "there is no program xdpvm_filter")
 class Runs(InFolder):
     """xdp.py, on maps that are filled and kept."""
@@ -223,6 +280,7 @@ class Runs(InFolder):
         said = self.xdp("a.image", f"{EXAMPLES}/talkers.frames", "--maps", "list.maps", "--maps-out", "kept.maps")
         self.assertEqual(said.returncode, 2, said.stderr)
         self.assertRegex(said.stdout, r"\nrefused M\d line 3 column \d+\n\Z")
+        self.assertRegex(said.stderr, r"(?m)^list\.maps:3:\d+$")
         self.assertFalse(os.path.exists(self.path("kept.maps")))
 
     def test_outputs_are_no_inputs(self) -> None:

@@ -50,7 +50,7 @@ from expressions import Options, translated
 from inputs import named
 from map_files import filling
 from outputs import IsRead, end_by_signal, is_plain, refuse_inputs
-from reports import TOLD, tell_place, tell_refusal, tell_report, traced
+from reports import TOLD, tell_maps_refused, tell_place, tell_refusal, tell_report, traced
 from runs import ENDED, SENT, Chain, Ends, Live, Run, Wanted, converted
 from sources import Choice, Failed, Source, TextRefused, begin_of, image_of, the_filter, the_xdpvm
 
@@ -123,7 +123,7 @@ def run(given: argparse.Namespace, image: str, source: Source, folder: str) -> i
     ends = [given.capture, *[given.out] * bool(given.out)]
     is_live = any(it == "-" or not is_plain(it) for it in ends)
     status, refusal = (run_live if is_live else run_whole)(given, wanted, source)
-    print(refusal, end="", file=TOLD[0])
+    tell_maps_refused(refusal, text.named if text else None)
     return status
 
 
