@@ -101,6 +101,7 @@ def linked(data: bytes, wanted: Wanted) -> Image:
 
 
 def bytes_of(image: Image) -> bytes:
+    """The bytes of an image's file."""
     return image.magic + struct.pack("<HH", len(image.rows), len(image.slots) // 8) + b"".join(image.rows) + image.slots
 
 

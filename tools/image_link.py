@@ -7,7 +7,7 @@ from typing import NamedTuple
 import image_maps
 from core_relocations import Kernel, context_differs
 from image_maps import ARRAY, MOST_VALUE
-from image_values import called, is_of_values, lines_of, value_of
+from image_values import is_of_values, lines_of, value_of, words_for
 from objects import (
     FUNCTION_SYMBOL,
     LOCAL_CALL,
@@ -102,6 +102,7 @@ class Linker:
             raise Refused(f"its struct xdp_md has {field} where Linux has none, and no record (CO-RE) says so")
 
     def link(self, function: Symbol) -> Image:
+        """The image of a program, with all functions that it calls."""
         self.refuse_lost_records()
         self.begin(function)
         while self.waiting:
@@ -176,6 +177,7 @@ class Linker:
         struct.pack_into(form, self.slots, there, new)
 
     def called(self, symbol: Symbol) -> str:
+        """The words for a symbol."""
         return symbol.name or self.it.section_name(symbol.section) or "a symbol"
 
     def call(self, slot: int, section: int, at: int, named: Relocation | None) -> None:
@@ -229,9 +231,9 @@ class Linker:
         if home not in self.variables:
             if size > MOST_VALUE:
                 raise Refused(
-                    f"{called(self.it, home, value)} is used {self.where(section, at)}: its section {name} has {size:,}"
-                    f" bytes, and a map's value has at most {MOST_VALUE:,}; give some of what is in it a section of its own,"
-                    f' as __attribute__((section("{"." + name.split(".")[1]}.NAME")))'
+                    f"{words_for(self.it, home, value)} is used {self.where(section, at)}: its section {name} has {size:,}"
+                    f" bytes, and a map's value has at most {MOST_VALUE:,}; give some of what is in it a section of"
+                    f' its own, as __attribute__((section("{"." + name.split(".")[1]}.NAME")))'
                 )
             self.variables[home] = self.maps.add(name, struct.pack(image_maps.ROW, ARRAY, 4, size, 1))
         return self.variables[home]

@@ -12,7 +12,7 @@ def is_of_values(name: str) -> bool:
     return name in SECTIONS or name.startswith(tuple(f"{it}." for it in SECTIONS))
 
 
-def called(it: Object, section: int, at: int) -> str:
+def words_for(it: Object, section: int, at: int) -> str:
     """The words for what is at a place of such a section."""
     name, home = it.variable(section, at), it.section_name(section)
     if home.startswith(".rodata"):
@@ -28,10 +28,10 @@ def value_of(it: Object, section: int) -> bytes:
     if len(it.bodies[section]) != it.sizes[section]:
         raise Refused(f"the section {it.names[section]} is not inside the file")
     for at in sorted(it.relocations(section)):
-        what = called(it, section, at)
+        what = words_for(it, section, at)
         raise Refused(
-            f"{what} has an address, at byte {at} of {it.names[section]}: a map's value has numbers, and no address that"
-            " is known only where the program is loaded; choose by `if` or `switch` in place of a pointer"
+            f"{what} has an address, at byte {at} of {it.names[section]}: a map's value has numbers, and no address"
+            " that is known only where the program is loaded; choose by `if` or `switch` in place of a pointer"
         )
     return it.bodies[section]
 

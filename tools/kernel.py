@@ -171,6 +171,7 @@ def whole(stream: bytes) -> list[Frame]:
 
 
 def action_of(answer: int) -> str:
+    """The name of an action."""
     return ACTIONS[answer] if answer < len(ACTIONS) else "INVALID"
 
 
@@ -194,15 +195,13 @@ def differences(kernel: Kernel, ran: Ran, frames: list[Frame]) -> tuple[list[str
             at = next(
                 (k for k, (a, b) in enumerate(zip(answered[1], after)) if a != b), min(len(answered[1]), len(after))
             )
-            found.append(
-                f"frame {number}: the bytes differ at {at}: xdpvm {after[at:at + 8].hex()}, the kernel {answered[1][at:at + 8].hex()}"
-            )
-    ours, theirs = sorted(ran.entries), sorted(kernel.entries())
-    if ours != theirs:
-        one = next((it for it in ours + theirs if (it in ours) != (it in theirs)))
-        found.append(
-            f"map {one[0]}: the key {one[1].hex()} with the value {one[2].hex()} is only {'of xdpvm' if one in ours else 'of the kernel'}"
-        )
+            ours, theirs = after[at : at + 8].hex(), answered[1][at : at + 8].hex()
+            found.append(f"frame {number}: the bytes differ at {at}: xdpvm {ours}, the kernel {theirs}")
+    left, right = sorted(ran.entries), sorted(kernel.entries())
+    if left != right:
+        one = next((it for it in left + right if (it in left) != (it in right)))
+        whose = "of xdpvm" if one in left else "of the kernel"
+        found.append(f"map {one[0]}: the key {one[1].hex()} with the value {one[2].hex()} is only {whose}")
     return found, both
 
 
@@ -216,7 +215,7 @@ def frames_in(path: str) -> tuple[list[Frame], int]:
     if content[:4] not in (b"XPF1", b"XPF2"):
         with tempfile.TemporaryDirectory() as folder:
             made = f"{folder}/made.frames"
-            if subprocess.run([sys.executable, f"{HERE}/frames.py", path, made]).returncode:
+            if subprocess.run([sys.executable, f"{HERE}/frames.py", path, made], check=False).returncode:
                 raise ValueError(f"{path} is no frame stream and no capture")
             with open(made, "rb") as file:
                 content = file.read()
@@ -294,6 +293,7 @@ def compared(given: argparse.Namespace, folder: str) -> int:
 
 
 def main() -> int:
+    """Compares, and says where that cannot be done; the exit status."""
     given = arguments()
     if not shutil.which(given.xdpvm):
         print(f"kernel.py: there is no program {given.xdpvm}", file=sys.stderr)

@@ -33,7 +33,7 @@ def call(command: int, attributes: bytes) -> tuple[int, bytes]:
 
 def without_perfmon() -> None:
     """This process keeps CAP_BPF, CAP_NET_ADMIN and CAP_SYS_RESOURCE, and no other capability."""
-    with open("/proc/self/status") as status:
+    with open("/proc/self/status", encoding="utf-8") as status:
         has = int(next(it for it in status if it.startswith("CapPrm")).split()[1], 16)
     bits = has & (1 << CAP_NET_ADMIN | 1 << CAP_SYS_RESOURCE | 1 << CAP_BPF)
     low, high = bits & 0xFFFFFFFF, bits >> 32
@@ -47,8 +47,8 @@ def parsed(image: bytes) -> tuple[list[tuple[int, int, int, int]], list[bytes]]:
     magic, maps, slots = struct.unpack_from("<4sHH", image)
     if magic not in (b"XBP1", b"XBP2") or len(image) != 8 + 12 * maps + 8 * slots:
         raise ValueError("this is no image")
-    rows: list[tuple[int, int, int, int]] = [struct.unpack_from("<HHII", image, 8 + 12 * k) for k in range(maps)]  # type: ignore[misc]
     at = 8 + 12 * maps
+    rows: list[tuple[int, int, int, int]] = list(struct.iter_unpack("<HHII", image[8:at]))  # type: ignore[arg-type]
     return rows, [image[at + 8 * k : at + 8 * k + 8] for k in range(slots)]
 
 
@@ -69,6 +69,7 @@ class Kernel:
             raise
 
     def made(self, kind: int, key: int, value: int, entries: int) -> int:
+        """A map in the kernel."""
         result, _ = call(MAP_CREATE, struct.pack("<IIIII", kind, key, value, entries, 0))
         if result < 0:
             if result in (-errno.EPERM, -errno.ENOSYS):
@@ -96,8 +97,9 @@ class Kernel:
             yield slot
 
     def loaded(self, code: bytes) -> int | None:
-        room, license = ctypes.create_string_buffer(code, len(code)), ctypes.create_string_buffer(b"GPL")
-        words = (XDP, len(code) // 8, ctypes.addressof(room), ctypes.addressof(license))
+        """The program in the kernel, or nothing where it is refused."""
+        room, terms = ctypes.create_string_buffer(code, len(code)), ctypes.create_string_buffer(b"GPL")
+        words = (XDP, len(code) // 8, ctypes.addressof(room), ctypes.addressof(terms))
         for level in (4 if self.counts else 0, 1):
             log = ctypes.create_string_buffer(LOG_BYTES if level else 1)
             seen = (level, LOG_BYTES, ctypes.addressof(log)) if level else (0, 0, 0)
@@ -157,6 +159,7 @@ class Kernel:
         return sorted(found) if all(row[0] == 1 for row in self.rows) else found
 
     def close(self) -> None:
+        """Gives the program and the maps back."""
         for file in self.files:
             os.close(file)
         self.files = []

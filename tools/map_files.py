@@ -30,14 +30,16 @@ def path_of(image: str) -> str:
 
 
 def first_line(image: bytes) -> str:
+    """The line by which a file of maps is known as that of an image."""
     return f"{MARK}{hashlib.sha256(image).hexdigest()}\n"
 
 
 def text_of(path: str) -> str | None:
     """The text of a file of maps that image.py made, or nothing."""
-    with contextlib.suppress(OSError, UnicodeDecodeError), open(path, encoding="ascii") as file:
-        if is_plain(path) and file.read(len(MARK)) == MARK:
-            return MARK + file.read()
+    if is_plain(path):
+        with contextlib.suppress(OSError, UnicodeDecodeError), open(path, encoding="ascii") as file:
+            if file.read(len(MARK)) == MARK:
+                return MARK + file.read()
     return None
 
 

@@ -50,6 +50,7 @@ def tell_refusal(source: Source, ran: "subprocess.CompletedProcess[str]") -> Non
 
 
 def plural(count: int, noun: str) -> str:
+    """A number of things, in words."""
     return f"{count:,} {noun}" + ("" if count == 1 else "s")
 
 

@@ -203,6 +203,7 @@ def tried(given: argparse.Namespace, folder: str) -> int:
 
 
 def main() -> int:
+    """Tries the filter; the exit status."""
     given = arguments()
     if not shutil.which(given.xdpvm):
         sys.exit(f"xdp.py: there is no program {given.xdpvm}; `bash install.sh FOLDER` makes one")
