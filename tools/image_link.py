@@ -231,9 +231,9 @@ class Linker:
         if home not in self.variables:
             if size > MOST_VALUE:
                 raise Refused(
-                    f"{words_for(self.it, home, value)} is used {self.where(section, at)}: its section {name} has {size:,}"
-                    f" bytes, and a map's value has at most {MOST_VALUE:,}; give some of what is in it a section of"
-                    f' its own, as __attribute__((section("{"." + name.split(".")[1]}.NAME")))'
+                    f"{words_for(self.it, home, value)} is used {self.where(section, at)}: its section {name} has"
+                    f" {size:,} bytes, and a map's value has at most {MOST_VALUE:,}; give some of what is in it a"
+                    f' section of its own, as __attribute__((section("{"." + name.split(".")[1]}.NAME")))'
                 )
             self.variables[home] = self.maps.add(name, struct.pack(image_maps.ROW, ARRAY, 4, size, 1))
         return self.variables[home]

@@ -1,5 +1,5 @@
 /* says: addresses.c: the constant names has an address, at byte 0 of \.(data\.rel\.ro|rodata|data): a map's value has numbers */
-/* A table of strings: it has their addresses. Linux's loaders leave them out, so it reads nothing there. */
+/* A table of strings: it has their addresses, and a map has numbers only. */
 #include "filter.h"
 
 static const char *const names[4] = { "a frame", "b frame", "c frame", "d frame" };
