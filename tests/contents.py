@@ -2,15 +2,19 @@
 """Random programs on maps that are filled: what `xdpvm_filter` does of them, in one run and in two, with checks, and by
 Linux.
 
-usage: python3 tests/contents.py [--halves N] [--programs N] [--seed S] [--jobs J] [--filter PROGRAM] [--keep FOLDER]
+usage: python3 tests/contents.py [--halves N] [--programs N] [--texts N] [--seed S] [--jobs J] [--filter PROGRAM]
+                                 [--keep FOLDER]
 
 Programs are those of assurance/random_programs.py that are accepted; each has random contents of its maps, and a random
 stream. Of --halves of them a run over the stream is compared with two runs, the second on what the first one left: as
 its --maps-out, or as its report; report, frames out and maps have to be those of the whole. Of --programs of them a run
 is compared with one with all checks, and with the kernel's test runs, where bpf(2) can be used and the kernel accepts
-the program. The programs that differ are kept in FOLDER. PROGRAM is the default of xdp.py.
+the program. For --texts of them the text of the maps is damaged, and its refusal, or what the maps hold after it, has
+to be that of a judge in Python (tests/map_lines.py). The programs that differ are kept in FOLDER. PROGRAM is the
+default of xdp.py.
 
-In the gate with few of each; by hand with --halves 1000 --programs 20000. The exit status is 1 if any differs."""
+In the gate with few of each; by hand with --halves 1000 --programs 20000 --texts 20000. The exit status is 1 if any
+differs."""
 import argparse
 import collections
 import os
@@ -29,6 +33,7 @@ sys.path[:0] = [f"{TOP}/tools", f"{TOP}/assurance"]
 sys.dont_write_bytecode = True
 import fuzz
 import kernel
+import map_lines
 import sources
 from kernel_calls import Kernel, NoKernel, parsed
 from map_files import Filling
@@ -179,6 +184,21 @@ def kernel_differs(folder: Folder, xdpvm: str, counts: Counter[str]) -> str:
     return "; ".join(found)
 
 
+def text_differs(folder: Folder, counts: Counter[str]) -> str:
+    """What differs from the judge's answer to a damaged text, if anything does."""
+    case = folder.case
+    text = map_lines.damaged(case.chance, case.maps.encode())
+    folder.write("begin.maps", text)
+    wanted = map_lines.judged(text, parsed(case.image)[0])
+    none = folder.write("frames", case.magic)
+    words = [folder.program, f"{folder.path}/image", none, f"{folder.path}/sent", "--checked"]
+    words += ["--maps", f"{folder.path}/begin.maps", "--maps-out", f"{folder.path}/kept.maps"]
+    ran = subprocess.run(words, capture_output=True, text=True, check=False)
+    found = folder.read("kept.maps").decode() if ran.returncode == 0 else ran.stdout
+    counts[wanted[:10] if wanted.startswith("refused") else "texts accepted"] += 1
+    return "" if found == wanted else f"the text is answered by {found!r}, and by the judge {wanted!r}"
+
+
 @dataclass(frozen=True)
 class Job:
     """What is tried of a number of programs, from a seed on."""
@@ -201,7 +221,8 @@ def accepted(job: Job) -> Iterator[Case]:
             seed += job.step
             with open(f"{work}/image", "wb") as file:
                 file.write(case.image)
-            if subprocess.run([job.xdpvm, "verify", f"{work}/image"], capture_output=True, check=False).returncode == 0:
+            words = [job.xdpvm, "verify", f"{work}/image"]
+            if job.kind == "texts" or subprocess.run(words, capture_output=True, check=False).returncode == 0:
                 left -= 1
                 yield case
 
@@ -214,7 +235,10 @@ def tried(job: Job) -> tuple[Counter[str], list[str]]:
     for case in accepted(job):
         with tempfile.TemporaryDirectory() as work:
             folder = Folder(work, job.filter, case)
-            why = halves_differ(folder) if job.kind == "halves" else checked_differs(folder)
+            if job.kind == "texts":
+                why = text_differs(folder, counts)
+            else:
+                why = halves_differ(folder) if job.kind == "halves" else checked_differs(folder)
             if not why and job.kind == "programs" and is_kernel:
                 try:
                     why = kernel_differs(folder, job.xdpvm, counts)
@@ -236,6 +260,7 @@ def main() -> int:
     parser = argparse.ArgumentParser(description=__doc__, formatter_class=argparse.RawDescriptionHelpFormatter)
     parser.add_argument("--halves", type=int, default=60)
     parser.add_argument("--programs", type=int, default=120)
+    parser.add_argument("--texts", type=int, default=200)
     parser.add_argument("--seed", type=int, default=1)
     parser.add_argument("--jobs", type=int, default=2)
     parser.add_argument("--filter")
@@ -248,7 +273,7 @@ def main() -> int:
         sys.exit(f"contents.py: {why}")
     jobs = [
         Job(kind, given.seed + at, given.jobs, count // given.jobs, os.path.abspath(program), xdpvm, given.keep)
-        for kind, count in (("halves", given.halves), ("programs", given.programs))
+        for kind, count in (("halves", given.halves), ("programs", given.programs), ("texts", given.texts))
         for at in range(given.jobs)
     ]
     counts: Counter[str] = collections.Counter()
