@@ -195,6 +195,9 @@ def text_differs(folder: Folder, counts: Counter[str]) -> str:
     words += ["--maps", f"{folder.path}/begin.maps", "--maps-out", f"{folder.path}/kept.maps"]
     ran = subprocess.run(words, capture_output=True, text=True, check=False)
     found = folder.read("kept.maps").decode() if ran.returncode == 0 else ran.stdout
+    if found.startswith("refused I"):
+        counts["no images"] += 1
+        return ""
     counts[wanted[:10] if wanted.startswith("refused") else "texts accepted"] += 1
     return "" if found == wanted else f"the text is answered by {found!r}, and by the judge {wanted!r}"
 
