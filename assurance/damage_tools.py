@@ -31,7 +31,7 @@ BTF = os.path.join(TOP, "tests/objects/made/kernel.btf")
 
 def read_object(data: bytes) -> None:
     try:
-        image.made(data, None, None, BTF)
+        image.made(data, image.Wanted(btf=BTF))
     except Refused:
         pass
 
@@ -44,7 +44,7 @@ def read_types(data: bytes) -> None:
         types.write(data)
         types.flush()
         try:
-            image.made(asked, None, None, types.name)
+            image.made(asked, image.Wanted(btf=types.name))
         except Refused:
             pass
 

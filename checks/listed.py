@@ -38,6 +38,8 @@ CHECKS = (
     Check("installation", "bash checks/installation.sh", "install.sh into a fresh folder, and what a user runs there", 5),
     Check("releases", "bash checks/releases.sh", "the archives of a release, tried without the toolchain", 25),
     Check("tools", "python3 tools/test_tools.py", "frames.py, image.py, table.py and xdp.py on small cases", 15),
+    Check("filled_maps", "python3 tools/test_maps.py", "what maps begin with: variables and constants of objects, the file of maps beside an image, the options of xdp.py", 4),
+    Check("contents", "python3 tests/contents.py", "random programs on maps that are filled: two runs over halves of a stream against one, with checks and without, and by Linux; damaged texts of maps against a judge in Python", 8),
     Check("objects_made", "python3 tools/test_object.py", "objects for Linux, made and read", 8),
     Check("files", "python3 tools/test_files.py", "that no tool writes over a file that it reads, and that outputs are whole", 10),
     Check("objects_run", "python3 tests/object_files.py", "stored objects of clang and gcc against their C, compiled here", 8),

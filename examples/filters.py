@@ -44,7 +44,7 @@ def wrong(path, given):
     with tempfile.TemporaryDirectory() as folder:
         sent = os.path.join(folder, "sent.pcapng")
         words = [sys.executable, os.path.join(HERE, "../tools/xdp.py"), os.path.basename(path), "mix.txt", sent]
-        words += ["--clang", given.clang, *["--xdpvm", os.path.abspath(given.program)] * bool(given.program)]
+        words += ["--clang", given.clang, *(["--xdpvm", os.path.abspath(given.program)] if given.program else [])]
         words += (line_of(text, "words") or "").split()
         words += ["--", *(line_of(text, "flags") or "").split()]
         try:

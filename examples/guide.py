@@ -2,16 +2,18 @@
 """Runs every example of README.md and docs/*.md, and prints each whose result is not what the page
 says.
 
-usage: python3 examples/guide.py [PROGRAM [SURVEY]]
+usage: python3 examples/guide.py [PROGRAM [SURVEY [FILTER]]]
 
 PROGRAM is the program that `rt run` leaves in crates/xdpvm (the default: crates/xdpvm/out/xdpvm), SURVEY the one that it
-leaves in crates/xdpvm_survey (crates/xdpvm_survey/out/xdpvm_survey). Without that one the blocks that call it are not tried.
+leaves in crates/xdpvm_survey (crates/xdpvm_survey/out/xdpvm_survey), FILTER that in crates/xdpvm_filter. Without one of
+these two the blocks that call it are not tried.
 
 The first word after the backquotes of a code block says how the block is tried:
 
     console     commands after `$`, each followed by its standard output
     tcpdump     the same, where tcpdump 4.99 with libpcap 1.10 is installed
     NAME.text   a program text; it is written to that file, for the commands that follow it on the page
+    NAME.maps   the same of a text of maps
     program     a program text; `asm` assembles it, and `verify` answers what the comment says
     trace       a program text; the first frame of examples/two.frames, traced, has the lines that the comment says
     image       an image in hexadecimal; `verify` answers what the comment says
@@ -43,6 +45,7 @@ import filters
 TOP = os.path.dirname(os.path.dirname(os.path.abspath(__file__)))
 PROGRAM = os.path.abspath(sys.argv[1] if len(sys.argv) > 1 else os.path.join(TOP, "crates/xdpvm/out/xdpvm"))
 SURVEY = os.path.abspath(sys.argv[2] if len(sys.argv) > 2 else os.path.join(TOP, "crates/xdpvm_survey/out/xdpvm_survey"))
+FILTER = os.path.abspath(sys.argv[3] if len(sys.argv) > 3 else os.path.join(TOP, "crates/xdpvm_filter/out/xdpvm_filter"))
 BLOCK = re.compile(r"^```(\S+)\n(.*?)^```$", re.M | re.S)
 COMMENT = re.compile(r"(?:# .*\n)*")
 COMMAND = re.compile(r"^\$ (.*)\n((?:(?!\$ ).*\n)*)", re.M)
@@ -58,6 +61,14 @@ def shell(command):
     """The standard output of a command line."""
     ran = subprocess.run(["bash", "-c", command], stdout=subprocess.PIPE, stderr=subprocess.DEVNULL, text=True, timeout=600)
     return ran.stdout
+
+
+def bytes_of(path):
+    """The bytes of a file, or none where it is not there."""
+    if not os.path.exists(path):
+        return b""
+    with open(path, "rb") as file:
+        return file.read()
 
 
 def line(text, place):
@@ -126,11 +137,17 @@ def answer_of(kind, body):
     return line(answer, -1) + why
 
 
+def has_programs(body):
+    """Whether the programs that a block calls are there."""
+    fills = re.search(r"xdpvm_filter|xdp\.py .*(--maps|quota)", body)
+    return ("survey" not in body or os.path.exists(SURVEY)) and (not fills or os.path.exists(FILTER))
+
+
 def tries(kind, body):
     """The examples of a block: what is tried, what is wanted, and the result."""
-    if kind.endswith(".text"):
+    if kind.endswith((".text", ".maps")):
         write(kind, body)
-    elif kind == "console" and ("survey" not in body or os.path.exists(SURVEY)) or kind == "tcpdump" and has_tcpdump():
+    elif kind == "console" and has_programs(body) or kind == "tcpdump" and has_tcpdump():
         for command, wanted in COMMAND.findall(body):
             yield command, wanted, shell(command)
     elif kind in ("program", "trace", "image", "stream", "table", "entries"):
@@ -161,8 +178,9 @@ def compiled():
     if "clang version 14." in shell("clang --version") and os.path.exists("/usr/include/linux/bpf.h"):
         for source in sorted(glob.glob("examples/*.bpf.c")):
             shell(f"bash tools/compile.sh {source} example.image")
-            with open("example.image", "rb") as made, open(source.removesuffix(".bpf.c") + ".image", "rb") as kept:
-                yield source, kept.read().hex() + "\n", made.read().hex() + "\n"
+            for ending in (".image", ".image.maps"):
+                kept = source.removesuffix(".bpf.c") + ending
+                yield source, bytes_of(kept).hex() + "\n", bytes_of(f"example{ending}").hex() + "\n"
 
 
 def captured():
@@ -349,7 +367,9 @@ def main():
         os.symlink(os.path.join(TOP, "tests"), "tests")
         os.symlink(PROGRAM, "bin/xdpvm")
         os.symlink(SURVEY, "bin/xdpvm_survey")
+        os.symlink(FILTER, "bin/xdpvm_filter")
         os.environ["XDPVM"] = PROGRAM
+        os.environ["XDPVM_FILTER"] = FILTER
         os.environ["PATH"] = os.path.join(folder, "bin") + os.pathsep + os.environ["PATH"]
         for page in pages:
             with open(page) as file:
@@ -367,8 +387,9 @@ def main():
         count("crates.txt", crates_on_pages())
         count("pages", links(pages + [os.path.join(TOP, it) for it in ("examples/README.md", "assurance/LOG.md", "bench/LOG.md")]))
         os.chdir("/")
-    if not os.path.exists(SURVEY):
-        print(f"there is no program {SURVEY}: what calls it was not tried")
+    for program in (SURVEY, FILTER):
+        if not os.path.exists(program):
+            print(f"there is no program {program}: what calls it was not tried")
     print(f"{runs} examples, {failures} differ")
     sys.exit(1 if failures else 0)
 

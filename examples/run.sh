@@ -142,6 +142,7 @@ if [ ${#words[@]} -eq 1 ]; then
     "$program" "$command" "$image" || status=$?
     exit $status
 fi
+[ ! -e "$image.maps" ] || stop "$given: its variables begin with values ($(basename "$image").maps); xdp.py runs it with them"
 frames=$(file_of "${words[1]}" frames pcapng)
 out=${words[2]-}
 refuse_inputs "$out" "$given" "$frames"

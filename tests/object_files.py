@@ -1,14 +1,16 @@
 #!/usr/bin/env python3
 """Images of objects against their C compiled for this machine: the same actions and bytes on each frame.
 
-usage: python3 tests/object_files.py [PROGRAM]
+usage: python3 tests/object_files.py [PROGRAM [FILTER]]
        python3 tests/object_files.py --make
 
 tests/objects has filters in C, and in `made` the objects that clang 14, 16 and 19 and bpf-gcc 12 made of them, with the
 kernel's types that they ask for (kernel.btf). Each object becomes an image by tools/image.py, is verified and run by PROGRAM
-(the default: crates/xdpvm/out/xdpvm), and must do what the same C does here, compiled by `cc`. A line `gcc: WORDS` in a
-source says that gcc's object is refused with these words; `words: ..` has words for image.py. --make compiles the objects
-again, with the compilers that are there, and takes the kernel's types from this machine (bpftool).
+(the default: crates/xdpvm/out/xdpvm), and must do what the same C does here, compiled by `cc`. One whose variables or
+constants begin with values is run by FILTER (crates/xdpvm_filter/out/xdpvm_filter), and must do what Linux does, too,
+where bpf(2) can be used. A line `gcc: WORDS` in a source says that gcc's object is refused with these words; `words: ..`
+has words for image.py. --make compiles the objects again, with the compilers that are there, and takes the kernel's types
+from this machine (bpftool).
 
 The exit status is 0 if each object does so, else 1.
 """
@@ -26,6 +28,7 @@ BTF = os.path.join(FOLDER, "made/kernel.btf")
 CLANG = ["-target", "bpf", "-g", "-O2", f"-I/usr/include/{os.uname().machine}-linux-gnu"]
 GCC = ["-gbtf", "-mco-re", "-O2", "-I/usr/include", f"-I/usr/include/{os.uname().machine}-linux-gnu"]
 COMPILERS = {"clang14": ["clang-14", *CLANG], "clang16": ["clang-16", *CLANG], "clang19": ["clang-19", *CLANG], "gcc12": ["bpf-gcc", *GCC]}
+CANNOT = 77  # the status of kernel.py where bpf(2) cannot be used
 Frame = tuple[int, bytes]
 
 
@@ -76,16 +79,36 @@ def by_host(source: str, folder: str) -> list[tuple[str, str]]:
 
 
 def by_image(program: str, image: str, folder: str) -> list[tuple[str, str | None]]:
-    """The same by `xdpvm run`, which writes the bytes of frames that are sent on."""
+    """The same by `xdpvm run`, or by `xdpvm_filter` on maps that are filled, which write the bytes of frames that are sent
+    on."""
     with open(f"{folder}/frames", "wb") as file:
         file.write(stream_of(frames()))
-    ran = subprocess.run([program, "run", image, f"{folder}/frames", f"{folder}/sent"], capture_output=True, text=True, check=False)
+    words = [program, "run", image, f"{folder}/frames", f"{folder}/sent"]
+    if os.path.exists(f"{image}.maps"):
+        words = [the_filter(), image, *words[3:], "--maps", f"{image}.maps", "--report", f"{folder}/report"]
+    ran = subprocess.run(words, capture_output=True, text=True, check=False)
     if ran.returncode:
         return [(ran.stdout.strip() or ran.stderr.strip(), None)]
+    if os.path.exists(f"{folder}/report"):
+        with open(f"{folder}/report", encoding="ascii") as report:
+            ran.stdout = report.read()
     actions = [line.split(" ")[1] for line in ran.stdout.splitlines() if line[0].isdigit()]
     with open(f"{folder}/sent", "rb") as file:
         sent = iter(bodies(file.read()))
     return [(action, next(sent).hex() if action in ("PASS", "TX") else None) for action in actions]
+
+
+def the_filter() -> str:
+    """The program for maps that are filled."""
+    given = sys.argv[2] if len(sys.argv) > 2 else os.environ.get("XDPVM_FILTER")
+    return given or os.path.join(TOP, "crates/xdpvm_filter/out/xdpvm_filter")
+
+
+def by_linux(program: str, made: str, folder: str) -> str | None:
+    """What differs in Linux's run of an object with values, if anything does, and bpf(2) can be used."""
+    words = [sys.executable, f"{TOP}/tools/kernel.py", made, f"{folder}/frames", "--btf", BTF, "--xdpvm", program]
+    ran = subprocess.run(words, capture_output=True, text=True, check=False, env={**os.environ, "XDPVM_FILTER": the_filter()})
+    return None if ran.returncode in (0, CANNOT) else f"{ran.stdout}{ran.stderr}"
 
 
 def wrong(program: str, source: str, made: str, folder: str) -> str | None:
@@ -104,7 +127,7 @@ def wrong(program: str, source: str, made: str, folder: str) -> str | None:
     for number, ((action, body), (ours, sent)) in enumerate(zip(wanted, found)):
         if action != ours or sent is not None and sent != body:
             return f"frame {number}: {ours} {sent}, and by this machine {action} {body}"
-    return None
+    return by_linux(program, made, folder) if os.path.exists(f"{image}.maps") else None
 
 
 def make() -> None:

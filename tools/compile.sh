@@ -1,6 +1,7 @@
 #!/bin/bash
 # Compiles a filter in C to an image.
-# usage: bash tools/compile.sh SOURCE.c IMAGE [--section NAME] [--program NAME] [FLAG..]      (flags go to clang, as -mcpu=v3)
+# usage: bash tools/compile.sh SOURCE.c IMAGE [--section NAME] [--program NAME] [--lru-as-hash] [FLAG..]
+# Flags go to clang, as -mcpu=v3. Variables and constants that begin with values are written to IMAGE.maps, as image.py does.
 # The filter is the function in the section "xdp", or in the one that is named; --program names the function where a section
 # has several. It needs clang, and for <linux/..> the headers of the system (Debian: linux-libc-dev). CLANG names another one.
 # IMAGE may not be SOURCE.c; an old one stays as it was until the new one is whole.
@@ -25,7 +26,7 @@ while [[ $# -gt 0 ]]; do
             chosen+=("$1" "$2")
             shift
             ;;
-        --section=* | --program=*) chosen+=("$1") ;;
+        --section=* | --program=* | --lru-as-hash) chosen+=("$1") ;;
         -*) flags+=("$1") ;;
         *) if [[ ${#files[@]} -lt 2 ]]; then files+=("$1"); else flags+=("$1"); fi ;;
     esac

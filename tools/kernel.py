@@ -1,93 +1,56 @@
 #!/usr/bin/env python3
 """Compares xdpvm with the Linux kernel of this machine: the verdict on a filter, and its runs on frames.
 
-usage: python3 tools/kernel.py FILTER FRAMES [--xdpvm PROGRAM] [--plain] [--log LINES] [--section NAME] [--program NAME]
-                               [--btf FILE] [--clang COMPILER] [-- FLAG ..]
+usage: python3 tools/kernel.py FILTER FRAMES [--maps MAPS] [--xdpvm PROGRAM] [--plain] [--log LINES] [--section NAME]
+                               [--program NAME] [--btf FILE] [--lru-as-hash] [--clang COMPILER] [-- FLAG ..]
 
-FILTER is an image, a text, an object or C, as xdp.py takes it. The image's maps are made in the kernel and its program is loaded there, by bpf(2); nothing is attached or pinned, and all
-is closed at the end. The program runs on each frame of FRAMES (a frame stream, or a capture that frames.py reads) by the
-kernel's test run, and by `xdpvm run`. It prints both verdicts, and where the runs agree or differ:
-for each frame the action and the bytes after the run, and at the end the contents of the maps.
+FILTER is an image, a text, an object or C, as xdp.py takes it. The image's maps are made in the kernel and its program
+is loaded there, by bpf(2); nothing is attached or pinned, and all is closed at the end. The program runs on each frame
+of FRAMES (a frame stream, or a capture that frames.py reads) by the kernel's test run, and by `xdpvm run`. It prints
+both verdicts, and where the runs agree or differ: for each frame the action and the bytes after the run, and at the end
+the contents of the maps.
 
-The kernel's test run takes frames of 14 to 3,520 bytes that came in on interface 1, queue 0: other lengths are left out,
-and all frames are given that interface and queue. Helper 5 reads another clock there: if a program calls it, both are given
-the same time at each call, and a line says so. With --plain the kernel loads the program without CAP_PERFMON, so under the stricter rules of its verifier (no leaks of
-pointers, no reads of bytes of the stack that were not written), which are like those of xdpvm.
---log prints the last lines of the kernel's verifier log.
+Before the first frame both have the maps filled alike: with what the filter's variables and constants begin with, and
+then with the map lines of MAPS. Then `xdpvm_filter` runs in place of `xdpvm run`.
+
+The kernel's test run takes frames of 14 to 3,520 bytes that came in on interface 1, queue 0: other lengths are left
+out, and all frames are given that interface and queue. Helper 5 reads another clock there: if a program calls it, both
+are given the same time at each call, and a line says so. With --plain the kernel loads the program without CAP_PERFMON,
+so under the stricter rules of its verifier (no leaks of pointers, no reads of bytes of the stack that were not
+written), which are like those of xdpvm. --log prints the last lines of the kernel's verifier log.
 
 examples:
     sudo python3 tools/kernel.py examples/firewall.image examples/firewall.frames --xdpvm crates/xdpvm/out/xdpvm
     sudo python3 tools/kernel.py filter.image traffic.pcapng --plain --log 20
+    sudo python3 tools/kernel.py filter.c traffic.pcapng --maps allowed.maps
 
-The exit status is 0 if verdicts and runs agree, 1 if not, 2 if the command is wrong, and 77 where
-bpf(2) cannot be used: it needs Linux on x86-64 and root.
+The exit status is 0 if verdicts and runs agree, 1 if not, 2 if the command is wrong, and 77 where bpf(2) cannot be
+used: it needs Linux on x86-64 and root.
 """
 from __future__ import annotations
 
 import argparse
-import ctypes
-import errno
 import os
-import re
 import shutil
 import struct
 import subprocess
 import sys
 import tempfile
+from dataclasses import dataclass
 from pathlib import Path
-from types import TracebackType
-from typing import Iterator
 
 import sources
 from inputs import named
+from kernel_calls import LEAST, MOST, Entry, Kernel, NoKernel, parsed, without_perfmon
+from map_files import Filling, filling
 
 HERE = os.path.dirname(os.path.abspath(__file__))
-SYS_BPF, SYS_CAPSET = 321, 126
-MAP_CREATE, MAP_LOOKUP, MAP_NEXT, PROG_LOAD, TEST_RUN = 0, 1, 4, 5, 10
-XDP = 6
-CAP_NET_ADMIN, CAP_SYS_RESOURCE, CAP_BPF = 12, 24, 39
 ACTIONS = ["ABORTED", "DROP", "PASS", "TX", "REDIRECT"]
-LEAST, MOST = 14, 3520
-LOG_BYTES = 1 << 24
 TIME = 10**9  # in nanoseconds, where both are given the same
-libc = ctypes.CDLL(None, use_errno=True)
 Frame = tuple[int, bytes]  # time and body
-Entry = tuple[int, bytes, bytes]  # the index of a map, a key, its value
-
-
-class NoKernel(Exception):
-    """bpf(2) cannot be used here."""
-
-
-def call(command: int, attributes: bytes) -> tuple[int, bytes]:
-    """bpf(2): the result, or minus the error number, and the attributes after the call."""
-    room = ctypes.create_string_buffer(attributes, 144)
-    result = libc.syscall(SYS_BPF, command, room, 144)
-    return (result if result >= 0 else -ctypes.get_errno()), room.raw
-
-
-def without_perfmon() -> None:
-    """This process keeps CAP_BPF, CAP_NET_ADMIN and CAP_SYS_RESOURCE, and no other capability."""
-    with open("/proc/self/status") as status:
-        has = int(next(it for it in status if it.startswith("CapPrm")).split()[1], 16)
-    bits = has & (1 << CAP_NET_ADMIN | 1 << CAP_SYS_RESOURCE | 1 << CAP_BPF)
-    low, high = bits & 0xFFFFFFFF, bits >> 32
-    header = struct.pack("<Ii", 0x20080522, 0)
-    if libc.syscall(SYS_CAPSET, header, struct.pack("<6I", low, low, 0, high, high, 0)) != 0:
-        raise NoKernel(f"capset: {os.strerror(ctypes.get_errno())}")
 
 
 # ---- images and frames
-
-
-def parsed(image: bytes) -> tuple[list[tuple[int, int, int, int]], list[bytes]]:
-    """The map rows and the slots of an image."""
-    magic, maps, slots = struct.unpack_from("<4sHH", image)
-    if magic not in (b"XBP1", b"XBP2") or len(image) != 8 + 12 * maps + 8 * slots:
-        raise ValueError("this is no image")
-    rows: list[tuple[int, int, int, int]] = [struct.unpack_from("<HHII", image, 8 + 12 * k) for k in range(maps)]  # type: ignore[misc]
-    at = 8 + 12 * maps
-    return rows, [image[at + 8 * k : at + 8 * k + 8] for k in range(slots)]
 
 
 def records(stream: bytes) -> list[Frame]:
@@ -128,156 +91,72 @@ def with_time(image: bytes) -> bytes:
     return image[: 8 + 12 * len(rows)] + b"".join(made)
 
 
-# ---- the kernel
-
-
-class Kernel:
-    """A program in the kernel with its maps. `refusal` is None, or the log of its refusal. With `counts` an accepted one has
-    the kernel's counts in its log."""
-
-    def __init__(self, image: bytes, counts: bool = False) -> None:
-        self.rows, slots = parsed(image)
-        self.files: list[int] = []
-        self.refusal: str | None = None
-        self.log, self.counts = b"", counts
-        try:
-            self.maps = [self.made(*row) for row in self.rows]
-            self.program = self.loaded(b"".join(self.linked(slots)))
-        except BaseException:
-            self.close()
-            raise
-
-    def made(self, kind: int, key: int, value: int, entries: int) -> int:
-        result, _ = call(MAP_CREATE, struct.pack("<IIIII", kind, key, value, entries, 0))
-        if result < 0:
-            if result in (-errno.EPERM, -errno.ENOSYS):
-                raise NoKernel(f"bpf(2): {os.strerror(-result)}")
-            raise OSError(-result, "a map cannot be made in the kernel")
-        self.files.append(result)
-        return result
-
-    def processed(self) -> str:
-        """How many instructions the kernel's verifier processed, in words, if its log says it."""
-        found = re.search(rb"processed (\d+) insns", self.log)
-        return f", {int(found[1]):,} instructions processed" if found else ""
-
-    def linked(self, slots: list[bytes]) -> Iterator[bytes]:
-        """The slots, with the maps' file descriptors in place of their indexes."""
-        wide = False
-        for slot in slots:
-            opcode, registers, offset, imm = struct.unpack("<BBhi", slot)
-            kind = registers >> 4
-            if opcode == 0x18 and not wide and kind in (5, 6):
-                slot = struct.pack("<BBhi", opcode, registers & 15 | (1 if kind == 5 else 2) << 4, offset, self.maps[imm])
-            wide = opcode == 0x18 and not wide
-            yield slot
-
-    def loaded(self, code: bytes) -> int | None:
-        room, license = ctypes.create_string_buffer(code, len(code)), ctypes.create_string_buffer(b"GPL")
-        words = (XDP, len(code) // 8, ctypes.addressof(room), ctypes.addressof(license))
-        for level in (4 if self.counts else 0, 1):
-            log = ctypes.create_string_buffer(LOG_BYTES if level else 1)
-            seen = (level, LOG_BYTES, ctypes.addressof(log)) if level else (0, 0, 0)
-            result, _ = call(PROG_LOAD, struct.pack("<IIQQIIQI", *words, *seen, 0))
-            if result >= 0:
-                self.files.append(result)
-                self.log = log.value
-                return result
-        self.log = log.value
-        if not self.log and result in (-errno.EPERM, -errno.ENOSYS):
-            raise NoKernel(f"bpf(2): {os.strerror(-result)}")
-        self.refusal = last_words(self.log) or os.strerror(-result)
-        return None
-
-    def run(self, body: bytes) -> tuple[int, bytes] | None:
-        """The kernel's action for a frame, and its bytes after the run; None if it takes no such
-        frame."""
-        if not LEAST <= len(body) <= MOST:
-            return None
-        given, taken = ctypes.create_string_buffer(body, len(body)), ctypes.create_string_buffer(8192)
-        words = (self.program, 0, len(body), 8192, ctypes.addressof(given), ctypes.addressof(taken), 1, 0)
-        result, after = call(TEST_RUN, struct.pack("<IIIIQQII", *words))
-        if result < 0:
-            raise OSError(-result, "the kernel's test run")
-        answer, _, length = struct.unpack_from("<III", after, 4)
-        return answer, taken.raw[:length]
-
-    def entries(self) -> list[Entry]:
-        """The key-value pairs of each map, as `xdpvm run` reports them: (index, key, value)."""
-        found: list[Entry] = []
-        for index, (row, file) in enumerate(zip(self.rows, self.maps)):
-            _, size, room, _ = row
-            key: ctypes.Array[ctypes.c_char] | None = None
-            value = ctypes.create_string_buffer(room)
-            after = ctypes.create_string_buffer(size)
-            keys = []
-            while True:
-                before = ctypes.addressof(key) if key is not None else 0
-                result, _ = call(MAP_NEXT, struct.pack("<IIQQ", file, 0, before, ctypes.addressof(after)))
-                if result < 0:
-                    break
-                keys.append(after.raw)
-                key = ctypes.create_string_buffer(after.raw, size)
-            for it in keys:
-                key = ctypes.create_string_buffer(it, size)
-                call(MAP_LOOKUP, struct.pack("<IIQQQ", file, 0, ctypes.addressof(key), ctypes.addressof(value), 0))
-                found.append((index, it, value.raw))
-        return sorted(found) if all(row[0] == 1 for row in self.rows) else found
-
-    def close(self) -> None:
-        for file in self.files:
-            os.close(file)
-        self.files = []
-
-    def __enter__(self) -> "Kernel":
-        return self
-
-    def __exit__(self, kind: type[BaseException] | None, why: BaseException | None, where: TracebackType | None) -> None:
-        self.close()
-
-
-def last_words(log: bytes) -> str:
-    """The line of a verifier log that says why: the last one before its counts."""
-    loop = re.search(rb"infinite loop detected at insn \d+", log)
-    if loop:
-        return loop[0].decode()
-    dumps = ("processed ", "verification time", "stack depth", "mark_precise", "cur state", "old state", "from ", "R", "fp", ";")
-    lines = [it for it in log.decode(errors="replace").splitlines() if it and not it[0].isdigit()]
-    said = [it for it in lines if not it.startswith(dumps) or re.match(r"R\d+ [a-z!]", it)]
-    return said[-1] if said else ""
-
-
 # ---- xdpvm
 
 
-class Ran:
-    """What `xdpvm` says of an image: its verdict, and the report and the frames after a run."""
+@dataclass(frozen=True)
+class Filled:
+    """The text of maps that both are given before the first frame, and the program that takes it."""
 
-    def __init__(self, program: str, image: str | Path, frames: list[Frame] | None) -> None:
-        verdict = subprocess.run([program, "verify", image], capture_output=True, text=True)
+    program: str
+    filling: Filling
+
+    def report(self, image: str | Path, frames: str, sent: str, path: str) -> str:
+        """The report of a run on these maps, which is written to a file first."""
+        words = [self.program, image, frames, sent, "--maps", self.filling.path, "--report", path]
+        ran = subprocess.run(words, capture_output=True, text=True, check=False)
+        if ran.returncode:
+            raise ValueError(self.filling.told(f"{ran.stdout}{ran.stderr}").strip())
+        with open(path, encoding="ascii") as file:
+            return file.read()
+
+    def entries(self) -> list[Entry]:
+        """What the text says of maps, line by line."""
+        with open(self.filling.path, encoding="utf-8", errors="replace") as file:
+            return [entry_of(line) for line in file if line.startswith("map ")]
+
+
+class Ran:
+    """What `xdpvm` says of an image: its verdict, and the report and the frames after a run, on maps that are
+    filled."""
+
+    def __init__(
+        self, program: str, image: str | Path, frames: list[Frame] | None, filled: Filled | None = None
+    ) -> None:
+        verdict = subprocess.run([program, "verify", image], capture_output=True, text=True, check=False)
         self.verdict = verdict.stdout.strip() or verdict.stderr.strip()
         self.accepted = verdict.returncode == 0
         self.rows: list[list[str]] = []
         self.bodies: list[bytes] = []
         self.entries: list[Entry] = []
         if self.accepted and frames is not None:
-            self.run(program, image, frames)
+            self.run(program, image, frames, filled)
 
-    def run(self, program: str, image: str | Path, frames: list[Frame]) -> None:
+    def run(self, program: str, image: str | Path, frames: list[Frame], filled: Filled | None = None) -> None:
+        """Runs the image on the frames."""
         with tempfile.TemporaryDirectory() as folder:
             given, sent = f"{folder}/in", f"{folder}/out"
             with open(given, "wb") as file:
                 file.write(stream_of(frames))
-            report = subprocess.run([program, "run", image, given, sent], capture_output=True, text=True).stdout
+            if filled:
+                report = filled.report(image, given, sent, f"{folder}/report")
+            else:
+                words = [program, "run", image, given, sent]
+                report = subprocess.run(words, capture_output=True, text=True, check=False).stdout
             with open(sent, "rb") as file:
-                bodies = [body for _, body in whole(file.read())]
+                self.bodies = [body for _, body in whole(file.read())]
         for line in report.splitlines():
-            words = line.split()
-            if words[0] == "map":
-                self.entries.append((int(words[1]), bytes.fromhex(words[2]), bytes.fromhex(words[3])))
-            elif words[0] not in ("end", "fault"):
-                self.rows.append(words)
-        self.bodies = bodies
+            words_of = line.split()
+            if words_of[0] == "map":
+                self.entries.append(entry_of(line))
+            elif words_of[0] not in ("end", "fault"):
+                self.rows.append(words_of)
+
+
+def entry_of(line: str) -> Entry:
+    """What a map line says."""
+    _, index, key, value = line.split()
+    return int(index), bytes.fromhex(key), bytes.fromhex(value)
 
 
 def whole(stream: bytes) -> list[Frame]:
@@ -292,6 +171,7 @@ def whole(stream: bytes) -> list[Frame]:
 
 
 def action_of(answer: int) -> str:
+    """The name of an action."""
     return ACTIONS[answer] if answer < len(ACTIONS) else "INVALID"
 
 
@@ -304,17 +184,24 @@ def differences(kernel: Kernel, ran: Ran, frames: list[Frame]) -> tuple[list[str
     for number, ((_, body), row, after) in enumerate(zip(frames, ran.rows, ran.bodies)):
         answered = kernel.run(body)
         if answered is None:
-            return found + [f"frame {number} has {len(body)} bytes: the kernel's test run takes {LEAST} to {MOST}"], both
+            return (
+                found + [f"frame {number} has {len(body)} bytes: the kernel's test run takes {LEAST} to {MOST}"],
+                both,
+            )
         both += 1
         if action_of(answered[0]) != row[1]:
             found.append(f"frame {number}: xdpvm {row[1]}, the kernel {action_of(answered[0])} ({answered[0]})")
         if answered[1] != after:
-            at = next((k for k, (a, b) in enumerate(zip(answered[1], after)) if a != b), min(len(answered[1]), len(after)))
-            found.append(f"frame {number}: the bytes differ at {at}: xdpvm {after[at:at + 8].hex()}, the kernel {answered[1][at:at + 8].hex()}")
-    ours, theirs = sorted(ran.entries), sorted(kernel.entries())
-    if ours != theirs:
-        one = next((it for it in ours + theirs if (it in ours) != (it in theirs)))
-        found.append(f"map {one[0]}: the key {one[1].hex()} with the value {one[2].hex()} is only {'of xdpvm' if one in ours else 'of the kernel'}")
+            at = next(
+                (k for k, (a, b) in enumerate(zip(answered[1], after)) if a != b), min(len(answered[1]), len(after))
+            )
+            ours, theirs = after[at : at + 8].hex(), answered[1][at : at + 8].hex()
+            found.append(f"frame {number}: the bytes differ at {at}: xdpvm {ours}, the kernel {theirs}")
+    left, right = sorted(ran.entries), sorted(kernel.entries())
+    if left != right:
+        one = next((it for it in left + right if (it in left) != (it in right)))
+        whose = "of xdpvm" if one in left else "of the kernel"
+        found.append(f"map {one[0]}: the key {one[1].hex()} with the value {one[2].hex()} is only {whose}")
     return found, both
 
 
@@ -328,7 +215,7 @@ def frames_in(path: str) -> tuple[list[Frame], int]:
     if content[:4] not in (b"XPF1", b"XPF2"):
         with tempfile.TemporaryDirectory() as folder:
             made = f"{folder}/made.frames"
-            if subprocess.run([sys.executable, f"{HERE}/frames.py", path, made]).returncode:
+            if subprocess.run([sys.executable, f"{HERE}/frames.py", path, made], check=False).returncode:
                 raise ValueError(f"{path} is no frame stream and no capture")
             with open(made, "rb") as file:
                 content = file.read()
@@ -338,15 +225,19 @@ def frames_in(path: str) -> tuple[list[Frame], int]:
 
 
 def arguments() -> argparse.Namespace:
-    words = sys.argv[1:]
-    parser = argparse.ArgumentParser(description=named(__doc__ or ""), formatter_class=argparse.RawDescriptionHelpFormatter,
-                                     usage=named(__doc__ or "").split("usage: ")[1].split("\n\n")[0])
+    """The words of the command line."""
+    words, text = sys.argv[1:], named(__doc__ or "")
+    usage = text.split("usage: ")[1].split("\n\n")[0]
+    parser = argparse.ArgumentParser(
+        description=text, usage=usage, formatter_class=argparse.RawDescriptionHelpFormatter
+    )
     parser.add_argument("filter", metavar="FILTER")
     parser.add_argument("frames", metavar="FRAMES")
+    parser.add_argument("--maps")
     parser.add_argument("--xdpvm", default=sources.the_xdpvm())
-    parser.add_argument("--section")
-    parser.add_argument("--program")
-    parser.add_argument("--btf")
+    for name in ("section", "program", "btf"):
+        parser.add_argument(f"--{name}")
+    parser.add_argument("--lru-as-hash", action="store_true")
     parser.add_argument("--clang", default="clang")
     parser.add_argument("--plain", action="store_true")
     parser.add_argument("--log", type=int, default=0)
@@ -355,33 +246,46 @@ def arguments() -> argparse.Namespace:
     return given
 
 
+def judged(given: argparse.Namespace, kernel: Kernel, ran: Ran) -> int | None:
+    """Prints both verdicts; the status, where the runs are not compared."""
+    print(f"xdpvm:  {ran.verdict}")
+    print(f"kernel: {'ok' if kernel.refusal is None else 'refused: ' + kernel.refusal}{kernel.processed()}")
+    if given.log and kernel.log:
+        print(*kernel.log.decode(errors="replace").splitlines()[-given.log :], sep="\n")
+    if ran.accepted != (kernel.refusal is None):
+        return 1
+    return None if ran.accepted else 0
+
+
 def compared(given: argparse.Namespace, folder: str) -> int:
     """Prints how both judge and run the filter; the status."""
-    choice = sources.Choice(given.xdpvm, given.section, given.program, given.clang, given.flags, given.btf)
-    path, _ = sources.image_of(given.filter, choice, folder)
+    choice = sources.Choice(
+        given.xdpvm, given.section, given.program, given.clang, given.flags, given.btf, given.lru_as_hash
+    )
+    path, source = sources.image_of(given.filter, choice, folder)
     with open(path, "rb") as file:
         image = file.read()
     frames, left_out = frames_in(given.frames)
     has_clock = asks_for_time(image)
     if has_clock:
         frames = [(TIME, body) for _, body in frames]
-    ran = Ran(given.xdpvm, path, frames)
+    text = filling(source.fill, given.maps, folder)
+    filled = Filled(sources.the_filter(given.xdpvm), text) if text else None
+    ran = Ran(given.xdpvm, path, frames, filled)
+    entries = filled.entries() if filled and ran.accepted else []
     if given.plain:
         without_perfmon()
     with Kernel(image, counts=True) as kernel:
-        print(f"xdpvm:  {ran.verdict}")
-        print(f"kernel: {'ok' if kernel.refusal is None else 'refused: ' + kernel.refusal}{kernel.processed()}")
-        if given.log and kernel.log:
-            print(*kernel.log.decode(errors="replace").splitlines()[-given.log :], sep="\n")
-        if ran.accepted != (kernel.refusal is None):
-            return 1
-        if not ran.accepted:
-            return 0
+        status = judged(given, kernel, ran)
+        if status is not None:
+            return status
         if not has_clock:
+            kernel.fill(entries)
             found, both = differences(kernel, ran, frames)
     if has_clock:
         print(f"the program asks for the time: both are given {TIME:,} nanoseconds at each call")
         with Kernel(with_time(image)) as kernel:
+            kernel.fill(entries)
             found, both = differences(kernel, ran, frames)
     print(f"frames: {both} run by both, {left_out} left out; {'alike' if not found else 'not alike'}")
     print(*found[:20], sep="\n", end="\n" if found else "")
@@ -389,6 +293,7 @@ def compared(given: argparse.Namespace, folder: str) -> int:
 
 
 def main() -> int:
+    """Compares, and says where that cannot be done; the exit status."""
     given = arguments()
     if not shutil.which(given.xdpvm):
         print(f"kernel.py: there is no program {given.xdpvm}", file=sys.stderr)

@@ -15,6 +15,9 @@ program is called NAME (xdpvm_prog), and the maps have the NAMEs given (map0, ma
 image was assembled of: the kernel's messages then show its lines, and else those of `xdpvm dis`. An object has no
 license if none is given. With --pin other loaders pin the maps by their names, or take those that are pinned.
 
+What the variables and constants of an image from C begin with is in IMAGE.maps, beside it: their sections of the object
+begin so, and each loader fills them in.
+
 --load verifies and loads the program, fills its maps from the map lines of FILE (as a report and --read have them; - is
 standard input), and puts it on the interface DEV, in one step in place of the one that was loaded before. It is pinned
 in /sys/fs/bpf/xdpvm/DEV; with a path in place of DEV it is pinned there, and put on no interface. --keep goes on with
@@ -48,6 +51,7 @@ import object_link
 import object_load
 import object_maps
 from inputs import named
+from map_files import NotIts, lines_beside, path_of
 from object_image import Program, Refused, map_names, tags
 from object_load import Failed
 from object_types import Line
@@ -102,14 +106,26 @@ def assembled(given: argparse.Namespace) -> Optional[bytes]:
         return content(f"{folder}/image")
 
 
+def values_beside(given: argparse.Namespace, program: Program) -> Dict[int, bytes]:
+    """What the image's variables and constants begin with, as the file of maps beside it says."""
+    text = lines_beside(given.image, given.taken)
+    entries = object_maps.Lines(path_of(given.image), program.rows).entries(text)
+    for it in entries:
+        if not program.is_value(it.map):
+            raise Failed(f"{path_of(given.image)}: map {it.map} is no memory of the program's; --fill takes its lines")
+    return {it.map: it.value for it in entries}
+
+
 def made(given: argparse.Namespace, data: bytes) -> object_load.Object:
     """The object of an image's bytes."""
     program = Program(data)
     names = map_names(program, given.maps, given.name)
-    wanted = object_link.Wanted(given.name, names, given.pin, given.license)
+    values = values_beside(given, program)
+    wanted = object_link.Wanted(given.name, names, given.pin, given.license, values)
     whole = object_link.Maker(program, wanted, lines(given, program, data)).object()
     sections = [index for index in range(len(program.rows)) if program.is_value(index)]
-    return object_load.Object(whole, given.name, names, program.rows, object_link.map_order(program), sections)
+    order = object_link.map_order(program)
+    return object_load.Object(whole, given.name, names, program.rows, order, sections, sorted(values))
 
 
 # ---- what is asked for
@@ -122,7 +138,14 @@ def write_object(given: argparse.Namespace, data: bytes) -> int:
         if verdict.status:
             return verdict.status
     with Output(given.object, [given.image, given.source]) as out:
-        out.put(made(given, data).bytes)
+        it = made(given, data)
+        out.put(it.bytes)
+    if it.begins:
+        which = ", ".join(it.maps[index] for index in it.begins)
+        words = (
+            f"with the values of {path_of(given.image)}: each loader fills them in; other maps begin empty, or as zeros"
+        )
+        print(f"{given.object}: {which} begin{'' if len(it.begins) > 1 else 's'} {words}", file=sys.stderr)
     if not program.is_in_order_of_calls():
         words = "its functions are not in the order of their calls, so image.py makes another image of the object"
         print(f"{given.image}: {words}, of the same program", file=sys.stderr)
@@ -235,7 +258,7 @@ def main() -> int:
         return 1
     except OSError as why:
         sys.exit(f"object.py: {why.filename}: {why.strerror}" if why.filename else f"object.py: {why}")
-    except (Failed, NotTaken, IsRead) as why:
+    except (Failed, NotTaken, NotIts, IsRead) as why:
         sys.exit(f"object.py: {why}")
     except Refused as why:
         sys.exit(f"object.py: {why}" if given.fill and str(why).startswith(given.fill) else f"{given.image}: {why}")

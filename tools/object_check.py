@@ -277,12 +277,12 @@ class Answer(NamedTuple):
 
 def asked(image: bytes) -> Answer:
     """Loads the program and closes it again, where bpf(2) is allowed."""
-    import kernel
+    import kernel_calls
 
     try:
-        with kernel.Kernel(image) as there:
+        with kernel_calls.Kernel(image) as there:
             return Answer(True, there.refusal is None, there.refusal or "ok")
-    except (kernel.NoKernel, OSError, struct.error) as why:
+    except (kernel_calls.NoKernel, OSError, struct.error) as why:
         return Answer(False, False, str(why))
 
 

@@ -5,7 +5,7 @@ of .maps, and an array that the program has as memory is a section of its own, .
 
 import os
 import struct
-from typing import Dict, List, NamedTuple, Optional, Tuple
+from typing import Dict, List, Mapping, NamedTuple, Optional, Tuple
 
 import object_elf as elf
 import object_types as types
@@ -17,12 +17,13 @@ SECTION, CALLED = "xdp", ".text"
 
 
 class Wanted(NamedTuple):
-    """What an object is called and has, beside the program."""
+    """What an object is called and has, beside the program; `values` has what maps begin with that are no zeros."""
 
     name: str
     maps: List[str]
     is_pinned: bool
     license: Optional[str]
+    values: Mapping[int, bytes] = {}
 
 
 class Maker:
@@ -111,16 +112,18 @@ class Maker:
             self.types.section(".maps", at, variables)
 
     def value(self, index: int) -> None:
-        """The section of an array whose value the program has as memory; a file has no bytes of .bss."""
+        """The section of an array whose value the program has as memory, with the bytes that it begins with; a file has no
+        bytes of .bss, which begins as zeros."""
         name, row = self.wanted.maps[index], self.program.rows[index]
         if MAP in self.program.kinds(index):
             both = "loaded both as a map (map_by_idx) and as an address in its value (map_val)"
             raise Refused(f"map {index} ({name}) is {both}: an object has one or the other")
         if row.entries != 1:
             raise Refused(f"map {index} ({name}) is loaded as memory (map_val) and has {row.entries} entries, not one")
-        is_last = index == len(self.program.rows) - 1
-        section = ".bss" if is_last else f".data.{name}"
-        body, kind = (b"", elf.NOBITS) if is_last else (bytes(row.value), elf.PROGBITS)
+        begins = self.wanted.values.get(index)
+        is_bss = index == len(self.program.rows) - 1 and begins is None
+        section = ".bss" if is_bss else f".data.{name}"
+        body, kind = (b"", elf.NOBITS) if is_bss else (begins or bytes(row.value), elf.PROGBITS)
         home = self.elf.section(section, kind, elf.ALLOC | elf.WRITE, body, 8, row.value)
         self.maps[index] = self.elf.symbol(elf.Symbol(elf.GLOBAL, name, home, 0, row.value, elf.OBJECT))
         variable = self.types.variable(name, self.types.plain(row.value, 8))

@@ -52,8 +52,8 @@ class Place(NamedTuple):
 
 
 class Object(NamedTuple):
-    """An object to load: its bytes, the program's and the maps' names, the map rows, how libbpf orders the maps, and
-    which of them are sections."""
+    """An object to load: its bytes, the program's and the maps' names, the map rows, how libbpf orders the maps, which
+    of them are sections, and which of these begin with values."""
 
     bytes: bytes
     name: str
@@ -61,6 +61,7 @@ class Object(NamedTuple):
     rows: List[Row]
     order: List[int]
     sections: List[int]
+    begins: List[int]
 
 
 def tool(name: str) -> str:

@@ -1,4 +1,5 @@
-"""Filters of any form: the image of a text, of C, of an object or of an image, and the source line of each of its slots."""
+"""Filters of any form: the image of a text, of C, of an object or of an image, and the source line of each of its
+slots."""
 import os
 import platform
 import re
@@ -10,6 +11,8 @@ from dataclasses import dataclass, field
 from typing import Mapping
 
 import image as images
+from image_link import Image
+from map_files import NotIts, lines_beside
 from objects import Refused
 from outputs import is_plain
 
@@ -40,15 +43,18 @@ class Choice:
     clang: str = "clang"
     flags: list[str] = field(default_factory=list)
     btf: str | None = None
+    lru_as_hash: bool = False
 
 
 @dataclass
 class Source:
-    """The lines of a filter's source by slots, each with its place, and the names of its maps."""
+    """The lines of a filter's source by slots, each with its place, the names of its maps, and the map lines of what
+    its variables and constants begin with."""
 
     path: str
     slots: list[tuple[str, str] | None] = field(default_factory=list)
     names: list[str] = field(default_factory=list)
+    fill: str = ""
 
     def line(self, slot: int) -> tuple[str, str] | None:
         """The place and the text of a slot's line, if they are known."""
@@ -69,9 +75,18 @@ class Source:
         return source
 
     @staticmethod
-    def of_object(path: str, image: images.Image) -> "Source":
+    def of_object(path: str, image: Image) -> "Source":
+        """Of an object: as its type information says."""
         lines = [it and (f"{os.path.relpath(it.file)}:{it.number}", it.text) for it in image.lines]
-        return Source(path, lines, image.names)
+        return Source(path, lines, image.names, image.fill)
+
+    @staticmethod
+    def of_image(path: str, copy: str) -> "Source":
+        """Of an image, whose bytes are in `copy`: it has no lines, but what stands beside it."""
+        try:
+            return Source(path, fill=lines_beside(path, copy))
+        except NotIts as why:
+            raise Failed(str(why)) from None
 
 
 def program_beside(name: str) -> str:
@@ -86,6 +101,18 @@ def program_beside(name: str) -> str:
 def the_xdpvm(environment: Mapping[str, str] = os.environ) -> str:
     """The program that is used where no option names one."""
     return environment.get("XDPVM") or program_beside("xdpvm")
+
+
+def the_filter(xdpvm: str) -> str:
+    """The program that runs filters whose maps are filled: the one beside xdpvm, or beside the script that was
+    called."""
+    beside = os.path.join(os.path.dirname(shutil.which(xdpvm) or xdpvm), "xdpvm_filter")
+    it = os.environ.get("XDPVM_FILTER") or (beside if os.path.isfile(beside) else program_beside("xdpvm_filter"))
+    if not shutil.which(it):
+        raise Failed(
+            f"there is no program {it}, which runs a filter on maps that are filled; `bash install.sh FOLDER` makes one"
+        )
+    return it
 
 
 def begin_of(path: str) -> bytes:
@@ -114,7 +141,9 @@ def compiled(path: str, choice: Choice, folder: str) -> str:
     kind = ["-gbtf", "-I/usr/include"] if "gcc" in os.path.basename(choice.clang) else ["-target", "bpf", "-g"]
     if not shutil.which(choice.clang):
         raise Failed(f"{path} is C, and there is no {choice.clang} to compile it")
-    if subprocess.run([choice.clang, *kind, "-O2", *choice.flags, headers, "-c", path, "-o", made], check=False).returncode:
+    if subprocess.run(
+        [choice.clang, *kind, "-O2", *choice.flags, headers, "-c", path, "-o", made], check=False
+    ).returncode:
         raise Failed(f"{path}: it does not compile")
     return made
 
@@ -124,21 +153,31 @@ def image_of(path: str, choice: Choice, folder: str) -> tuple[str, Source]:
     called, path, made = path, taken(path, folder), os.path.join(folder, "image")
     begin = begin_of(path)
     if begin[:3] == b"XBP":
-        return path, Source(called)
+        return path, Source.of_image(called, path)
     if called.endswith(".c") or begin == b"\x7fELF":
-        with open(compiled(path, choice, folder) if begin != b"\x7fELF" else path, "rb") as file:
-            data = file.read()
-        try:
-            image = images.made(data, choice.section, choice.program, choice.btf)
-        except Refused as why:
-            raise Failed(f"{called}: {why}") from None
+        image = linked(called, compiled(path, choice, folder) if begin != b"\x7fELF" else path, choice)
         with open(made, "wb") as file:
             file.write(images.bytes_of(image))
         return made, Source.of_object(called, image)
     if begin in CAPTURES or begin[:3] == b"XPF":
         raise Failed(f"{called} is a capture or a frame stream, and the filter comes first")
-    ran = subprocess.run([choice.xdpvm, "asm", path, made], capture_output=True, text=True, errors="replace", check=False)
+    ran = subprocess.run(
+        [choice.xdpvm, "asm", path, made], capture_output=True, text=True, errors="replace", check=False
+    )
     if ran.returncode:
         ran.stderr = ran.stderr.replace(path, called)
         raise TextRefused(called, ran)
     return made, Source.of_text(path, called)
+
+
+def linked(called: str, path: str, choice: Choice) -> Image:
+    """The image of an object; what is to be said of it is said."""
+    with open(path, "rb") as file:
+        data = file.read()
+    try:
+        image = images.made(data, images.Wanted(choice.section, choice.program, choice.btf, choice.lru_as_hash))
+    except Refused as why:
+        raise Failed(f"{called}: {why}") from None
+    for note in image.notes:
+        print(f"{called}: {note}", file=sys.stderr)
+    return image

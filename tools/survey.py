@@ -3,7 +3,7 @@
 
 usage: python3 tools/survey.py FILTER|FOLDER .. [--format table|csv|json] [--no-header] [--sort COLUMN] [--only refused]
                                [--compare OLD.csv] [--tables FOLDER] [--survey PROGRAM] [--xdpvm PROGRAM] [--btf FILE]
-                               [--clang COMPILER] [-- FLAG ..]
+                               [--lru-as-hash] [--clang COMPILER] [-- FLAG ..]
 
 A FILTER is an object, C, a text or an image, as xdp.py takes it. In a FOLDER the files that end in .o, .c, .text and .image are
 judged, in the order of their names, and so are those of its folders. An object has a row for each program of its sections,
@@ -28,6 +28,7 @@ import shutil
 import subprocess
 import sys
 import tempfile
+from dataclasses import replace
 from typing import Iterator, NamedTuple
 
 from image import chosen, programs
@@ -79,8 +80,8 @@ def choices(path: str, choice: Choice, folder: str) -> list[tuple[str, Choice]]:
             it = Object(file.read())
         found = [(section, name) for section, names in programs(it).items() for name in names]
         if len(found) != 1:
-            return [(f":{name}", Choice(choice.xdpvm, section, name, choice.clang, choice.flags, choice.btf)) for section, name in found]
-        return [("", Choice(choice.xdpvm, found[0][0], chosen(it, *found[0]).name, choice.clang, choice.flags, choice.btf))]
+            return [(f":{name}", replace(choice, section=section, program=name)) for section, name in found]
+        return [("", replace(choice, section=found[0][0], program=chosen(it, *found[0]).name))]
     return [("", choice)]
 
 
@@ -195,6 +196,7 @@ def arguments() -> argparse.Namespace:
     parser.add_argument("--survey", metavar="PROGRAM", default=program_beside("xdpvm_survey"))
     parser.add_argument("--xdpvm", metavar="PROGRAM", default=the_xdpvm())
     parser.add_argument("--btf", metavar="FILE")
+    parser.add_argument("--lru-as-hash", action="store_true")
     parser.add_argument("--clang", metavar="COMPILER", default="clang")
     given = parser.parse_intermixed_args(words[:cut])
     given.flags = words[cut + 1 :]
@@ -207,7 +209,9 @@ def main() -> int:
         if not shutil.which(program):
             sys.exit(f"survey.py: there is no program {program}; `bash install.sh FOLDER` makes one")
     end_by_signal()
-    choice = Choice(given.xdpvm, clang=given.clang, flags=given.flags, btf=given.btf)
+    choice = Choice(
+        given.xdpvm, clang=given.clang, flags=given.flags, btf=given.btf, lru_as_hash=given.lru_as_hash
+    )
     try:
         with tempfile.TemporaryDirectory() as folder:
             found: list[Program] = []

@@ -13,7 +13,7 @@ import sys
 import tempfile
 import unittest
 import unittest.mock
-from typing import List, Optional, Sequence, Tuple
+from typing import List, Mapping, Optional, Sequence, Tuple
 
 HERE = os.path.dirname(os.path.abspath(__file__))
 TOP = os.path.dirname(HERE)
@@ -24,6 +24,7 @@ import libbpf
 import object_check
 import object_link
 import object_load
+from image_values import lines_of
 from object_image import Program, Refused, Row, map_names, tags
 from object_maps import Entry, Lines, dumped
 from objects import Refused as Unreadable
@@ -56,9 +57,15 @@ def value(register: int, number: int, offset: int) -> List[Tuple[int, int, int, 
     return [(0x18, register, 6, 0, number), (0, 0, 0, 0, offset)]
 
 
-def object_of(data: bytes, name: str = "xdpvm_prog", maps: Optional[str] = None, is_pinned: bool = False) -> bytes:
+def object_of(
+    data: bytes,
+    name: str = "xdpvm_prog",
+    maps: Optional[str] = None,
+    is_pinned: bool = False,
+    values: Mapping[int, bytes] = {},
+) -> bytes:
     program = Program(data)
-    wanted = object_link.Wanted(name, map_names(program, maps, name), is_pinned, None)
+    wanted = object_link.Wanted(name, map_names(program, maps, name), is_pinned, None, values)
     return object_link.Maker(program, wanted, object_link.lines_of_listing("an.image", program, "")).object()
 
 
@@ -82,6 +89,14 @@ class Objects(unittest.TestCase):
             whole = image_of(code, [Row(2, 4, 16, 1), HASH, Row(2, 4, 4096, 1), ARRAY], magic)
             for maps in (None, "a,b,c,d", "z,y,x,w"):
                 self.assertEqual(image.bytes_of(image.made(object_of(whole, maps=maps))), whole)
+
+    def test_sections_begin_with_their_values(self) -> None:
+        """The object that image.py reads gives the same image, and the same map lines."""
+        code = [*value(1, 2, 8), *value(2, 0, 0), (0x18, 3, 5, 0, 1), (0, 0, 0, 0, 0), *PASS]
+        whole = image_of(code, [Row(2, 4, 16, 1), HASH, Row(2, 4, 4096, 1), ARRAY])
+        for values in ({0: bytes(range(16))}, {2: bytes(4095) + b"\1"}, {0: b"\7" * 16, 2: b"\10" * 4096}):
+            made = image.made(object_of(whole, maps="d,c,b,a", values=values))
+            self.assertEqual((image.bytes_of(made), made.fill), (whole, lines_of(values)))
 
     def test_functions_in_another_order_are_told(self) -> None:
         code = [(0x85, 0, 1, 0, 4), (0x85, 0, 1, 0, 1), *PASS, *PASS, *PASS]  # slot 0 calls 6, slot 1 calls 4

@@ -22,8 +22,10 @@ sys.path.insert(0, HERE)
 sys.dont_write_bytecode = True
 import frames
 import image
+import objects
 import inputs
 import kernel
+import kernel_calls
 import xdp
 
 EXAMPLES = os.path.join(HERE, "../examples")
@@ -117,15 +119,15 @@ def elf(code, functions, called, kind, imm):
         symbols.append(struct.pack("<IBBHQQ", len(texts), kind, 0, section, value, size))
         texts += name.encode() + b"\0"
 
-    symbol("f", 2, 0, len(code), image.FUNCTION_SYMBOL)
+    symbol("f", 2, 0, len(code), objects.FUNCTION_SYMBOL)
     text = b""
     for name in functions:
-        symbol(name, 3, len(text), 16, image.FUNCTION_SYMBOL)
+        symbol(name, 3, len(text), 16, objects.FUNCTION_SYMBOL)
         text += struct.pack("<BBhi", 0xB7, 0, 0, len(text)) + struct.pack("<BBhi", 0x95, 0, 0, 0)
-    if kind == image.FUNCTION_SYMBOL:
+    if kind == objects.FUNCTION_SYMBOL:
         used = 2 + functions.index(called)
     else:
-        symbol("", 3 if kind == image.SECTION_SYMBOL else 1, 0, 0, kind)
+        symbol("", 3 if kind == objects.SECTION_SYMBOL else 1, 0, 0, kind)
         used = len(symbols) - 1
     code = struct.pack("<BBhi", 0x85, 0x10, 0, imm) + code[8:]
     bodies = [b"", names, code, text, b"".join(symbols), texts, struct.pack("<QQ", 0, used << 32 | 10)]
@@ -150,24 +152,24 @@ def call_in(data):
 class Images(unittest.TestCase):
     def test_calls_as_clang_and_gcc_write_them(self):
         for called, at in (("a", 0), ("b", 16)):
-            by_section = elf(CODE, ["a", "b"], called, image.SECTION_SYMBOL, at // 8 - 1)          # clang, static
-            by_function = elf(CODE, ["a", "b"], called, image.FUNCTION_SYMBOL, -1)                 # clang, global
-            by_gcc = elf(CODE, ["a", "b"], called, image.FUNCTION_SYMBOL, at - 1)                  # gcc
+            by_section = elf(CODE, ["a", "b"], called, objects.SECTION_SYMBOL, at // 8 - 1)          # clang, static
+            by_function = elf(CODE, ["a", "b"], called, objects.FUNCTION_SYMBOL, -1)                 # clang, global
+            by_gcc = elf(CODE, ["a", "b"], called, objects.FUNCTION_SYMBOL, at - 1)                  # gcc
             for data in (by_section, by_function, by_gcc):
                 self.assertEqual(call_in(data), (1, 4))
                 self.assertEqual(struct.unpack_from("<i", image.made(data).slots, 20)[0], at)
 
     def test_functions_that_nobody_calls_stay_out(self):
-        self.assertEqual(call_in(elf(CODE, ["a", "b", "c"], "c", image.FUNCTION_SYMBOL, -1)), (1, 4))
+        self.assertEqual(call_in(elf(CODE, ["a", "b", "c"], "c", objects.FUNCTION_SYMBOL, -1)), (1, 4))
 
     def test_a_call_in_another_form_is_refused(self):
         with self.assertRaisesRegex(image.Refused, "leads to byte 8 of .text, where no function begins"):
-            image.made(elf(CODE, ["a", "b"], "a", image.SECTION_SYMBOL, 0))
+            image.made(elf(CODE, ["a", "b"], "a", objects.SECTION_SYMBOL, 0))
         with self.assertRaisesRegex(image.Refused, "in a form that is not known here"):
             image.made(elf(CODE, ["a"], "a", 0, -1))
 
     def test_damaged_objects_are_refused(self):
-        data = elf(CODE, ["a", "b"], "b", image.FUNCTION_SYMBOL, -1)
+        data = elf(CODE, ["a", "b"], "b", objects.FUNCTION_SYMBOL, -1)
         for end in range(len(data)):
             with self.assertRaises(image.Refused):
                 image.made(data[:end])
@@ -264,7 +266,7 @@ class Kernel(unittest.TestCase):
     def test_without_leave_there_is_no_kernel(self):
         for name in ("firewall", "allow"):                                       # without maps, and with one
             for error in (errno.EPERM, errno.ENOSYS):
-                with self.subTest(name), unittest.mock.patch.object(kernel, "call", lambda *_: (-error, b"")):
+                with self.subTest(name), unittest.mock.patch.object(kernel_calls, "call", lambda *_: (-error, b"")):
                     with self.assertRaises(kernel.NoKernel):
                         kernel.Kernel(content(f"{name}.image"))
 
@@ -274,10 +276,10 @@ class Kernel(unittest.TestCase):
         def call(command, attributes):
             room = struct.unpack_from("<Q", attributes, 32)[0]
             if room:
-                kernel.ctypes.memmove(room, log, len(log))
+                kernel_calls.ctypes.memmove(room, log, len(log))
             return -errno.EPERM, b""
 
-        with unittest.mock.patch.object(kernel, "call", call), kernel.Kernel(content("firewall.image")) as there:
+        with unittest.mock.patch.object(kernel_calls, "call", call), kernel.Kernel(content("firewall.image")) as there:
             self.assertEqual(there.refusal, "R1 pointer arithmetic prohibited")
             self.assertEqual(there.processed(), ", 2 instructions processed")
 

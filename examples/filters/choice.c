@@ -1,6 +1,5 @@
 /* ok: 3 DROP, 5 PASS */
-/* A dense switch: a table of jumps, but for the flag in the line below. */
-/* flags: -fno-jump-tables */
+/* A dense switch, of which clang makes a table of constants. */
 #include "filter.h"
 
 SEC("xdp") int choice(struct xdp_md *context)

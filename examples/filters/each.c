@@ -1,5 +1,5 @@
-/* says: each.c: map counts: its type is PERCPU_ARRAY \(6\); there are HASH \(1\) and ARRAY \(2\) */
-/* A map for each processor. The kernel accepts it. */
+/* ok: 8 PASS */
+/* A map for each processor, which becomes an array: one processor runs the filter. */
 #include "filter.h"
 
 struct {

@@ -1,4 +1,4 @@
-/* says: print.c: .*is read in print(, .*print.c:10)?: an image has no constants in memory */
+/* refused V14 */
 /* A string for the kernel's trace, by helper 6. The kernel accepts it. */
 #include "filter.h"
 

@@ -1,5 +1,5 @@
-/* says: start.c: the variable threshold is used in start(, .*start.c:9)? and begins with a value */
-/* A variable that begins with a value. The kernel accepts it. */
+/* ok: 8 PASS */
+/* A variable that begins with a value: an array with one key, which begins with it. */
 #include "filter.h"
 
 volatile int threshold = 7;

@@ -1,0 +1,208 @@
+"""A run of an image on frames, by `xdpvm run` or `trace`, or by `xdpvm_filter` where maps are filled or kept, and the
+programs that convert the frames before and after it."""
+
+import contextlib
+import os
+import subprocess
+import sys
+import threading
+from dataclasses import dataclass, field
+from typing import IO, BinaryIO, Iterator
+
+from map_files import Filling
+from outputs import write_whole
+from sources import HERE, Failed
+
+FRAMES = os.path.join(HERE, "frames.py")
+SENT = "what is sent on"
+ENDED = (0, 3)  # the statuses of a run to the end of its frames, or to a fault of theirs
+
+
+@dataclass
+class Wanted:
+    """What runs on the frames: the program, and the one for maps that are filled, how it runs, and what is given to
+    it."""
+
+    xdpvm: str
+    filter: str
+    image: str
+    folder: str
+    is_traced: bool = False
+    limit: list[str] = field(default_factory=list)
+    filling: Filling | None = None
+    maps_out: str | None = None
+    read: list[str | None] = field(default_factory=list)
+
+    def path(self, name: str) -> str:
+        """A file of the folder of this run."""
+        return os.path.join(self.folder, name)
+
+    def words(self, frames: str, sent: str) -> list[str]:
+        """The command, but for where the report goes."""
+        if not self.filter:
+            return [self.xdpvm, "trace" if self.is_traced else "run", self.image, frames, sent, *self.limit]
+        words = [self.filter, self.image, frames, sent, *["--checked"] * self.is_traced, *self.limit]
+        words += ["--maps", self.filling.path] if self.filling else []
+        return words + (["--maps-out", self.path("kept.maps")] if self.maps_out else [])
+
+
+class Chain:
+    """Programs that hand frames on to one another, each as it comes: a converter, xdpvm, and a converter."""
+
+    def __init__(self) -> None:
+        self.running: list[tuple[str, "subprocess.Popen[bytes]"]] = []
+
+    def start(self, name: str, words: list[str], **how: object) -> "subprocess.Popen[bytes]":
+        """Starts one of them."""
+        child: "subprocess.Popen[bytes]" = subprocess.Popen(words, **how)  # type: ignore[call-overload]
+        self.running.append((name, child))
+        return child
+
+    def stop(self) -> None:
+        """Ends those that still run."""
+        for _, child in self.running:
+            if child.poll() is None:
+                child.terminate()
+
+    def failed(self) -> list[str]:
+        """The names of those that ended with a status other than 0."""
+        return [name for name, child in self.running if child.wait()]
+
+
+class Run:
+    """The program on frames: its report comes line by line. Where it is xdpvm_filter, standard output has a refusal, or
+    counts that are not needed."""
+
+    def __init__(self, wanted: Wanted, chain: Chain) -> None:
+        self.wanted, self.chain = wanted, chain
+        self.report: IO[bytes] | None = None
+        self.child: "subprocess.Popen[bytes] | None" = None
+
+    def start(self, frames: str, sent: str, passed: tuple[int, ...] = (), **how: object) -> None:
+        """Starts it. `passed` are the files that it gets beside the standard ones."""
+        words = self.wanted.words(frames, sent)
+        if not self.wanted.filter:
+            self.child = self.chain.start("xdpvm", words, stdout=subprocess.PIPE, pass_fds=passed, **how)
+            self.report = self.child.stdout
+            return
+        read_end, write_end = os.pipe()
+        words += ["--report", f"/dev/fd/{write_end}"]
+        with open(self.wanted.path("said"), "wb") as said, open(self.wanted.path("errors"), "wb") as errors:
+            to: dict[str, object] = {"stdout": said, "stderr": errors, **how}
+            self.child = self.chain.start("xdpvm", words, pass_fds=(*passed, write_end), **to)
+        os.close(write_end)
+        self.report = os.fdopen(read_end, "rb")
+
+    def lines(self) -> Iterator[str]:
+        """The lines of the report."""
+        assert self.report is not None
+        with self.report:
+            for line in self.report:
+                yield line.decode(errors="replace").rstrip("\n")
+
+    def finish(self) -> tuple[int, str]:
+        """Waits for the end; the status, and what is said of a refusal. What the maps hold is written where it is asked
+        for."""
+        assert self.child is not None
+        wanted, status = self.wanted, self.child.wait()
+        if status in ENDED and wanted.maps_out:
+            with open(wanted.path("kept.maps"), "rb") as file:
+                write_whole(wanted.maps_out, file.read(), wanted.read)
+        if not wanted.filter or status != 2:
+            return status, ""
+        with open(wanted.path("said"), encoding="utf-8", errors="replace") as said:
+            return status, self.told(said.read())
+
+    def told(self, said: str) -> str:
+        """What the program says, in the names and lines of the user's files."""
+        filling = self.wanted.filling
+        return filling.told(said) if filling else said
+
+    def errors(self) -> str:
+        """What the program said on standard error, where that is kept."""
+        with contextlib.suppress(FileNotFoundError):
+            with open(self.wanted.path("errors"), encoding="utf-8", errors="replace") as file:
+                return self.told(file.read())
+        return ""
+
+
+def converted(source: str, made: str, name: str, *words: str) -> str:
+    """Converts frames; the result is what is said of them. `name` is what messages call the source if that is a
+    temporary file."""
+    command = [sys.executable, FRAMES, *words, source, made]
+    ran = subprocess.run(command, stderr=subprocess.PIPE, text=True, errors="replace", check=False)
+    sys.stderr.write(ran.stderr.replace(source, name))
+    if ran.returncode:
+        raise Failed(f"{name} cannot be converted")
+    return ran.stderr
+
+
+def handed_on(begin: bytes, source: BinaryIO, sink: IO[bytes]) -> None:
+    """Hands on bytes that were looked at, and then all that comes."""
+    data = begin
+    with contextlib.suppress(BrokenPipeError), sink:
+        while data:
+            sink.write(data)
+            sink.flush()
+            data = os.read(source.fileno(), 1 << 16)
+
+
+def looked_at(source: BinaryIO) -> bytes:
+    """The first four bytes, or fewer where there are no more."""
+    begin = b""
+    while len(begin) < 4 and (more := os.read(source.fileno(), 4 - len(begin))):
+        begin += more
+    return begin
+
+
+@dataclass
+class Ends:
+    """Where frames come from and go to: a capture, what gets those that are sent on, if anything does, and in which
+    format."""
+
+    capture: str
+    out: str | None
+    kind: str
+    reasons: list[str]
+
+
+class Live:
+    """A run on frames as they come, which hands on those that are sent on as they come."""
+
+    def __init__(self, wanted: Wanted, ends: Ends) -> None:
+        self.ends, self.chain = ends, Chain()
+        self.sent = "/dev/null"
+        self.run = Run(wanted, self.chain)
+        self.start(sys.stdin.buffer if ends.capture == "-" else open(ends.capture, "rb"))
+
+    def start(self, capture: BinaryIO) -> None:
+        """Starts the programs, and what feeds the first of them."""
+        ends, begin = self.ends, looked_at(capture)
+        source: object = subprocess.PIPE
+        if begin[:3] != b"XPF":
+            words = [sys.executable, FRAMES, "--to", "frames", *ends.reasons, "-", "-"]
+            source = self.chain.start(ends.capture, words, stdin=subprocess.PIPE, stdout=subprocess.PIPE).stdout
+        read_end, write_end = os.pipe()
+        if ends.out:
+            self.sent = f"/dev/fd/{write_end}"
+        with open(self.run.wanted.path("errors"), "wb") as errors:
+            self.run.start("/dev/stdin", self.sent, (write_end,), stdin=source, stderr=errors)
+        os.close(write_end)
+        if ends.out:
+            words = [sys.executable, FRAMES, "--to", ends.kind, "--named", SENT, *ends.reasons, "-", ends.out]
+            self.chain.start(SENT, words, stdin=read_end)
+        os.close(read_end)
+        sink = self.chain.running[0][1].stdin
+        assert sink is not None
+        threading.Thread(target=handed_on, args=(begin, capture, sink), daemon=True).start()
+
+    def finish(self) -> tuple[int, str]:
+        """Waits for all programs; the status of the run, whose errors name what the user named, and its refusal."""
+        status, said = self.run.finish()
+        if status not in ENDED:
+            self.chain.stop()
+        sys.stderr.write(self.run.errors().replace(self.sent, SENT).replace("/dev/stdin", self.ends.capture))
+        failed = [name for name in self.chain.failed() if name != "xdpvm"]
+        if failed and status in ENDED:
+            raise Failed(f"{failed[0]} cannot be converted")
+        return status, said
