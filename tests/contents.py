@@ -275,7 +275,7 @@ def main() -> int:
     except sources.Failed as why:
         sys.exit(f"contents.py: {why}")
     jobs = [
-        Job(kind, given.seed + at, given.jobs, count // given.jobs, os.path.abspath(program), xdpvm, given.keep)
+        Job(kind, given.seed + at, given.jobs, (count + at) // given.jobs, os.path.abspath(program), xdpvm, given.keep)
         for kind, count in (("halves", given.halves), ("programs", given.programs), ("texts", given.texts))
         for at in range(given.jobs)
     ]
