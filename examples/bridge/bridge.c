@@ -8,7 +8,6 @@
 #include <linux/capability.h>
 #include <pthread.h>
 #include <signal.h>
-#include <stdarg.h>
 #include <stdatomic.h>
 #include <stdlib.h>
 #include <string.h>
@@ -34,17 +33,6 @@ struct way {
 };
 
 static atomic_int ended_with; /* the exit status, once a way has failed */
-
-void tell(const char *format, ...) {
-    va_list given;
-    va_start(given, format);
-    flockfile(stderr);
-    fputs("bridge: ", stderr);
-    vfprintf(stderr, format, given);
-    fputc('\n', stderr);
-    funlockfile(stderr);
-    va_end(given);
-}
 
 static void print(struct way *way) {
     way->lost += link_lost(way->in);
@@ -87,9 +75,10 @@ static void judge(struct way *way, struct arrival *frame) {
 
 static void *run(void *given) {
     struct way *way = given;
-    uint64_t woken;
+    eventfd_t woken;
     while (!way->ends) {
-        if (link_wait(way->in, way->wake)) {
+        const int found = link_wait(way->in, way->wake);
+        if (found < 0) {
             tell("%s: %s", way->in->name, strerror(errno));
             ended_with = DOWN;
             kill(getpid(), SIGTERM);
@@ -100,37 +89,30 @@ static void *run(void *given) {
             judge(way, &frame);
             link_release(way->in);
         }
-        if (read(way->wake, &woken, sizeof woken) < 0) continue;
-        struct filter *fresh = atomic_exchange(&way->fresh, NULL);
+        if (!found || eventfd_read(way->wake, &woken)) continue;
+        struct filter *fresh = way->fresh;
         if (fresh && !filter_follow(fresh, &way->filter)) way->filter = *fresh;
-        free(fresh);
+        if (fresh) way->fresh = NULL;
         if (atomic_exchange(&way->asked, 0)) print(way);
     }
     return NULL;
 }
 
-static void wake(const struct way *way) {
-    const uint64_t one = 1;
-    if (write(way->wake, &one, sizeof one) < 0) tell("%s", strerror(errno));
-}
-
 /* Loads the image again for each way: all follow, or none where it is refused. `rows` has the rows of the filters that run. */
 static void reload(const struct sources *from, struct way *ways, int count, struct filter *rows) {
-    struct filter *fresh[2] = {NULL, NULL};
+    static struct filter fresh[2];
     const struct timespec pause = {.tv_nsec = 1000000};
-    for (int k = 0; k < count; k++) {
-        fresh[k] = malloc(sizeof *fresh[k]);
-        if (!fresh[k] || filter_load(fresh[k], from, rows)) {
-            tell("the filter stays as it was");
-            free(fresh[k]);
-            if (k) xdpvm_close(&fresh[0]->session), free(fresh[0]);
-            return;
-        }
+    int loaded = 0;
+    while (loaded < count && !filter_load(&fresh[loaded], from, rows)) loaded++;
+    if (loaded < count) {
+        tell("the filter stays as it was");
+        if (loaded) xdpvm_close(&fresh[0].session);
+        return;
     }
-    *rows = *fresh[0];
+    *rows = fresh[0];
     for (int k = 0; k < count; k++) {
-        ways[k].fresh = fresh[k];
-        wake(&ways[k]);
+        ways[k].fresh = &fresh[k];
+        eventfd_write(ways[k].wake, 1);
         while (ways[k].fresh && !ended_with) nanosleep(&pause, NULL);
     }
     tell("%s: loaded again", from->image);
@@ -140,9 +122,8 @@ static void reload(const struct sources *from, struct way *ways, int count, stru
 static int give_up_rights(void) {
     struct __user_cap_header_struct head = {.version = _LINUX_CAPABILITY_VERSION_3};
     const struct __user_cap_data_struct kept[2] = {{.effective = 1u << CAP_NET_RAW, .permitted = 1u << CAP_NET_RAW}, {0}};
-    for (int right = 0; prctl(PR_CAPBSET_READ, right) >= 0; right++) {
+    for (int right = 0; prctl(PR_CAPBSET_READ, right) >= 0; right++)
         if (right != CAP_NET_RAW) prctl(PR_CAPBSET_DROP, right);
-    }
     return prctl(PR_SET_NO_NEW_PRIVS, 1, 0, 0, 0) || syscall(SYS_capset, &head, kept);
 }
 
@@ -162,28 +143,18 @@ static FILE *open_capture(const char *path) {
 }
 
 /* Takes signals until the bridge is to end: after so many seconds, where they are not 0, or by SIGINT or SIGTERM. */
-static void serve(const struct sources *from, struct way *ways, int count, long seconds, const sigset_t *signals) {
+static void serve(const struct sources *from, struct way *ways, int count, unsigned seconds, const sigset_t *signals) {
     struct filter rows = ways[0].filter;
-    struct timespec now, end;
-    clock_gettime(CLOCK_MONOTONIC, &end);
-    end.tv_sec += seconds;
-    for (int given = 0; given != SIGINT && given != SIGTERM;) {
-        clock_gettime(CLOCK_MONOTONIC, &now);
-        const long left = (end.tv_sec - now.tv_sec) * 1000 + (end.tv_nsec - now.tv_nsec) / 1000000;
-        if (seconds && left <= 0) return;
-        const struct timespec rest = {.tv_sec = left / 1000, .tv_nsec = left % 1000 * 1000000};
-        given = seconds ? sigtimedwait(signals, NULL, &rest) : sigwaitinfo(signals, NULL);
+    alarm(seconds);
+    for (int given = 0; given != SIGINT && given != SIGTERM && given != SIGALRM;) {
+        given = sigwaitinfo(signals, NULL);
         if (given == SIGHUP) reload(from, ways, count, &rows);
-        for (int k = 0; k < count && given == SIGUSR1; k++) {
-            ways[k].asked = 1;
-            wake(&ways[k]);
-        }
+        for (int k = 0; k < count && given == SIGUSR1; k++) ways[k].asked = 1, eventfd_write(ways[k].wake, 1);
     }
 }
 
 static int usage(void) {
-    fputs("usage: bridge IMAGE IN OUT [--table TABLE] [--maps MAPS] [--pcap FILE] [--both] [--seconds N]\n", stderr);
-    return USAGE;
+    return fputs("usage: bridge IMAGE IN OUT [--table TABLE] [--maps MAPS] [--pcap FILE] [--both] [--seconds N]\n", stderr), USAGE;
 }
 
 int main(int count, char **words) {
@@ -209,7 +180,7 @@ int main(int count, char **words) {
     struct way ways[2] = {{.in = &links[0], .out = &links[1]}, {.in = &links[1], .out = &links[0]}};
     sigset_t signals;
     sigemptyset(&signals);
-    for (int k = 0; k < 4; k++) sigaddset(&signals, (const int[]){SIGHUP, SIGUSR1, SIGINT, SIGTERM}[k]);
+    for (int k = 0; k < 5; k++) sigaddset(&signals, (const int[]){SIGHUP, SIGUSR1, SIGINT, SIGTERM, SIGALRM}[k]);
     pthread_sigmask(SIG_BLOCK, &signals, NULL);
     for (int k = 0; k < ways_there && !status; k++) status = filter_load(&ways[k].filter, &from, NULL);
     for (int k = 0; k < 2 && !status; k++) status = open_link(&links[k], words[optind + 1 + k], k < ways_there);
@@ -221,12 +192,11 @@ int main(int count, char **words) {
         if (!ways[k].runs) tell("out of memory"), status = NO_MEMORY;
     }
     if (status) ended_with = status;
-    if (!status) tell("%s to %s: %s", links[0].name, links[1].name, from.image);
-    if (!status) serve(&from, ways, ways_there, seconds, &signals);
+    else tell("%s to %s: %s", links[0].name, links[1].name, from.image), serve(&from, ways, ways_there, (unsigned)seconds, &signals);
     for (int k = 0; k < ways_there; k++) {
         if (ways[k].runs) {
             ways[k].ends = 1;
-            wake(&ways[k]);
+            eventfd_write(ways[k].wake, 1);
             pthread_join(ways[k].thread, NULL);
             print(&ways[k]);
         }

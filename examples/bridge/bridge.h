@@ -9,7 +9,7 @@
 enum status { USAGE = 1, REFUSED = 2, UNREADABLE = 3, UNWRITABLE = 4, NO_MEMORY = 5, INTERFACE = 6, PERMISSION = 7, DOWN = 8 };
 
 /* Says one line on standard error. */
-__attribute__((format(printf, 1, 2))) void tell(const char *format, ...);
+#define tell(...) (flockfile(stderr), fputs("bridge: ", stderr), fprintf(stderr, __VA_ARGS__), fputc('\n', stderr), funlockfile(stderr))
 
 /* An interface, with the ring into which the kernel puts the frames that come in by it. */
 struct link {
@@ -31,19 +31,14 @@ struct arrival {
 
 /* Opens an interface, with a ring where frames are to be received: 0, or the exit status, with errno. */
 int link_open(struct link *link, const char *name, int receives);
-
 int link_has_next(const struct link *link);
-
 /* The next frame of the ring, which stays there until link_release gives its place back to the kernel. */
 struct arrival link_take(struct link *link);
 void link_release(struct link *link);
-
-/* Waits for a frame, or until `wake` can be read. Returns -1 where the interface went down. */
+/* Waits for a frame, or until `wake` can be read: 1 where that may be, and else 0; -1 where the interface went down. */
 int link_wait(const struct link *link, int wake);
-
 /* Sends a frame, and waits where the interface is busy. Returns -1 with errno where it cannot be sent. */
 int link_send(const struct link *link, const struct arrival *frame);
-
 /* How many frames came while the ring was full, since the last call. */
 unsigned link_lost(const struct link *link);
 
@@ -61,11 +56,9 @@ struct sources {
 /* Loads a filter: 0, or the exit status for what is wrong, which one line says. Of the contents the lines of maps are left out that
    are kept from `before`, which may be NULL. */
 int filter_load(struct filter *filter, const struct sources *from, const struct filter *before);
-
 /* Moves the contents of maps with equal rows from one filter to another, which has not run, and closes the first: 0, or -1 where
    memory ran out, and then the other one is closed. */
 int filter_follow(struct filter *filter, struct filter *before);
-
 /* Prints the lines of all maps, as a report has them. */
 void filter_print(struct filter *filter, FILE *to);
 

@@ -31,15 +31,13 @@ static int refused(const struct sources *from, const uint8_t *image, size_t size
     return REFUSED;
 }
 
-static int is_kept(const struct filter *filter, const struct filter *before, size_t map) {
-    return map < filter->maps && map < before->maps && memcmp(&filter->rows[map], &before->rows[map], sizeof filter->rows[map]) == 0;
-}
-
 /* Makes comments of the lines of those maps that are kept from `before`, or that are not. A zero byte ends the text. */
 static void leave_out(uint8_t *text, const struct filter *filter, const struct filter *before, int kept) {
     for (char *line = (char *)text; line; line = strchr(line, '\n')) {
         line += *line == '\n';
-        if (!strncmp(line, "map ", 4) && is_kept(filter, before, strtoul(line + 4, NULL, 10)) == kept) *line = '#';
+        const size_t map = strncmp(line, "map ", 4) ? SIZE_MAX : strtoul(line + 4, NULL, 10);
+        const int is_kept = map < filter->maps && map < before->maps && !memcmp(&filter->rows[map], &before->rows[map], sizeof filter->rows[map]);
+        if (map != SIZE_MAX && is_kept == kept) *line = '#';
     }
 }
 

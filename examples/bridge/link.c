@@ -60,9 +60,7 @@ static void put_tag(struct arrival *frame, uint16_t kind, uint16_t tag) {
     const uint16_t bytes[2] = {htons(kind), htons(tag)};
     memmove(frame->bytes - TAG, frame->bytes, ADDRESSES);
     memcpy(frame->bytes - TAG + ADDRESSES, bytes, TAG);
-    frame->bytes -= TAG;
-    frame->kept += TAG;
-    frame->length += TAG;
+    frame->bytes -= TAG, frame->kept += TAG, frame->length += TAG;
     if (frame->left.flags & VIRTIO_NET_HDR_F_NEEDS_CSUM) frame->left.csum_start = (uint16_t)(frame->left.csum_start + TAG);
     if (frame->left.hdr_len) frame->left.hdr_len = (uint16_t)(frame->left.hdr_len + TAG);
 }
@@ -87,12 +85,12 @@ void link_release(struct link *link) {
 int link_wait(const struct link *link, int wake) {
     struct pollfd waits[2] = {{.fd = link->socket, .events = POLLIN}, {.fd = wake, .events = POLLIN}};
     if (poll(waits, 2, -1) < 0) return errno == EINTR ? 0 : -1;
-    if (!(waits[0].revents & (POLLERR | POLLNVAL | POLLHUP))) return 0;
+    if (!(waits[0].revents & (POLLERR | POLLNVAL | POLLHUP))) return waits[1].revents != 0;
     int error = 0;
     socklen_t size = sizeof error;
     getsockopt(link->socket, SOL_SOCKET, SO_ERROR, &error, &size);
     errno = error;
-    return error ? -1 : 0;
+    return error ? -1 : 1;
 }
 
 int link_send(const struct link *link, const struct arrival *frame) {
