@@ -3,6 +3,7 @@
 mod broken;
 mod buffers;
 mod cases;
+mod counts;
 mod failures;
 mod reads_and_writes;
 mod records;

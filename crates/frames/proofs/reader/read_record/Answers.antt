@@ -56,7 +56,8 @@ returns-in-Ended-fill_at_once-2-clause-bytes g c =
     (search rules) c.in-Ended-fill_at_once-2.ensures.fills.0 c.in-Whole-fill_at_once.ensures.fills
     c.in-Ended-fill_at_once-2.ensures.fills.1 c.in-Ended-fill_at_once-2.ensures.fills.2
 
-pub returns-in-Failed-fill_at_once-2-clause-bytes : goal.returns-in-Failed-fill_at_once-2-clause-bytes
+pub returns-in-Failed-fill_at_once-2-clause-bytes
+    : goal.returns-in-Failed-fill_at_once-2-clause-bytes
 returns-in-Failed-fill_at_once-2-clause-bytes g c =
     body_failed _ _ _ _ _ _ _ _ _ (search rules)
     (whole_head _ _ _ _ c.fill_at_once.auto.buffer c.head_size.ensures.size
