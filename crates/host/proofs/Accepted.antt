@@ -1,39 +1,37 @@
--- From what the runs of a program write to its report.
-use Rattle.std.proofs.Common.{◌≡◌, ℕ, ◌+◌, List, [], ◌∷◌, ◌++◌, length, Bool, true, false, if◌then◌else◌, ◌==◌, Result, Ok, Err, IfOk, refl, sym, ap, ◌∙◌, subst, append_assoc, ◌⊎◌, inl, inr}
+-- From what a machine writes to the report of its program, where that is accepted.
+use Rattle.std.proofs.Common.{◌≡◌, ℕ, ◌≤◌, List, Result, Ok, Err, IfOk, refl, sym, ap, ◌∙◌, subst, ◌⊎◌, inl, inr}
 use Rattle.isa_model.specs.declared.frames.FrameHead.{FrameHead}
 use Rattle.isa_model.specs.declared.map_defs.MapDef.{MapDef}
 use Rattle.isa_model.specs.declared.ends.End.TheVariants.{Exit}
-use Rattle.isa_model.specs.declared.streams.Finish.{Finish}
 use Rattle.isa_model.specs.declared.streams.Finish.TheVariants as finish
-use Rattle.isa_model.specs.declared.versions.Version.{Version}
 use Rattle.isa_model.specs.Code.Instructions.{Program}
-use Rattle.isa_model.specs.Code.Versions.{stream_magic}
 use Rattle.isa_model.specs.Machine.States.{KeyValues}
-use Rattle.isa_model.specs.Reporting.Streams.{PacketFrame, Stream, stream_with, AreOpen}
+use Rattle.isa_model.specs.Reporting.Streams.{Stream, stream_with, AreOpen}
 use Rattle.isa_model.specs.Running.Runs.{Turn, turn}
 use Rattle.isa_model.proofs.RunLaws.{turn-outcome}
-use Rattle.isa_model.specs.Reporting.Reports.{OutputPiece, ToReport, ToFrames, ReportForm, Rule, turn_on, contents_left, turns_pieces, contents_after, maps_pieces, last_line, report_of, checked_rule, checked_report, checked_report_from, starting_contents, report_form_of, IsReportFrom}
-use Rattle.isa_model.specs.Running.Outcomes.{AllExit}
+use Rattle.isa_model.specs.Reporting.Reports.{OutputPiece, contents_after, checked_report, checked_report_from, starting_contents, report_form_of, IsReportFrom}
+use Rattle.isa_model.specs.Running.Outcomes.{StartsEnd, AllExit}
 use Rattle.isa_model.proofs.ReportLaws.{IsReportFrom-checked}
-use Rattle.isa_model.specs.Machine.MachineStates.{FitRows}
-use Rattle.image.proofs.Programs.{IsProgram-IsImage}
-use Rattle.bounds.specs.Bounds.{Bounded, IsVerified}
+use Rattle.isa_model.specs.Machine.MachineStates.{FitRows, IsProgram}
+use Rattle.isa_model.specs.Code.Limits.{max_steps}
+use Rattle.bounds.specs.Bounds.{Bounded}
 use Rattle.machine.specs.declared.machines.Exit.{Exit as TheExit}
 use Rattle.machine.specs.Running.{Running, ReturnsOutcome}
-use Rattle.checked_vm.specs.Machines.{LoadedProgram as Checking}
 use Rattle.frames.specs.Sources.{Origin}
+use Rattle.host.specs.declared.endings.StreamEnded.{StreamEnded}
 use Rattle.host.specs.declared.errors.HostError.{HostError}
 use Rattle.host.specs.declared.errors.HostError.TheVariants as failure
-use Rattle.host.specs.declared.tallies.Tally.{Tally}
 use Rattle.host.specs.declared.traced.Traced.{Traced}
-use Rattle.host.specs.Stops.{Noted, nothing_noted, noted_after, checked_notes, no_notes, ShowsNoted, ShowsTraced, ShowsTracedFrom}
+use Rattle.host.specs.Stops.{ShowsTraced, ShowsTracedFrom}
 use Rattle.host.specs.Tallies.{tallied}
+use Rattle.host.specs.Turns.{rule_of, RunnerState, TakesWhole, TakesFront}
+use Rattle.host.specs.OnMachines.{Leaves}
 use Rattle.host.specs.Writing.{Outputs, WroteBefore, WritesEach}
-use Rattle.host.specs.Reported.{Reports, ReportsBy, front_in}
+use Rattle.host.specs.Reported.{Reports}
 use Rattle.host.specs.Accepted.{ReportsRun, ReportsRunFrom, RunsWholeFrom, RunsFrontFrom, ShowsLast, ShowsTallied}
 use Rattle.host.proofs.Pieces.{WroteBefore-more}
-use Rattle.host.proofs.FrameLoop.{turns_pieces-append}
 use Rattle.host.proofs.Fronts.{first_pieces, last_contents}
+use Rattle.host.proofs.Reporting.{ReportsBy, report_by, closing, reports_front, reports_whole}
 
 -- what a machine returns of a run is the turn of its program
 pub turn-ReturnsOutcome : (r : Running) (head : FrameHead) (packet : List ℕ) (clock : ℕ → ℕ)
@@ -52,79 +50,6 @@ turn-ReturnsOutcome r head packet clock exit after left coming h =
       ap (λ (t : Turn). t.contents) same ∙ sym h.contents_are,
     )
 
--- ---- from what a machine writes to the reports
-
--- however a stream goes on after these packet frames, its checked report begins with their pieces
-front_goes_on : (limit : ℕ) (program : Version) (rows : List MapDef) (rule : Rule)
-    (contents : List KeyValues) (v : Version) (frames more : List PacketFrame) (finish : Finish)
-    → (rest : List OutputPiece)
-    × (report_of limit program rows rule contents (stream_with v (frames ++ more, finish))
-    ≡ front_in (record { limit = limit; program = program; stream = v }) rule contents frames
-    ++ rest)
-front_goes_on limit program rows rule contents v frames more finish =
-    let form : ReportForm = record { limit = limit; program = program; stream = v } in
-    let later = turns_pieces form rule (0 + length frames)
-    (contents_after rule contents frames) more in
-    let closing = maps_pieces 0 rows (contents_after rule contents (frames ++ more))
-    ++ ToReport (last_line (length (frames ++ more)) finish) ∷ [] in (
-      later ++ closing,
-      ap (λ (l : List OutputPiece). (ToFrames (stream_magic v) ∷ l) ++ closing)
-          (turns_pieces-append form rule 0 contents frames more)
-          ∙ append_assoc (front_in form rule contents frames) later closing,
-    )
-
--- what a machine with checks writes is the checked report
-pub Reports-By : (p : Program) (limit : ℕ) (contents : List KeyValues) (source : Origin)
-    (old new : Outputs) (result : Result Traced HostError)
-    → ReportsBy source limit p.version p.maps (checked_rule p limit) contents
-    (ShowsTracedFrom p limit contents) old new result
-    → Reports source (checked_report_from p limit contents) (ShowsTracedFrom p limit contents)
-    old new result
-Reports-By p limit contents source old new result (inl r) = inl r
-Reports-By p limit contents source old new result (inr (error, is, r)) = inr (
-  error,
-  is,
-  record {
-    version = r.version;
-    frames = r.frames;
-    are_open = r.are_open;
-    begun = r.begun;
-    writes = λ more finish.
-        let (rest, whole) = front_goes_on limit p.version p.maps (checked_rule p limit)
-        contents r.version r.frames more finish in
-        subst (λ (l : List OutputPiece). WroteBefore old new l error) (sym whole)
-        (WroteBefore-more old new _ rest error r.writes);
-  },
-)
-
--- the same of the checked machine that was made of the program and of maps
-abbrev AgreesOf : Checking → ℕ → Noted → Stream → Traced → Type 0
-AgreesOf m limit noted =
-    ShowsNoted m.program.maps (checked_notes m.program limit) (checked_rule m.program limit) noted
-    m.contents
-
-pub Reports-machine : (p : Program) (limit : ℕ) (contents : List KeyValues) (source : Origin)
-    (old new : Outputs) (result : Result Traced HostError) (program : Version) (m : Checking)
-    (noted : Noted) → program ≡ p.version
-    → m ≡ record { program = p; contents = contents } → noted ≡ nothing_noted
-    → ReportsBy source limit program m.program.maps (checked_rule m.program limit) m.contents
-    (AgreesOf m limit noted) old new result
-    → Reports source (checked_report_from p limit contents) (ShowsTracedFrom p limit contents)
-    old new result
-Reports-machine p limit contents source old new result program m noted version_is made none r =
-    let versioned = subst
-    (λ (v : Version). ReportsBy source limit v m.program.maps
-    (checked_rule m.program limit) m.contents (AgreesOf m limit noted) old new result) version_is
-    r in
-    let nothing = subst
-    (λ (x : Noted). ReportsBy source limit p.version m.program.maps
-    (checked_rule m.program limit) m.contents (AgreesOf m limit x) old new result) none
-    versioned in
-    Reports-By p limit contents source old new result
-    (subst (λ (q : Checking). ReportsBy source limit p.version q.program.maps
-    (checked_rule q.program limit) q.contents (AgreesOf q limit nothing_noted) old new result)
-    made nothing)
-
 -- from new maps on
 pub Reports-starting : (p : Program) (limit : ℕ) (contents : List KeyValues) (source : Origin)
     (old new : Outputs) (result : Result Traced HostError)
@@ -136,117 +61,133 @@ Reports-starting p limit contents source old new result start r =
     subst (λ (c : List KeyValues). Reports source (checked_report_from p limit c)
     (ShowsTracedFrom p limit c) old new result) start r
 
--- the report of a stream, and the exits of its frames' runs
-reported : (a : Bounded) (contents : List KeyValues) (found : Stream) → IsVerified a
-    → FitRows a.program.maps contents → AreOpen found.version found.frames
-    → IsReportFrom a.program contents found (checked_report_from a.program a.bound contents found)
-    × AllExit a.program a.bound contents found.frames
-reported a contents found h fits open_here =
-    IsReportFrom-checked a.program a.bound contents found
-    (IsProgram-IsImage a.program h.image) h.ends fits open_here.fit
+-- ---- accepted programs
 
--- nothing is noted where no frame is
-nothing_after : (rule : Rule) (n : ℕ) (c : List KeyValues) (fs : List PacketFrame)
-    → noted_after no_notes rule nothing_noted n c fs ≡ nothing_noted
-nothing_after rule n c [] = refl
-nothing_after rule n c (f ∷ fs) =
-    let next = contents_left c (turn_on rule c f) in
-    ap (λ (x : Noted). noted_after no_notes rule x (n + 1) next fs) (one (f.reason == 0))
-    ∙ nothing_after rule (n + 1) next fs
-  where
-    one : (b : Bool) → (if b then nothing_noted else nothing_noted) ≡ nothing_noted
-    one true = refl
-    one false = refl
+module _ (a : Bounded) (contents : List KeyValues) (is : IsProgram a.program)
+    (ends : StartsEnd a.program a.bound) (fits : FitRows a.program.maps contents) where
+  -- the report of a stream, and the exits of its frames' runs
+  reported : (found : Stream) → AreOpen found.version found.frames
+      → IsReportFrom a.program contents found (report_by a contents found)
+      × AllExit a.program a.bound contents found.frames
+  reported found are_open =
+      IsReportFrom-checked a.program a.bound contents found is ends fits are_open.fit
 
--- what the result shows, by the contents that the report leaves
-shows_last : (a : Bounded) (contents : List KeyValues) (found : Stream)
-    (last : List KeyValues) (result : Result Traced HostError)
-    → last ≡ contents_after (checked_rule a.program a.bound) contents found.frames
-    → IfOk result (ShowsNoted a.program.maps no_notes (checked_rule a.program a.bound)
-    nothing_noted contents found)
-    → IfOk result (ShowsLast a.program found last)
-shows_last a contents found last (Ok traced) is (tally, noted, maps) = (
-  tally,
-  noted ∙ nothing_after (checked_rule a.program a.bound) 0 contents found.frames,
-  (maps.0, maps.1 ∙ sym is),
-)
-shows_last a contents found last (Err error) is told = tt
+  module _ (X : Type 0) (source : Origin) (Agrees : Stream → List KeyValues → X → Type 0)
+      (some : 1 ≤ a.bound) (most : a.bound ≤ max_steps) (old new : Outputs)
+      (result : Result X HostError) where
+    abbrev Whole : Type 0
+    Whole = RunsWholeFrom a contents source Agrees old new result
 
--- what was written of an accepted program's turns is its report
-pub ReportsRunFrom-By : (a : Bounded) (contents : List KeyValues) (source : Origin)
-    (old new : Outputs) (result : Result Traced HostError) → IsVerified a
-    → FitRows a.program.maps contents
-    → ReportsBy source a.bound a.program.version a.program.maps (checked_rule a.program a.bound)
-    contents (ShowsNoted a.program.maps no_notes (checked_rule a.program a.bound) nothing_noted
-    contents) old new result
-    → ReportsRunFrom a contents source (ShowsLast a.program) old new result
-ReportsRunFrom-By a contents source old new result h fits r =
-    record { some = h.some; most = h.most; reports = go r }
-  where
-    go : ReportsBy source a.bound a.program.version a.program.maps (checked_rule a.program a.bound)
-        contents (ShowsNoted a.program.maps no_notes (checked_rule a.program a.bound) nothing_noted
-        contents) old new result
-        → RunsWholeFrom a contents source (ShowsLast a.program) old new result
-        ⊎ ((error : HostError) × (result ≡ Err error)
-        × RunsFrontFrom a contents source old new error)
-    go (inl r) =
-        let (is_report, exits) = reported a contents r.found h fits r.are_open in
+    abbrev Front : Type 0
+    Front = (error : HostError) × (result ≡ Err error)
+        × RunsFrontFrom a contents source old new error
+
+    -- what the maps hold
+    abbrev LeavesBy : List KeyValues → Whole ⊎ Front → Type 0
+    LeavesBy left runs = Leaves a contents left source Agrees old new result runs
+
+    abbrev AgreesLast : Stream → X → Type 0
+    AgreesLast found x =
+        Agrees found (contents_after (rule_of a) contents found.frames) x
+
+    go : (left : List KeyValues)
+        → ReportsBy a contents source AgreesLast left old new result
+        → (runs : Whole ⊎ Front) × LeavesBy left runs
+    go left (inl (r, held)) =
+        let (is_report, exits) = reported r.found r.are_open in
         let last = last_contents a.program a.bound (report_form_of a.program r.found) 0 contents
-        r.found.frames is_report.turns is_report.last exits is_report.frames in
-        inl (record {
-          found = r.found;
-          pieces = checked_report_from a.program a.bound contents r.found;
-          are_open = r.are_open;
-          read = r.read;
-          is_report = is_report;
-          exits = exits;
-          writes = r.writes;
-          tells = shows_last a contents r.found is_report.last result last r.tells;
-        })
-    go (inr (error, is, r)) =
-        let (is_report, exits) =
-        reported a contents (stream_with r.version (r.frames, finish.End)) h fits r.are_open in
-        inr (
-          error,
-          is,
-          record {
-            version = r.version;
-            frames = r.frames;
+        r.found.frames is_report.turns is_report.last exits is_report.frames in (
+          inl (record {
+            found = r.found;
+            pieces = report_by a contents r.found;
             are_open = r.are_open;
-            begun = r.begun;
+            read = r.read;
+            is_report = is_report;
             exits = exits;
-            writes = λ more finish pieces report.
-                let (rest, whole) =
-                first_pieces a.program a.bound r.version contents r.frames more finish pieces exits
-                report in
-                subst (λ (l : List OutputPiece). WroteBefore old new l error) (sym whole)
-                (WroteBefore-more old new _ rest error r.writes);
-          },
+            writes = r.writes;
+            tells = subst (λ (c : List KeyValues). IfOk result (Agrees r.found c)) (sym last)
+                r.tells;
+          }),
+          held ∙ sym last,
+        )
+    go left (inr (error, is_error, r, held)) =
+        let (is_report, exits) =
+        reported (stream_with r.version (r.frames, finish.End)) r.are_open in (
+          inr (
+            error,
+            is_error,
+            record {
+              version = r.version;
+              frames = r.frames;
+              are_open = r.are_open;
+              begun = r.begun;
+              exits = exits;
+              writes = λ more finish pieces report.
+                  let (rest, whole) =
+                  first_pieces a.program a.bound r.version contents r.frames more finish pieces
+                  exits report in
+                  subst (λ (l : List OutputPiece). WroteBefore old new l error) (sym whole)
+                  (WroteBefore-more old new _ rest error r.writes);
+            },
+          ),
+          held,
         )
 
--- the same of the machine that was made of the program and of maps, with its bound as the limit
-pub ReportsRunFrom-machine : (a : Bounded) (source : Origin) (old new : Outputs)
-    (result : Result Traced HostError) (limit : ℕ) (program : Version) (contents : List KeyValues)
-    (m : Running) → IsVerified a → FitRows a.program.maps contents
-    → limit ≡ a.bound → program ≡ a.program.version
-    → m ≡ record { program = a.program; bound = a.bound; contents = contents }
-    → ReportsBy source limit program m.program.maps (checked_rule m.program m.bound) m.contents
-    (ShowsNoted m.program.maps no_notes (checked_rule m.program m.bound) nothing_noted m.contents)
-    old new result
-    → ReportsRunFrom a contents source (ShowsLast a.program) old new result
-ReportsRunFrom-machine a source old new result limit program contents m h fits bound_is
-    version_is made r =
-    let Agrees : Running → Stream → Traced → Type 0 = λ q. ShowsNoted q.program.maps no_notes
-    (checked_rule q.program q.bound) nothing_noted q.contents in
-    let bounded = subst
-    (λ n. ReportsBy source n program m.program.maps
-    (checked_rule m.program m.bound) m.contents (Agrees m) old new result) bound_is r in
-    let versioned = subst
-    (λ (v : Version). ReportsBy source a.bound v m.program.maps
-    (checked_rule m.program m.bound) m.contents (Agrees m) old new result) version_is bounded in
-    ReportsRunFrom-By a contents source old new result h fits
-    (subst (λ (q : Running). ReportsBy source a.bound a.program.version q.program.maps
-    (checked_rule q.program q.bound) q.contents (Agrees q) old new result) made versioned)
+    -- what was written of the program's turns is its report
+    pub runs_reported : (left : List KeyValues)
+        → ReportsBy a contents source AgreesLast left old new result
+        → (runs : ReportsRunFrom a contents source Agrees old new result)
+        × LeavesBy left runs.reports
+    runs_reported left r =
+        let (runs, leaves) = go left r in
+        (record { some = some; most = most; reports = runs }, leaves)
+
+-- a machine ran over a stream to the end of its report, or to a line after the frames
+pub ran_whole : (N X : Type 0) (a : Bounded) (contents : List KeyValues) (source : Origin)
+    (Agrees : Stream → List KeyValues → X → Type 0) (before mid after : Outputs) (old new : RunnerState N)
+    (ended : StreamEnded) (result : Result X HostError) (rows : List MapDef) (held : List KeyValues)
+    → IsProgram a.program → StartsEnd a.program a.bound → FitRows a.program.maps contents
+    → 1 ≤ a.bound → a.bound ≤ max_steps → old.bounded ≡ a → old.contents ≡ contents
+    → (t : TakesWhole source before old mid new ended)
+    → WritesEach mid after result (closing rows held ended.frames ended.finish)
+    → rows ≡ new.bounded.program.maps → held ≡ new.contents
+    → ((last : List KeyValues) → new.contents ≡ last → IfOk result (Agrees t.found last))
+    → (runs : ReportsRunFrom a contents source Agrees before after result)
+    × Leaves a contents new.contents source Agrees before after result runs.reports
+ran_whole N X a contents source Agrees before mid after old new ended result rows held is ends fits
+    some most a_is contents_are t w rows_are held_is tells =
+    let By : Bounded → List KeyValues → Type 0 = λ b k.
+    ReportsBy b k source
+    (λ found x. Agrees found (contents_after (rule_of b) k found.frames) x) new.contents before
+    after result in
+    let r : By old.bounded old.contents =
+    reports_whole N X _ source old new before mid after ended result rows held t w rows_are held_is
+    (tells _ t.taken.contents) in
+    runs_reported a contents is ends fits X source Agrees some most before after result new.contents
+    (subst (λ (k : List KeyValues). By a k) contents_are
+    (subst (λ (b : Bounded). By b old.contents) a_is r))
+
+-- an output failed before the stream was at its end
+pub ran_front : (N X : Type 0) (a : Bounded) (contents : List KeyValues) (source : Origin)
+    (Agrees : Stream → List KeyValues → X → Type 0) (before after : Outputs) (old new : RunnerState N)
+    (error : HostError)
+    → IsProgram a.program → StartsEnd a.program a.bound → FitRows a.program.maps contents
+    → 1 ≤ a.bound → a.bound ≤ max_steps → old.bounded ≡ a → old.contents ≡ contents
+    → TakesFront source before old after new error
+    → (runs : ReportsRunFrom a contents source Agrees before after (Err error))
+    × Leaves a contents new.contents source Agrees before after (Err error) runs.reports
+ran_front N X a contents source Agrees before after old new error is ends fits some most a_is
+    contents_are t =
+    let result : Result X HostError = Err error in
+    let By : Bounded → List KeyValues → Type 0 = λ b k.
+    ReportsBy b k source
+    (λ found x. Agrees found (contents_after (rule_of b) k found.frames) x) new.contents before
+    after result in
+    let r : By old.bounded old.contents =
+    reports_front N X _ source old new before after error t in
+    runs_reported a contents is ends fits X source Agrees some most before after result new.contents
+    (subst (λ (k : List KeyValues). By a k) contents_are
+    (subst (λ (b : Bounded). By b old.contents) a_is r))
 
 -- ---- from new maps on
 

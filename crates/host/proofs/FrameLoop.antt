@@ -1,31 +1,31 @@
 -- One more turn of the loop over a stream, and how the loop ends.
-use Rattle.std.proofs.Common.{◌≡◌, ℕ, suc, ◌+◌, ◌<◌, ◌≤◌, List, [], ◌∷◌, ◌++◌, length, Option, Result, Ok, Err, IfOk, refl, sym, ap, ◌∙◌, subst, append_assoc, append-nil, length-append, add-zero, zero-add, arith, inl, inr}
+use Rattle.std.proofs.Common.{◌≡◌, ℕ, suc, ◌+◌, ◌<◌, ◌≤◌, List, [], ◌∷◌, ◌++◌, length, Option, Result, refl, sym, ap, ◌∙◌, subst, append_assoc, append-nil, length-append, add-zero, zero-add, arith, inl, inr}
 use Rattle.std.specs.Io.KnownBytes.{Appends, Keeps}
 use Rattle.std.proofs.KnownBytes.{Appends-kept}
 use Rattle.exact_io.specs.Transfers.{AppendsBeginning}
-use Rattle.isa_model.specs.declared.map_defs.MapDef.{MapDef}
 use Rattle.isa_model.specs.declared.streams.Fault.{Fault}
+use Rattle.isa_model.specs.declared.streams.Finish.TheVariants as finish
 use Rattle.isa_model.specs.declared.streams.Finish.{Finish}
 use Rattle.isa_model.specs.declared.versions.Version.{Version}
 use Rattle.isa_model.specs.declared.versions.Version.TheVariants.{One, Two}
 use Rattle.isa_model.specs.Code.Versions.{stream_magic}
 use Rattle.isa_model.specs.Code.Limits.{max_body, max_packet}
 use Rattle.isa_model.specs.Machine.States.{KeyValues}
-use Rattle.isa_model.specs.Reporting.Streams.{PacketFrame, Stream, max_frames, stream_with}
+use Rattle.isa_model.specs.Reporting.Streams.{PacketFrame, max_frames, stream_with}
 use Rattle.isa_model.proofs.StreamLaws.{AreOpen-nil}
-use Rattle.isa_model.specs.Reporting.Reports.{OutputPiece, Rule, ReportForm, ToReport, ToFrames, turns_pieces, contents_after, turn_on, turn_pieces, contents_left, maps_pieces, last_line}
+use Rattle.isa_model.specs.Reporting.Reports.{OutputPiece, Rule, ReportForm, ToFrames, turns_pieces, contents_after, turn_on, turn_pieces, contents_left}
+use Rattle.bounds.specs.Bounds.{Bounded}
 use Rattle.frames.specs.Sources.{Origin}
 use Rattle.frames.specs.Readers.{Position, Fresh}
 use Rattle.frames.specs.Reading.{OpensStream, begun_at, Found, Stopped, Finds}
-use Rattle.frames.proofs.InputsLaws.{HasBegun, HasBegun-opens, HasBegun-open, HasBegun-found, HasBegun-stopped, HasFound-begins, unopened}
+use Rattle.frames.proofs.InputsLaws.{HasBegun, HasBegun-opens, HasBegun-open, HasBegun-found, HasBegun-stopped, HasFound-begins}
 use Rattle.frames.specs.Inputs.{IsBegunVersion}
+use Rattle.host.specs.declared.endings.StreamEnded.{StreamEnded}
 use Rattle.host.specs.declared.errors.HostError.{HostError}
 use Rattle.host.specs.declared.errors.HostError.TheVariants as failure
-use Rattle.host.specs.declared.traced.Traced.{Traced}
-use Rattle.host.specs.Stops.{Noted, Noting, noted_of, noted_after, AreMaps, ShowsNoted}
-use Rattle.host.specs.Tallies.{tally_of}
-use Rattle.host.specs.Writing.{Outputs, Wrote, WroteBefore, WritesEach}
-use Rattle.host.specs.Reported.{front_in, ReportsBy}
+use Rattle.host.specs.Stops.{Noting, noted_after}
+use Rattle.host.specs.Writing.{Outputs, Wrote, WroteBefore}
+use Rattle.host.specs.Turns.{rule_of, form_on, front_in, RunnerState, HasTaken, TakesWhole, TakesFront}
 use Rattle.host.proofs.Pieces.{Wrote-append, WroteBefore-append, wrote_frames, frames_failed}
 use Rattle.host.proofs.WrittenSoFar.{WrittenSoFar}
 
@@ -159,122 +159,117 @@ after_flush form rule start source before frames known p number contents now aft
 
 -- ---- how the loop ends
 
--- pieces after others, where one of the later ones may have failed
-WritesEach-append : (a b c : Outputs) (front more : List OutputPiece)
-    (result : Result Traced HostError) → Wrote a b front → WritesEach b c result more
-    → WritesEach a c result (front ++ more)
-WritesEach-append a b c front more (Ok traced) v w = Wrote-append a b c front more v w
-WritesEach-append a b c front more (Err e) v w = WroteBefore-append a b c front more e v w
+-- a machine took frames, of which these facts say what it noted and what its maps hold
+pub has_taken : {N : Type 0} (old : RunnerState N) (frames : List PacketFrame) (bounded : Bounded)
+    (contents : List KeyValues) (noted : N) (notes : Noting N) → bounded ≡ old.bounded
+    → notes ≡ old.notes → contents ≡ contents_after (rule_of old.bounded) old.contents frames
+    → noted ≡ noted_after old.notes (rule_of old.bounded) old.noted 0 old.contents frames
+    → HasTaken old frames (record {
+      bounded = bounded;
+      contents = contents;
+      noted = noted;
+      notes = notes;
+    })
+has_taken old frames bounded contents noted notes b n c k =
+    record { bounded = b; notes = n; contents = c; noted = k }
 
--- three facts about the result of a run over a stream
-all_told : (result : Result Traced HostError) (n : ℕ) (finish : Finish) (noted : Noted)
-    (rows : List MapDef) (contents : List KeyValues)
-    → IfOk result (λ t. t.tally ≡ tally_of n finish) → IfOk result (λ t. noted_of t.stops ≡ noted)
-    → IfOk result (λ t. AreMaps rows contents t.maps)
-    → IfOk result (λ t. (t.tally ≡ tally_of n finish) × (noted_of t.stops ≡ noted)
-    × AreMaps rows contents t.maps)
-all_told (Ok traced) n finish noted rows contents tally told left = (tally, told, left)
-all_told (Err e) n finish noted rows contents tally told left = tt
+-- the contents that one more frame leaves
+pub carried_more : (rule : Rule) (start : List KeyValues) (frames : List PacketFrame)
+    (f : PacketFrame) (contents left : List KeyValues)
+    → contents ≡ contents_after rule start frames
+    → left ≡ contents_left contents (turn_on rule contents f)
+    → left ≡ contents_after rule start (frames ++ f ∷ [])
+carried_more rule start frames f contents left before c =
+    c ∙ ap (λ (x : List KeyValues). contents_left x (turn_on rule x f)) before
+    ∙ sym (contents_after-append rule start frames (f ∷ []))
 
-module _ (limit : ℕ) (program : Version) (rows : List MapDef) (rule : Rule) (start : List KeyValues)
-    (source : Origin) (notes : Noting) (none : Noted) where
-  abbrev Agrees : Stream → Traced → Type 0
-  Agrees = ShowsNoted rows notes rule none start
+-- the form of a report, by the limit and the version that a machine was given
+abbrev pub form_by : ℕ → Version → Version → ReportForm
+form_by limit program stream = record { limit = limit; program = program; stream = stream }
 
-  abbrev report_form_on : Version → ReportForm
-  report_form_on v = record { limit = limit; program = program; stream = v }
+form_by-is : (a : Bounded) (limit : ℕ) (program stream : Version) → limit ≡ a.bound
+    → program ≡ a.program.version → form_by limit program stream ≡ form_on a stream
+form_by-is a limit program stream l v =
+    ap (λ (n : ℕ). form_by n program stream) l
+    ∙ ap (λ (w : Version). form_by a.bound w stream) v
+
+module _ (N : Type 0) (old : RunnerState N) (source : Origin) where
+  abbrev rule : Rule
+  rule = rule_of old.bounded
 
   -- writing the magic failed
   pub magic_failed : (v : Version) (known : Option (List ℕ)) (p : Position)
       (r f g : Option (List ℕ)) → HasBegun v [] source known p
       → AppendsBeginning f g (stream_magic v)
-      → ReportsBy source limit program rows rule start Agrees (record { report = r; sent = f })
-      (record { report = r; sent = g }) (Err failure.Frames)
-  magic_failed v known p r f g (inl s) b = inr (
-    failure.Frames,
-    refl,
-    record {
-      version = v;
-      frames = [];
-      are_open = s.are_open;
-      begun = HasFound-begins source.may_fail v [] source.bytes known p s;
-      writes = frames_failed r f g (stream_magic v) [] b;
-    },
-  )
-  magic_failed v known p r f g (inr u) b = inl (record {
-    found = unopened u.fault;
+      → TakesFront source (record { report = r; sent = f }) old (record { report = r; sent = g })
+      old failure.Frames
+  magic_failed v known p r f g (inl s) b = record {
+    version = v;
+    frames = [];
+    are_open = s.are_open;
+    read = inl (HasFound-begins source.may_fail v [] source.bytes known p s);
+    wrote = frames_failed r f g (stream_magic v) [] b;
+    taken = record { bounded = refl; notes = refl; contents = refl; noted = refl };
+  }
+  magic_failed v known p r f g (inr u) b = record {
+    version = One;
+    frames = [];
     are_open = AreOpen-nil One;
-    read = u.read;
-    writes =
-        frames_failed r f g (stream_magic One) _
+    read = inr (finish.Fault u.fault 0, u.read);
+    wrote =
+        frames_failed r f g (stream_magic One) []
         (subst (λ (x : Version). AppendsBeginning f g (stream_magic x)) u.first b);
-    tells = tt;
-  })
+    taken = record { bounded = refl; notes = refl; contents = refl; noted = refl };
+  }
 
-  module _ (v : Version) (before : Outputs) (frames : List PacketFrame)
-      (known new : Option (List ℕ)) (p q : Position) (number : ℕ) (contents : List KeyValues) where
+  module _ (limit : ℕ) (program v : Version) (l : limit ≡ old.bounded.bound)
+      (pv : program ≡ old.bounded.program.version) (before : Outputs)
+      (frames : List PacketFrame) (known new : Option (List ℕ)) (p q : Position) (number : ℕ)
+      (contents : List KeyValues) where
+    abbrev Taken : Outputs → Type 0
+    Taken now =
+        WrittenSoFar (form_by limit program v) rule old.contents source before frames known p number
+        contents now
+
     -- one of the pieces of the next frame failed
-    pub one_failed : (now after : Outputs) (f : PacketFrame) (error : HostError)
-        → WrittenSoFar (report_form_on v) rule start source before frames known p number contents
-        now → Finds source.may_fail p known new q (Found f)
+    pub one_failed : (now after : Outputs) (f : PacketFrame) (error : HostError) (left : RunnerState N)
+        → Taken now → Finds source.may_fail p known new q (Found f)
         → WroteBefore now after
-        (turn_pieces (report_form_on v) number f (turn_on rule contents f)) error
-        → ReportsBy source limit program rows rule start Agrees before after (Err error)
-    one_failed now after f error so h w =
+        (turn_pieces (form_by limit program v) number f (turn_on rule contents f)) error
+        → HasTaken old (frames ++ f ∷ []) left
+        → TakesFront source before old after left error
+    one_failed now after f error left so h w taken =
         let (found, early, fits) = HasBegun-found v frames source known new p q f so.begun h in
-        inr (
-          error,
-          refl,
-          record {
-            version = v;
-            frames = frames ++ f ∷ [];
-            are_open = found.are_open;
-            begun = HasFound-begins source.may_fail v (frames ++ f ∷ []) source.bytes new q found;
-            writes =
-                subst (λ (l : List OutputPiece). WroteBefore before after l error)
-                (front_more (report_form_on v) rule start source before frames f number contents
-                so.numbered so.carried)
-                (WroteBefore-append before now after _ _ error so.wrote w);
-          },
-        )
+        record {
+          version = v;
+          frames = frames ++ f ∷ [];
+          are_open = found.are_open;
+          read =
+              inl (HasFound-begins source.may_fail v (frames ++ f ∷ []) source.bytes new q found);
+          wrote =
+              subst (λ (x : ReportForm). WroteBefore before after
+              (front_in x rule old.contents (frames ++ f ∷ [])) error)
+              (form_by-is old.bounded limit program v l pv)
+              (subst (λ (ps : List OutputPiece). WroteBefore before after ps error)
+              (front_more (form_by limit program v) rule old.contents source before frames f number
+              contents so.numbered so.carried)
+              (WroteBefore-append before now after _ _ error so.wrote w));
+          taken = taken;
+        }
 
-    -- the stream stopped, and the lines of maps and the last line were written, or one of them
-    -- failed
-    pub stream_ended : (r s g : Option (List ℕ)) (finish : Finish)
-        (result : Result Traced HostError) (noted : Noted)
-        → WrittenSoFar (report_form_on v) rule start source before frames known p number contents
-        (record { report = r; sent = g }) → Finds source.may_fail p known new q (Stopped finish)
-        → WritesEach (record { report = r; sent = g }) (record { report = s; sent = g }) result
-        (maps_pieces 0 rows contents ++ ToReport (last_line number finish) ∷ [])
-        → IfOk result (λ traced. traced.tally ≡ tally_of number finish)
-        → IfOk result (λ traced. noted_of traced.stops ≡ noted)
-        → IfOk result (λ traced. AreMaps rows contents traced.maps)
-        → noted ≡ noted_after notes rule none 0 start frames
-        → ReportsBy source limit program rows rule start Agrees before
-        (record { report = s; sent = g }) result
-    stream_ended r s g finish result noted so h written tally told left told_is =
-        let now : Outputs = record { report = r; sent = g } in
-        let after : Outputs = record { report = s; sent = g } in
-        let front = front_in (report_form_on v) rule start frames in
-        let whole = WritesEach-append before now after front
-        (maps_pieces 0 rows contents ++ ToReport (last_line number finish) ∷ []) result so.wrote
-        written in
-        let counted = subst
-        (λ (n : ℕ). WritesEach before after result
-        (front ++ (maps_pieces 0 rows contents ++ ToReport (last_line n finish) ∷ [])))
-        so.numbered whole in
-        inl (record {
-          found = stream_with v (frames, finish);
-          are_open = HasBegun-open v frames source known p so.begun;
-          read = HasBegun-stopped v frames source known new p q finish so.begun h;
-          writes =
-              subst (λ (c : List KeyValues). WritesEach before after result
-              (front ++ (maps_pieces 0 rows c ++ ToReport (last_line (length frames) finish) ∷ [])))
-              so.carried counted;
-          tells = all_told result (length frames) finish
-              (noted_after notes rule none 0 start frames) rows (contents_after rule start frames)
-              (subst (λ (n : ℕ). IfOk result (λ t. t.tally ≡ tally_of n finish)) so.numbered tally)
-              (subst (λ (x : Noted). IfOk result (λ t. noted_of t.stops ≡ x)) told_is told)
-              (subst (λ (c : List KeyValues). IfOk result (λ t. AreMaps rows c t.maps)) so.carried
-              left);
-        })
+    -- the stream stopped
+    pub all_taken : (now : Outputs) (finish : Finish) (ended : StreamEnded) (left : RunnerState N)
+        → Taken now → Finds source.may_fail p known new q (Stopped finish)
+        → ended ≡ record { frames = number; finish = finish } → HasTaken old frames left
+        → TakesWhole source before old now left ended
+    all_taken now finish ended left so h is taken = record {
+      found = stream_with v (frames, finish);
+      are_open = HasBegun-open v frames source known p so.begun;
+      read = HasBegun-stopped v frames source known new p q finish so.begun h;
+      wrote =
+          subst (λ (x : ReportForm). Wrote before now (front_in x rule old.contents frames))
+          (form_by-is old.bounded limit program v l pv) so.wrote;
+      taken = taken;
+      count = ap (λ (e : StreamEnded). e.frames) is ∙ so.numbered;
+      finish = ap (λ (e : StreamEnded). e.finish) is;
+    }

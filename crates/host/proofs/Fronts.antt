@@ -11,7 +11,7 @@ use Rattle.isa_model.proofs.RunLaws.{turn-outcome, HasOutcome-same}
 use Rattle.isa_model.specs.Reporting.Streams.{PacketFrame, stream_with}
 use Rattle.isa_model.specs.Reporting.Reports.{OutputPiece, ToReport, ToFrames, ReportForm, frame_line, frame_pieces, skip_pieces, turn_on, turn_pieces, contents_left, turns_pieces, maps_pieces, last_line, checked_rule, turn_by, contents_after, ReportsFrame, ReportsFrames, report_form_of, IsReportFrom}
 use Rattle.isa_model.specs.Running.Outcomes.{ExitsOn, AllExit}
-use Rattle.host.specs.Reported.{front_in}
+use Rattle.host.specs.Turns.{front_in}
 
 module _ (p : Program) (n : ℕ) where
   -- the form of the checked report with this limit

@@ -3,10 +3,10 @@ use Rattle.std.proofs.Common.{◌≡◌, ℕ, suc, ◌+◌, List, [], ◌∷◌,
 use Rattle.isa_model.specs.Machine.States.{KeyValues}
 use Rattle.isa_model.specs.Reporting.Streams.{PacketFrame}
 use Rattle.isa_model.specs.Reporting.Reports.{Rule, turn_on, contents_left, contents_after}
-use Rattle.host.specs.Stops.{Noted, Noting, noted_on, noted_after}
+use Rattle.host.specs.Stops.{Noting, noted_on, noted_after}
 
-module _ (notes : Noting) (rule : Rule) where
-  noted_after-append : (none : Noted) (n : ℕ) (c : List KeyValues) (fs : List PacketFrame)
+module _ (N : Type 0) (notes : Noting N) (rule : Rule) where
+  noted_after-append : (none : N) (n : ℕ) (c : List KeyValues) (fs : List PacketFrame)
       (f : PacketFrame)
       → noted_after notes rule none n c (fs ++ f ∷ [])
       ≡ noted_on notes (noted_after notes rule none n c fs) (n + length fs)
@@ -21,16 +21,16 @@ module _ (notes : Noting) (rule : Rule) where
       (contents_after rule next fs) f) same
 
   -- a frame was taken after others
-  pub noted_more : (none : Noted) (start : List KeyValues) (frames : List PacketFrame)
-      (f : PacketFrame) (held : Noting) (now after : Noted) (number : ℕ) (contents : List KeyValues)
+  pub noted_more : (none : N) (start : List KeyValues) (frames : List PacketFrame)
+      (f : PacketFrame) (held : Noting N) (now after : N) (number : ℕ) (contents : List KeyValues)
       → held ≡ notes → now ≡ noted_after notes rule none 0 start frames → number ≡ length frames
       → contents ≡ contents_after rule start frames
       → after ≡ noted_on held now number contents f
       → after ≡ noted_after notes rule none 0 start (frames ++ f ∷ [])
   noted_more none start frames f held now after number contents h k n m e =
       let before = noted_after notes rule none 0 start frames in
-      e ∙ ap (λ (x : Noting). noted_on x now number contents f) h
-      ∙ ap (λ (x : Noted). noted_on notes x number contents f) k
+      e ∙ ap (λ (x : Noting N). noted_on x now number contents f) h
+      ∙ ap (λ (x : N). noted_on notes x number contents f) k
       ∙ ap (λ (x : ℕ). noted_on notes before x contents f) (n ∙ sym (zero-add (length frames)))
       ∙ ap (λ (x : List KeyValues). noted_on notes before (0 + length frames) x f) m
       ∙ sym (noted_after-append none 0 start frames f)

@@ -7,7 +7,7 @@ use Rattle.frames.specs.Sources.{Origin}
 use Rattle.frames.specs.Readers.{Position}
 use Rattle.frames.proofs.InputsLaws.{HasBegun}
 use Rattle.host.specs.Writing.{Outputs, Wrote}
-use Rattle.host.specs.Reported.{front_in}
+use Rattle.host.specs.Turns.{front_in}
 
 -- these frames were found and taken, and their pieces were written
 pub record WrittenSoFar (form : ReportForm) (rule : Rule) (start : List KeyValues)

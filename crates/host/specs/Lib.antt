@@ -3,6 +3,11 @@ pub mod Forms
 pub mod Tallies
 pub mod Stops
 pub mod Writing
-pub mod Listed
+pub mod Turns
 pub mod Reported
 pub mod Accepted
+pub mod EndCounts
+pub mod Counts
+pub mod Counting
+pub mod Places
+pub mod OnMachines

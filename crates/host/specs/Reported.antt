@@ -1,12 +1,9 @@
--- What a run over a stream writes: with checks, and by any machine.
-use Rattle.std.specs.Prelude.{◌≡◌, ℕ, List, ◌∷◌, ◌++◌, length, Result, Err, IfOk, ◌⊎◌}
-use Rattle.isa_model.specs.declared.map_defs.MapDef.{MapDef}
+-- What a run over a stream with checks writes.
+use Rattle.std.specs.Prelude.{◌≡◌, List, ◌++◌, Result, Err, IfOk, ◌⊎◌}
 use Rattle.isa_model.specs.declared.streams.Finish.{Finish}
 use Rattle.isa_model.specs.declared.versions.Version.{Version}
-use Rattle.isa_model.specs.Code.Versions.{stream_magic}
-use Rattle.isa_model.specs.Machine.States.{KeyValues}
 use Rattle.isa_model.specs.Reporting.Streams.{PacketFrame, Stream, stream_with, AreOpen}
-use Rattle.isa_model.specs.Reporting.Reports.{OutputPiece, ToFrames, ReportForm, Rule, turns_pieces, report_of}
+use Rattle.isa_model.specs.Reporting.Reports.{OutputPiece}
 use Rattle.frames.specs.Sources.{Origin}
 use Rattle.frames.specs.Inputs.{AreReadFrom, IsBegunBy}
 use Rattle.host.specs.declared.errors.HostError.{HostError}
@@ -45,29 +42,3 @@ abbrev pub Reports : {X : Type 0} → Origin → (Stream → List OutputPiece)
 Reports source pieces Agrees old new result =
     ReportsWhole source pieces Agrees old new result
     ⊎ ((error : HostError) × (result ≡ Err error) × ReportsFront source pieces old new error)
-
--- ---- the same of a machine, which runs frames by a rule
-
--- the magic and the frames' pieces
-abbrev pub front_in : ReportForm → Rule → List KeyValues → List PacketFrame → List OutputPiece
-front_in form rule contents frames =
-    ToFrames (stream_magic form.stream) ∷ turns_pieces form rule 0 contents frames
-
--- an output failed at the magic or at a piece of these frames, and no more was read
-pub record StopsAtFrame (source : Origin) (limit : ℕ) (program : Version) (rule : Rule)
-    (contents : List KeyValues) (old new : Outputs) (error : HostError) : Type 0 where
-  pub version : Version
-  pub frames : List PacketFrame
-  pub are_open : AreOpen version frames
-  pub begun : IsBegunBy source version frames
-  pub writes : WroteBefore old new
-      (front_in (record { limit = limit; program = program; stream = version }) rule contents
-      frames) error
-
-abbrev pub ReportsBy : {X : Type 0} → Origin → ℕ → Version → List MapDef → Rule
-    → List KeyValues → (Stream → X → Type 0) → Outputs → Outputs → Result X HostError → Type 0
-ReportsBy source limit program rows rule contents Agrees old new result =
-    ReportsWhole source
-    (λ found. report_of limit program rows rule contents found) Agrees old new result
-    ⊎ ((error : HostError) × (result ≡ Err error)
-    × StopsAtFrame source limit program rule contents old new error)

@@ -59,17 +59,19 @@ note noted number stop =
 
 -- ---- frames one after another
 
--- what is noted of a frame that is run on map contents
-abbrev pub Noting : Type 0
-Noting = Noted → ℕ → FrameHead → List ℕ → List KeyValues → Noted
+-- what is noted of a frame that is run on map contents, and of one that is passed over
+pub record Noting (N : Type 0) : Type 0 where
+  pub run : N → ℕ → FrameHead → List ℕ → List KeyValues → N
+  pub skip : N → N
 
--- a frame that is not run is not noted
-abbrev pub noted_on : Noting → Noted → ℕ → List KeyValues → PacketFrame → Noted
+-- a frame is run unless it has a reason
+abbrev pub noted_on : {N : Type 0} → Noting N → N → ℕ → List KeyValues → PacketFrame → N
 noted_on notes noted number contents f =
-    if f.reason == 0 then notes noted number f.head f.body contents else noted
+    if f.reason == 0 then notes.run noted number f.head f.body contents else notes.skip noted
 
 -- frames from this number on, each run on the contents that the one before left
-abbrev pub noted_after : Noting → Rule → Noted → ℕ → List KeyValues → List PacketFrame → Noted
+abbrev pub noted_after : {N : Type 0} → Noting N → Rule → N → ℕ → List KeyValues
+    → List PacketFrame → N
 noted_after notes rule noted number contents [] = noted
 noted_after notes rule noted number contents (f ∷ frames) =
     noted_after notes rule (noted_on notes noted number contents f) (number + 1)
@@ -77,13 +79,17 @@ noted_after notes rule noted number contents (f ∷ frames) =
 
 -- notes where each run on the checked machine stopped; every answer of the clock is the frame's
 -- time
-abbrev pub checked_notes : Program → ℕ → Noting
-checked_notes p limit noted number head body contents =
-    note noted number (stop_of p limit (λ k. head.time) head body contents)
+abbrev pub checked_notes : Program → ℕ → Noting Noted
+checked_notes p limit =
+    record {
+      run = λ noted number head body contents.
+          note noted number (stop_of p limit (λ k. head.time) head body contents);
+      skip = λ noted. noted;
+    }
 
 -- nothing is noted
-abbrev pub no_notes : Noting
-no_notes noted number head body contents = noted
+abbrev pub no_notes : Noting (Unit {0})
+no_notes = record { run = λ noted number head body contents. noted; skip = λ noted. noted }
 
 -- ---- runs over streams
 
@@ -91,20 +97,15 @@ no_notes noted number head body contents = noted
 abbrev pub AreMaps : List MapDef → List KeyValues → List MapState → Type 0
 AreMaps rows contents maps = (rows_of maps ≡ rows) × (contents_of maps ≡ contents)
 
--- what the last line shows, what is noted of the stream's frames, and the maps as the last of them
--- leaves them
-abbrev pub ShowsNoted : List MapDef → Noting → Rule → Noted → List KeyValues → Stream → Traced
-    → Type 0
-ShowsNoted rows notes rule noted contents found traced =
-    (traced.tally ≡ tally_of (length found.frames) found.finish)
-    × (noted_of traced.stops ≡ noted_after notes rule noted 0 contents found.frames)
-    × AreMaps rows (contents_after rule contents found.frames) traced.maps
-
--- the same of a run over a stream with checks, from these contents of the maps on
+-- What the last line shows, where the runs of the stream's frames stopped, and the maps as the last
+-- of them leaves them: of a run over a stream with checks, from these contents of the maps on.
 abbrev pub ShowsTracedFrom : Program → ℕ → List KeyValues → Stream → Traced → Type 0
 ShowsTracedFrom p limit contents found traced =
-    ShowsNoted p.maps (checked_notes p limit) (checked_rule p limit) nothing_noted contents found
-    traced
+    (traced.tally ≡ tally_of (length found.frames) found.finish)
+    × (noted_of traced.stops
+    ≡ noted_after (checked_notes p limit) (checked_rule p limit) nothing_noted 0 contents
+    found.frames)
+    × AreMaps p.maps (contents_after (checked_rule p limit) contents found.frames) traced.maps
 
 -- from new maps on
 abbrev pub ShowsTraced : Program → ℕ → Stream → Traced → Type 0

@@ -1,17 +1,22 @@
 //! Runs on the checked machine over streams.
-ghost use Rattle.std.specs.Prelude.{◌≡◌, ◌≢◌, ◌≤◌};
+ghost use Rattle.std.specs.Prelude.{◌≡◌, ◌≢◌, ◌≤◌, IfOk, IfErr};
 ghost use Rattle.isa_model.specs.Code.Limits.{max_steps};
 ghost use Rattle.isa_model.specs.Reporting.Reports.{checked_report, checked_report_from};
 ghost use Rattle.maps.specs.Maps.{rows_of, contents_of};
+ghost use Rattle.host.specs.Counts.{ShowsTracedCounted};
 ghost use Rattle.host.specs.Reported.{Reports};
-ghost use Rattle.host.specs.Stops.{ShowsTraced, ShowsTracedFrom};
+ghost use Rattle.host.specs.Stops.{noted_of, nothing_noted, ShowsTraced, ShowsTracedFrom};
 
 use super::clocks::FrameClock;
+use super::closings::end_report;
+use super::counting::Counting;
+use super::counts::FrameCounts;
 use super::engine::run_frames;
 use super::errors::HostError;
+use super::reports::Report;
 use super::runners::Runner;
 use super::stops::Stops;
-use super::traced::Traced;
+use super::traced::{Counted, Traced};
 use super::versions::version_of;
 use checked_vm::Checked;
 use frames::Source;
@@ -32,28 +37,34 @@ struct CheckedRunner {
     ghost most: { limit ≤ max_steps },
 }
 
-impl Runner for CheckedRunner {
-    ghost use Rattle.isa_model.specs.Reporting.Reports.{checked_rule};
-    ghost use Rattle.host.specs.Stops.{noted_of, checked_notes};
-
-    ghost rows = { λ runner. runner.machine.program.maps };
-
-    ghost contents = { λ runner. runner.machine.contents };
-
-    ghost rule = { λ runner. checked_rule runner.machine.program runner.limit };
-
-    ghost noted = { λ runner. noted_of runner.stops };
-
-    ghost notes = { λ runner. checked_notes runner.machine.program runner.limit };
-
-    fn run(&mut self, number: u32, head: FrameHead, body: &mut [u8]) -> End {
-        let mut clock = FrameClock { time: head.time };
-        let stop = self.machine.run_to_stop(head, body, &mut clock, self.limit);
-        self.stops.note(number, stop);
-        stop.end
+impl CheckedRunner {
+    // A machine with these maps, of which no frames are noted.
+    fn new(alloc: Global, image: Image, maps: Maps, limit: u32) -> Result<Self, HostError>
+        requires rows { rows_of maps ≡ image.maps }
+        requires some { 1 ≤ limit }
+        requires most { limit ≤ max_steps }
+        ensures machine { IfOk result (λ runner. runner.machine
+            ≡ record { program = image; contents = contents_of maps }) }
+        ensures limit { IfOk result (λ runner. runner.limit ≡ limit) }
+        ensures stops { IfOk result (λ runner. noted_of runner.stops ≡ nothing_noted) }
+        ensures memory { IfErr result (λ error. error ≡ HostError.Memory) }
+    {
+        match Checked::with_maps(alloc, image, maps) {
+            Ok(machine) => Ok(CheckedRunner {
+                machine,
+                limit,
+                stops: Stops::new(),
+            }),
+            Err(_) => Err(HostError::Memory),
+        }
     }
 
-    fn into_parts(self) -> (Maps, Stops) {
+    // The maps, and what was noted.
+    fn into_parts(self) -> (Maps, Stops)
+        ensures rows { rows_of result.0 ≡ self.machine.program.maps }
+        ensures contents { contents_of result.0 ≡ self.machine.contents }
+        ensures stops { result.1 ≡ self.stops }
+    {
         let CheckedRunner {
             machine,
             limit: _,
@@ -61,6 +72,29 @@ impl Runner for CheckedRunner {
         } = self;
         (machine.into_maps(), stops)
     }
+}
+
+impl Runner for CheckedRunner {
+    ghost use Rattle.host.specs.Stops.{Noted, noted_of, checked_notes};
+
+    ghost Notes = { Noted };
+
+    ghost bounded = { λ r. record { program = r.machine.program; bound = r.limit } };
+
+    ghost contents = { λ r. r.machine.contents };
+
+    ghost noted = { λ r. noted_of r.stops };
+
+    ghost notes = { λ r. checked_notes r.machine.program r.limit };
+
+    fn run_packet(&mut self, number: u32, head: FrameHead, body: &mut [u8]) -> End {
+        let mut clock = FrameClock { time: head.time };
+        let stop = self.machine.run_to_stop(head, body, &mut clock, self.limit);
+        self.stops.note(number, stop);
+        stop.end
+    }
+
+    fn pass_over(&mut self) {}
 }
 
 /// Runs an image's program, with every access tested, on the frames of the stream that a source
@@ -98,15 +132,63 @@ pub fn run_checked_from<R: Source + Drop, W1: Write, W2: Write>(
         record { report = W1.contents report.new; sent = W2.contents out.new } result }
 {
     let program_version = version_of(image.version());
-    let Ok(machine) = Checked::with_maps(alloc, image, maps) else {
-        return Err(HostError::Memory);
+    let mut runner = match CheckedRunner::new(alloc, image, maps, limit) {
+        Ok(runner) => runner,
+        Err(error) => return Err(error),
     };
-    let runner = CheckedRunner {
-        machine,
-        limit,
-        stops: Stops::new(),
+    match run_frames(&mut runner, limit, program_version, source, report, out) {
+        Ok(ended) => {
+            let (maps, stops) = runner.into_parts();
+            end_report(ended, maps, stops, report)
+        }
+        Err(error) => Err(error),
+    }
+}
+
+/// Runs an image's program as `run_checked_from` does, and counts the packet frames by how they
+/// ended. The report may be written nowhere: then no line of it is made.
+pub fn run_checked_counted_from<R: Source + Drop, L: Report, W: Write>(
+    alloc: Global,
+    image: Image,
+    maps: Maps,
+    limit: u32,
+    source: R,
+    report: &mut L,
+    out: &mut W,
+) -> Result<Counted, HostError>
+    requires rows { rows_of maps ≡ image.maps }
+    requires some { 1 ≤ limit }
+    requires most { limit ≤ max_steps }
+    ensures report_untouched { result ≡ Err HostError.Memory
+        → L.written report.new ≡ L.written report.old }
+    ensures out_untouched { result ≡ Err HostError.Memory
+        → W.contents out.new ≡ W.contents out.old }
+    ensures reports { result ≢ Err HostError.Memory
+        → Reports record { bytes = R.remaining source; may_fail = R.may_fail }
+        (checked_report_from image limit (contents_of maps))
+        (ShowsTracedCounted image limit (contents_of maps))
+        record { report = L.written report.old; sent = W.contents out.old }
+        record { report = L.written report.new; sent = W.contents out.new } result }
+{
+    let program_version = version_of(image.version());
+    let mut runner = match CheckedRunner::new(alloc, image, maps, limit) {
+        Ok(runner) => Counting {
+            runner,
+            program: program_version,
+            counts: FrameCounts::new(),
+        },
+        Err(error) => return Err(error),
     };
-    run_frames(runner, limit, program_version, source, report, out)
+    let ended = match run_frames(&mut runner, limit, program_version, source, report, out) {
+        Ok(ended) => ended,
+        Err(error) => return Err(error),
+    };
+    let Counting { runner, counts, .. } = runner;
+    let (maps, stops) = runner.into_parts();
+    match end_report(ended, maps, stops, report) {
+        Ok(traced) => Ok(Counted { traced, counts }),
+        Err(error) => Err(error),
+    }
 }
 
 /// Runs an image's program as `run_checked_from` does, from new maps on.

@@ -6,14 +6,19 @@
 
 mod checked;
 mod clocks;
+mod closings;
+mod counting;
+mod counts;
+mod end_counts;
+mod endings;
 mod engine;
 mod errors;
 mod forms;
-mod key_values;
 mod lines;
-mod listings;
 mod magics;
+mod on_machines;
 mod reasons;
+mod reports;
 mod runners;
 mod stops;
 mod tallies;
@@ -21,9 +26,13 @@ mod traced;
 mod verified;
 mod versions;
 
-pub use checked::{run_checked, run_checked_from};
+pub use checked::{run_checked, run_checked_counted_from, run_checked_from};
+pub use counts::{FrameCounts, MOST_REASONS, ReasonCount};
+pub use end_counts::{ActionCounts, TrapCounts};
 pub use errors::HostError;
+pub use on_machines::run_on;
+pub use reports::{NoReport, Report};
 pub use stops::{FrameStop, Stops};
 pub use tallies::Tally;
-pub use traced::{Traced, tally_in};
-pub use verified::{run, run_from};
+pub use traced::{Counted, Traced, tally_in};
+pub use verified::{run, run_counted_from, run_from};

@@ -1,48 +1,47 @@
 //! The machines that run packet frames.
 ghost use Rattle.std.specs.Prelude.{◌≡◌, ◌≤◌, length, List};
-ghost use Rattle.isa_model.specs.declared.map_defs.MapDef.{MapDef};
 ghost use Rattle.isa_model.specs.{KeyValues, max_packet};
-ghost use Rattle.isa_model.specs.Reporting.Reports.{Rule};
-ghost use Rattle.maps.specs.Maps.{rows_of, contents_of};
-ghost use Rattle.host.specs.Stops.{Noted, Noting, noted_of};
+ghost use Rattle.bounds.specs.Bounds.{Bounded};
+ghost use Rattle.host.specs.Stops.{Noting};
+ghost use Rattle.host.specs.Turns.{rule_of};
 
-use super::stops::Stops;
 use isa_model::{End, FrameHead};
-use maps::Maps;
 
 /// A machine with a program and its maps.
 pub trait Runner {
-    /// The maps' rows.
-    ghost rows: { Self → List MapDef };
+    /// What is noted of frames.
+    ghost Notes: { Type 0 };
+
+    /// The program, and the most steps of a run.
+    ghost bounded: { Self → Bounded };
 
     /// The maps' contents.
     ghost contents: { Self → List KeyValues };
 
-    /// The turn of a run on a frame and on map contents.
-    ghost rule: { Self → Rule };
+    /// What is noted of the frames so far.
+    ghost noted: { Self → Notes };
 
-    /// What is noted of the frames that were run.
-    ghost noted: { Self → Noted };
-
-    /// What is noted of a frame that is run.
-    ghost notes: { Self → Noting };
+    /// What is noted of one more frame.
+    ghost notes: { Self → Noting Notes };
 
     /// Runs a frame with this number, and leaves in `body` its bytes after the run.
-    fn run(&mut self, number: u32, head: FrameHead, body: &mut [u8]) -> End
+    fn run_packet(&mut self, number: u32, head: FrameHead, body: &mut [u8]) -> End
         requires { length body.old ≤ max_packet }
-        ensures ends { result ≡ (rule self.old head body.old (contents self.old)).ends }
-        ensures body { body.new ≡ (rule self.old head body.old (contents self.old)).packet }
+        ensures ends { result
+            ≡ (rule_of (bounded self.old) head body.old (contents self.old)).ends }
+        ensures body { body.new
+            ≡ (rule_of (bounded self.old) head body.old (contents self.old)).packet }
         ensures contents { contents self.new
-            ≡ (rule self.old head body.old (contents self.old)).contents }
+            ≡ (rule_of (bounded self.old) head body.old (contents self.old)).contents }
         ensures noted { noted self.new
-            ≡ notes self.old (noted self.old) number head body.old (contents self.old) }
+            ≡ (notes self.old).run (noted self.old) number head body.old (contents self.old) }
         ensures notes { notes self.new ≡ notes self.old }
-        ensures rule { rule self.new ≡ rule self.old }
-        ensures rows { rows self.new ≡ rows self.old };
+        ensures bounded { bounded self.new ≡ bounded self.old };
 
-    /// Returns the maps, and what is noted of the frames.
-    fn into_parts(self) -> (Maps, Stops)
-        ensures rows { rows_of result.0 ≡ rows self }
-        ensures contents { contents_of result.0 ≡ contents self }
-        ensures noted { noted_of result.1 ≡ noted self };
+    /// Passes over a frame.
+    fn pass_over(&mut self)
+        ensures contents { contents self.new ≡ contents self.old }
+        ensures noted { noted self.new ≡ (notes self.old).skip (noted self.old) }
+        ensures notes { notes self.new ≡ notes self.old }
+        ensures bounded { bounded self.new ≡ bounded self.old };
 }

@@ -3,6 +3,7 @@
 ghost use Rattle.std.specs.Prelude.{◌≡◌};
 ghost use Rattle.host.specs.Tallies.{tallied};
 
+use super::counts::FrameCounts;
 use super::errors::HostError;
 use super::stops::Stops;
 use super::tallies::Tally;
@@ -15,6 +16,13 @@ pub struct Traced {
     pub tally: Tally,
     pub stops: Stops,
     pub maps: Maps,
+}
+
+/// What a run over a stream shows, and how many of its packet frames ended in each way.
+#[derive(Drop)]
+pub struct Counted {
+    pub traced: Traced,
+    pub counts: FrameCounts,
 }
 
 /// The tally of a run over a stream, if it came to its last line.

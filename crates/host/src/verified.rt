@@ -2,14 +2,19 @@
 ghost use Rattle.std.specs.Prelude.{◌≡◌, ◌≢◌};
 ghost use Rattle.maps.specs.Maps.{rows_of, contents_of};
 ghost use Rattle.host.specs.Accepted.{ReportsRun, ReportsRunFrom, ShowsLast};
+ghost use Rattle.host.specs.Counts.{ShowsCounted};
 
 use super::clocks::FrameClock;
+use super::closings::end_report;
+use super::counting::Counting;
+use super::counts::FrameCounts;
 use super::engine::run_frames;
 use super::errors::HostError;
+use super::reports::Report;
 use super::runners::Runner;
 use super::stops::Stops;
 use super::tallies::Tally;
-use super::traced::{Traced, tally_in};
+use super::traced::{Counted, Traced, tally_in};
 use super::versions::version_of;
 use bounds::Verified;
 use frames::Source;
@@ -19,36 +24,29 @@ use maps::Maps;
 use std::alloc::Global;
 use std::io::Write;
 
-// A machine whose every run exits.
-#[derive(Drop)]
-struct MachineRunner {
-    machine: Machine,
-}
+// A machine whose every run exits; nothing is noted.
+impl Runner for Machine {
+    ghost use Rattle.host.specs.Stops.{no_notes};
+    ghost use Rattle.host.specs.OnMachines.{bounded_of};
 
-impl Runner for MachineRunner {
-    ghost use Rattle.isa_model.specs.Reporting.Reports.{checked_rule};
-    ghost use Rattle.host.specs.Stops.{nothing_noted, no_notes};
+    ghost Notes = { Unit {0} };
 
-    ghost rows = { λ runner. runner.machine.program.maps };
+    ghost bounded = { λ machine. bounded_of machine };
 
-    ghost contents = { λ runner. runner.machine.contents };
+    ghost contents = { λ machine. machine.contents };
 
-    ghost rule = { λ runner. checked_rule runner.machine.program runner.machine.bound };
+    ghost noted = { λ machine. tt };
 
-    ghost noted = { λ runner. nothing_noted };
+    ghost notes = { λ machine. no_notes };
 
-    ghost notes = { λ runner. no_notes };
-
-    fn run(&mut self, _number: u32, head: FrameHead, body: &mut [u8]) -> End {
+    #[inline(always)]
+    fn run_packet(&mut self, _number: u32, head: FrameHead, body: &mut [u8]) -> End {
         let mut clock = FrameClock { time: head.time };
-        let exit = self.machine.run(head, body, &mut clock);
+        let exit = self.run(head, body, &mut clock);
         End::Exit(exit.r0, exit.steps)
     }
 
-    fn into_parts(self) -> (Maps, Stops) {
-        let MachineRunner { machine } = self;
-        (machine.into_maps(), Stops::new())
-    }
+    fn pass_over(&mut self) {}
 }
 
 /// Runs an accepted program on the packet frames of the stream that a source returns, from these
@@ -87,11 +85,57 @@ pub fn run_from<R: Source + Drop, W1: Write, W2: Write>(
     maps.say_fits();
     let bound = verified.bound();
     let program_version = version_of(verified.image().version());
+    let Ok(mut machine) = Machine::new(alloc, verified, maps) else {
+        return Err(HostError::Memory);
+    };
+    match run_frames(&mut machine, bound, program_version, source, report, out) {
+        Ok(ended) => end_report(ended, machine.into_maps(), Stops::new(), report),
+        Err(error) => Err(error),
+    }
+}
+
+/// Runs an accepted program as `run_from` does, and counts the packet frames by how they ended. The
+/// report may be written nowhere: then no line of it is made.
+pub fn run_counted_from<R: Source + Drop, L: Report, W: Write>(
+    alloc: Global,
+    verified: Verified,
+    maps: Maps,
+    source: R,
+    report: &mut L,
+    out: &mut W,
+) -> Result<Counted, HostError>
+    requires { rows_of maps ≡ verified.program.maps }
+    ensures report_untouched { result ≡ Err HostError.Memory
+        → L.written report.new ≡ L.written report.old }
+    ensures out_untouched { result ≡ Err HostError.Memory
+        → W.contents out.new ≡ W.contents out.old }
+    ensures reports { result ≢ Err HostError.Memory
+        → ReportsRunFrom verified (contents_of maps)
+        record { bytes = R.remaining source; may_fail = R.may_fail }
+        (ShowsCounted verified (contents_of maps))
+        record { report = L.written report.old; sent = W.contents out.old }
+        record { report = L.written report.new; sent = W.contents out.new } result }
+{
+    maps.say_fits();
+    let bound = verified.bound();
+    let program_version = version_of(verified.image().version());
     let Ok(machine) = Machine::new(alloc, verified, maps) else {
         return Err(HostError::Memory);
     };
-    let runner = MachineRunner { machine };
-    run_frames(runner, bound, program_version, source, report, out)
+    let mut runner = Counting {
+        runner: machine,
+        program: program_version,
+        counts: FrameCounts::new(),
+    };
+    let ended = match run_frames(&mut runner, bound, program_version, source, report, out) {
+        Ok(ended) => ended,
+        Err(error) => return Err(error),
+    };
+    let Counting { runner, counts, .. } = runner;
+    match end_report(ended, runner.into_maps(), Stops::new(), report) {
+        Ok(traced) => Ok(Counted { traced, counts }),
+        Err(error) => Err(error),
+    }
 }
 
 /// Runs an accepted program as `run_from` does, from new maps on.

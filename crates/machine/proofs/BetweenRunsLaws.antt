@@ -25,7 +25,7 @@ use Rattle.maps.specs.ReportOrder.{with_key_of}
 use Rattle.maps.proofs.MapLaws.{FitsRow-IsMap, FitRows-IsMap, contents_of-at, contents_of-set, rows_of-set, length-rows_of}
 use Rattle.word_machine.specs.declared.memory.Memory.{Memory}
 use Rattle.machine.specs.Running.{Running}
-use Rattle.machine.specs.Ready.{IsReady}
+use Rattle.machine.specs.Ready.{IsReady, IsVersioned}
 use Rattle.machine.specs.BetweenRuns.{row_at, content_at, ordered_at, with_content, key_or, value_or, AnswersUpdate, AnswersDelete, CopiesKeyValue}
 
 abbrev no_row : MapDef
@@ -107,7 +107,7 @@ module _ (p : Program) (bound : ℕ) (maps : List MapState) (rows : rows_of maps
         })
 
 -- with other maps of the same rows the machine can run again
-pub ready_again : (p : Program) (bound : ℕ) (memory : Memory) (new : List MapState)
+ready_again : (p : Program) (bound : ℕ) (memory : Memory) (new : List MapState)
     → IsReady p bound memory → rows_of new ≡ p.maps → All IsMap new
     → IsReady p bound (record memory { maps = new })
 ready_again p bound memory new ready rows are = record {
@@ -123,6 +123,14 @@ ready_again p bound memory new ready rows are = record {
   whole = ready.whole;
   outer = ready.outer;
   capacity = ready.capacity;
+}
+
+pub versioned_again : (p : Program) (bound version : ℕ) (memory : Memory) (new : List MapState)
+    → IsVersioned p bound version memory → rows_of new ≡ p.maps → All IsMap new
+    → IsVersioned p bound version (record memory { maps = new })
+versioned_again p bound version memory new kept rows are = record {
+  ready = ready_again p bound memory new kept.ready rows are;
+  version_is = kept.version_is;
 }
 
 -- ---- sizes of keys and values

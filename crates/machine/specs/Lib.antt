@@ -6,3 +6,4 @@ pub mod Following
 pub mod Running
 pub mod Ready
 pub mod BetweenRuns
+pub mod Texts

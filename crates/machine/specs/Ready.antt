@@ -3,6 +3,7 @@ use Rattle.std.specs.Prelude.{◌≡◌, ℕ, ◌≤◌, [], length, vec_capacit
 use Rattle.word_machine.specs.Addresses.{frames_size}
 use Rattle.isa_model.specs.Code.Limits.{max_maps, max_call_frames}
 use Rattle.isa_model.specs.Code.Instructions.{Program}
+use Rattle.isa_model.specs.Code.Versions.{version_number}
 use Rattle.maps.specs.Maps.{rows_of, contents_of}
 use Rattle.word_machine.specs.declared.memory.Memory.{Memory}
 use Rattle.machine.specs.Running.{RunsWithinBound}
@@ -17,3 +18,8 @@ pub record IsReady (p : Program) (bound : ℕ) (memory : Memory) : Type 0 where
   pub whole : length memory.frames.items ≡ frames_size
   pub outer : memory.saved.items ≡ []
   pub capacity : vec_capacity memory.saved ≡ max_call_frames
+
+-- it is ready, and the number beside its program is that of the program's version
+pub record IsVersioned (p : Program) (bound version : ℕ) (memory : Memory) : Type 0 where
+  pub ready : IsReady p bound memory
+  pub version_is : version ≡ version_number p.version

@@ -1,19 +1,28 @@
 //! Machines, and their runs.
 
-ghost use Rattle.std.specs.Prelude.{◌≡◌, ◌<◌, ◌≤◌, ◌^◌, length, IfOk, IfSome, option_copied};
+ghost use Rattle.std.specs.Prelude.{◌≡◌, ◌<◌, ◌≤◌, ◌^◌, length, IfOk, OnOk, OnErr, IfSome, option_copied};
 ghost use Rattle.std.specs.List.{slice_get};
+ghost use Rattle.std.specs.Io.KnownBytes.{Appends};
+ghost use Rattle.exact_io.specs.Transfers.{AppendsBeginning};
 ghost use Rattle.isa_model.specs.{max_packet};
+ghost use Rattle.isa_model.specs.Code.Versions.{version_number};
 ghost use Rattle.isa_model.specs.Machine.MachineStates.{AreBytes};
 ghost use Rattle.isa_model.specs.Machine.MapContents.{at_key};
 ghost use Rattle.maps.specs.Maps.{rows_of, contents_of};
+ghost use Rattle.map_texts.specs.Listings.{ReadsBack, text_of};
+ghost use Rattle.map_texts.specs.Reading.{error_of};
 ghost use Rattle.machine.specs.Running.{ReturnsOutcome, RunsWithinBound};
 ghost use Rattle.machine.specs.BetweenRuns.{row_at, content_at, ordered_at, AnswersUpdate, AnswersDelete, CopiesKeyValue};
+ghost use Rattle.machine.specs.Texts.{FillsMaps};
 
 use crate::VmError;
 use bounds::Verified;
 use isa_model::{Clock, FrameHead, MAX_KEY_SIZE, MapDef};
+use map_texts::{MapTextError, fill_maps_by, write_maps};
 use maps::Maps;
 use std::alloc::Global;
+use std::io;
+use std::io::Write;
 use std::marker::Model;
 use word_machine::addresses::{CONTEXT, FRAME_END};
 use word_machine::loaded::Loaded;
@@ -35,12 +44,13 @@ pub struct Machine {
     program: Loaded,
     memory: Memory,
     bound: u32,
+    version: u8,
 }
 
 impl Model for Machine {
     ghost use Rattle.maps.specs.Maps.{contents_of};
     ghost use Rattle.machine.specs.Running.{Running};
-    ghost use Rattle.machine.specs.Ready.{IsReady};
+    ghost use Rattle.machine.specs.Ready.{IsVersioned};
 
     ghost Value = { Running };
 
@@ -50,7 +60,8 @@ impl Model for Machine {
       contents = contents_of machine.memory.maps;
     } };
 
-    ghost invariant = { λ machine. IsReady machine.program machine.bound machine.memory };
+    ghost invariant = { λ machine. IsVersioned machine.program machine.bound machine.version
+        machine.memory };
 }
 
 // Makes known to proofs what the types of a head and a packet say.
@@ -76,6 +87,7 @@ impl Machine {
     {
         maps.say_fits();
         let bound = verified.bound();
+        let version = verified.image().version();
         let Ok(program) = Loaded::new(alloc, verified.into_image()) else {
             return Err(VmError::Memory);
         };
@@ -86,6 +98,7 @@ impl Machine {
             program,
             memory,
             bound,
+            version,
         })
     }
 
@@ -98,6 +111,7 @@ impl Machine {
             program: _,
             memory,
             bound: _,
+            version: _,
         } = self;
         memory.maps
     }
@@ -108,6 +122,13 @@ impl Machine {
         ensures runs { RunsWithinBound self.now }
     {
         self.bound
+    }
+
+    /// The number of the program's version.
+    pub fn version(&self) -> u8
+        ensures { result ≡ version_number self.now.program.version }
+    {
+        self.version
     }
 
     /// How many maps the program has.
@@ -184,6 +205,32 @@ impl Machine {
         key.copy_from_slice(&front[..key.len()]);
         value.copy_from_slice(found);
         true
+    }
+
+    /// Fills the maps between runs by the lines of a text, each an update with the flag ANY, up to
+    /// the first line that is refused; what the lines before it did stays. It takes no memory.
+    pub fn fill(&mut self, text: &[u8]) -> Result<(), MapTextError>
+        ensures { FillsMaps text.now (error_of result) self.old self.new }
+    {
+        let filled = fill_maps_by(&mut self.memory.maps, text);
+        self.memory.maps.say_fits();
+        filled
+    }
+
+    /// Writes the lines of the maps between runs, as a report has them. It takes no memory.
+    ///
+    /// The writer's first error, of any kind, is the failure and is returned; a write of no byte is
+    /// the failure `ErrorKind::WriteZero`. Nothing is tried again.
+    pub fn list<W: Write>(&mut self, writer: &mut W) -> io::Result<()>
+        ensures ok { OnOk result (Appends (W.contents writer.old) (W.contents writer.new)
+            (text_of self.old.program.maps self.old.contents)) }
+        ensures err { OnErr result
+            (AppendsBeginning (W.contents writer.old) (W.contents writer.new)
+            (text_of self.old.program.maps self.old.contents)) }
+        ensures read_back { ReadsBack self.old.program.maps self.old.contents }
+        ensures machine { self.new ≡ self.old }
+    {
+        write_maps(&mut self.memory.maps, writer)
     }
 
     /// Runs the program on a packet from the start, to its exit. It takes no memory.

@@ -14,12 +14,12 @@ use Rattle.map_texts.specs.declared.errors.MapTextError.{MapTextError}
 use Rattle.map_texts.specs.declared.errors.MapTextErrorKind.TheVariants.{ReadFailed}
 use Rattle.map_texts.specs.Fillings.{after_line, after_lines, is_line_feed, filled_by}
 use Rattle.map_texts.specs.Reading.{AreFilledFrom, IsTextFrom, TellsReadFailure, filled_of, error_of}
-use Rattle.map_texts.specs.Progress.{GoesOnReading, StopsFilling, IsPending}
+use Rattle.map_texts.specs.Progress.{GoesOnReading, StopsFilling, IsPending, HasNoFeed}
 use Rattle.map_texts.proofs.LineLaws.{allowed_cut}
 use Rattle.map_texts.proofs.Splitting.{left_none}
 
 -- bytes that are read behind others
-pub filled_more : (at room count : ℕ) (buffer bytes : List ℕ) → at ≤ length buffer
+filled_more : (at room count : ℕ) (buffer bytes : List ℕ) → at ≤ length buffer
     → count ≤ length bytes
     → take (at + count) (put_mid at room buffer bytes) ≡ take at buffer ++ take count bytes
 filled_more at room count buffer bytes within fits =
@@ -33,7 +33,7 @@ filled_more at room count buffer bytes within fits =
     ∙ ap (λ (l : List ℕ). take at buffer ++ l) (take-append-le count bytes after fits)
 
 -- more bytes are read
-pub more_read : (rows : List MapDef) (first number : ℕ) (contents held : List KeyValues)
+more_read : (rows : List MapDef) (first number : ℕ) (contents held : List KeyValues)
     (read pending more : List ℕ)
     → GoesOnReading rows first contents read number held pending
     → GoesOnReading rows first contents (read ++ more) number held (pending ++ more)
@@ -43,6 +43,43 @@ more_read rows first number contents held read pending more before ending rest =
     ∙ before ending (more ++ rest)
     ∙ ap (λ (l : List ℕ). after_lines ending rows number held (slice_split is_line_feed l))
     (sym (append_assoc pending more rest))
+
+-- what the buffer has after a read, behind what was pending
+pub read_on : (rows : List MapDef) (first number : ℕ) (contents held : List KeyValues)
+    (read buffer bytes : List ℕ) (at room count : ℕ) → at ≤ length buffer → count ≤ length bytes
+    → GoesOnReading rows first contents read number held (take at buffer)
+    → GoesOnReading rows first contents (read ++ take count bytes) number held
+    (take (at + count) (put_mid at room buffer bytes))
+read_on rows first number contents held read buffer bytes at room count within fits before =
+    subst (GoesOnReading rows first contents (read ++ take count bytes) number held)
+    (sym (filled_more at room count buffer bytes within fits))
+    (more_read rows first number contents held read (take at buffer) (take count bytes) before)
+
+-- ---- a text whose whole lines were taken
+
+module _ (rows : List MapDef) (old : List KeyValues) (bytes : List ℕ) where
+  -- what is left is its last line
+  pub last_line : (number : ℕ) (held : List KeyValues) (line : List ℕ) → HasNoFeed line
+      → GoesOnReading rows 1 old bytes number held line
+      → after_line rows number held line
+      ≡ filled_by rows old (record { bytes = bytes; ending = ByEnd })
+  last_line number held line none goes_on =
+      sym (left_none rows number held ByEnd line none)
+      ∙ ap (λ (l : List ℕ). after_lines ByEnd rows number held (slice_split is_line_feed l))
+      (sym (append-nil line))
+      ∙ sym (goes_on ByEnd [])
+      ∙ ap (λ (l : List ℕ). after_lines ByEnd rows 1 old (slice_split is_line_feed l))
+      (append-nil bytes)
+
+  -- or one of them was refused
+  pub line_refused : (held : List KeyValues) (error : MapTextError)
+      → StopsFilling rows 1 old bytes held error
+      → filled_by rows old (record { bytes = bytes; ending = ByEnd })
+      ≡ record { contents = held; error = Some error }
+  line_refused held error stops =
+      ap (λ (l : List ℕ). after_lines ByEnd rows 1 old (slice_split is_line_feed l))
+      (sym (append-nil bytes))
+      ∙ stops ByEnd []
 
 module _ (source now : Option (List ℕ)) (read : List ℕ) (consumed : Consumes source now read) where
   -- the bytes of a source: those that were read, and those that are left
@@ -134,13 +171,8 @@ module _ (source now : Option (List ℕ)) (read : List ℕ) (consumed : Consumes
     at_end new result end rows is =
         by_end old new result rows end
         (is
-        ∙ sym (left_none (rows_of old) number (contents_of now_maps) ByEnd pending
-        is_pending.unended)
-        ∙ ap (λ (l : List ℕ). after_lines ByEnd (rows_of old) number (contents_of now_maps)
-        (slice_split is_line_feed l)) (sym (append-nil pending))
-        ∙ sym (goes_on ByEnd [])
-        ∙ ap (λ (l : List ℕ). after_lines ByEnd (rows_of old) 1 (contents_of old)
-        (slice_split is_line_feed l)) (append-nil read))
+        ∙ last_line (rows_of old) (contents_of old) read number (contents_of now_maps) pending
+        is_pending.unended goes_on)
 
     -- the source failed
     pub at_error : (error : MapTextError)

@@ -179,7 +179,8 @@ module _ (index : ℕ) (small : index < 2 ^ 64) where
   digits_plain : All Plain (decimal index)
   digits_plain = All-weaker Digit Plain digit_plain (decimal index) spelled.each
 
-  module _ (e : List ℕ × List ℕ) (row : MapDef) (fits : IsKeyValue row e) (row_fits : IsRow row) where
+  module _ (e : List ℕ × List ℕ) (row : MapDef) (fits : IsKeyValue row e)
+      (row_fits : IsRow row) where
     abbrev rest : List ℕ
     rest = encode_lower e.0 ++ 32 ∷ encode_lower e.1
 

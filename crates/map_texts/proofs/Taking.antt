@@ -52,7 +52,8 @@ module _ (bytes : List ℕ) (start at : ℕ) (ordered : start ≤ at) (inside : 
         → GoesOnReading rows first contents bytes (number + 1) later (drop (at + 1) bytes)
     taken later is ending more =
         before ending more
-        ∙ subst (λ (l : List ℕ). GoesOnReading rows number held l (number + 1) later (drop (at + 1) bytes))
+        ∙ subst (λ (l : List ℕ). GoesOnReading rows number held l (number + 1) later
+        (drop (at + 1) bytes))
         (sym (cut feed))
         (line_taken rows number held line (drop (at + 1) bytes) later none is) ending more
 

@@ -65,7 +65,8 @@ and_then next filled None = next filled.contents
 and_then next filled (Some error) = filled
 
 -- after the lines of a text, the first of them with this number
-unfoldable pub after_lines : InputEnding → List MapDef → ℕ → List KeyValues → List (List ℕ) → FilledMaps
+unfoldable pub after_lines : InputEnding → List MapDef → ℕ → List KeyValues → List (List ℕ)
+    → FilledMaps
 after_lines ending rows number contents [] = accepted contents
 after_lines ending rows number contents (line ∷ lines) =
     elim lines [

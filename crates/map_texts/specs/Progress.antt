@@ -83,4 +83,5 @@ abbrev pub TakesBytes : List MapDef → ℕ → (old new : List KeyValues) → (
     → Result Pending MapTextError → Type 0
 TakesBytes rows number old new bytes buffer (Ok pending) =
     ArePending rows number old new bytes buffer pending
-TakesBytes rows number old new bytes buffer (Err error) = StopsFilling rows number old bytes new error
+TakesBytes rows number old new bytes buffer (Err error) =
+    StopsFilling rows number old bytes new error

@@ -1,9 +1,11 @@
 //! Reads a text, and fills maps by its lines.
 
 ghost use Rattle.std.specs.Prelude.{◌≡◌, ◌+◌, ◌*◌, ◌^◌, ◌<◌, ◌≤◌, length, take, drop, slice_range};
+ghost use Rattle.isa_model.specs.Reporting.Streams.{ByEnd};
 ghost use Rattle.maps.specs.Maps.{rows_of, contents_of};
+ghost use Rattle.map_texts.specs.Fillings.{filled_by};
 ghost use Rattle.map_texts.specs.Lines.{longest_line, most_line_size};
-ghost use Rattle.map_texts.specs.Reading.{AreFilledFrom};
+ghost use Rattle.map_texts.specs.Reading.{AreFilledFrom, filled_of};
 ghost use Rattle.map_texts.specs.Progress.{TakesLines, Keeps, TakesBytes};
 
 use super::errors::{MapTextError, MapTextErrorKind};
@@ -138,10 +140,7 @@ pub fn fill_maps<R: Read>(maps: &mut Maps, source: &mut R) -> Result<(), MapText
     ensures { AreFilledFrom (R.remaining source.old) maps.old maps.new result }
 {
     let longest = longest_line(maps);
-    let mut room = LineRoom {
-        key: [0; FIELD_ROOM],
-        value: [0; FIELD_ROOM],
-    };
+    let mut room = LineRoom::new();
     let mut buffer = [0; BUFFER_SIZE];
     let mut pending = Pending { len: 0, number: 1 };
     for _reads in 0..MOST_READS {
@@ -161,4 +160,24 @@ pub fn fill_maps<R: Read>(maps: &mut Maps, source: &mut R) -> Result<(), MapText
         }
     }
     Err(MapTextError::at(MapTextErrorKind::ReadFailed, pending.number, 1))
+}
+
+/// Fills maps by the lines of a text in memory, as `fill_maps` does by those that a source returns.
+///
+/// The first line that is refused ends the call; those before it stay done. No memory is taken.
+pub fn fill_maps_by(maps: &mut Maps, text: &[u8]) -> Result<(), MapTextError>
+    ensures rows { rows_of maps.new ≡ rows_of maps.old }
+    ensures filled { filled_of maps.new result
+        ≡ filled_by (rows_of maps.old) (contents_of maps.old)
+        (record { bytes = text.now; ending = ByEnd }) }
+{
+    let longest = longest_line(maps);
+    let mut room = LineRoom::new();
+    match take_lines(maps, longest, text, 1, &mut room) {
+        Ok(taken) => {
+            let line = &text[taken.start..];
+            take_line(maps, longest, line, taken.number, &mut room)
+        }
+        Err(error) => Err(error),
+    }
 }

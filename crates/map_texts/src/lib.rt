@@ -13,7 +13,7 @@ mod listings;
 mod longest;
 
 pub use errors::{MapTextError, MapTextErrorKind};
-pub use filling::fill_maps;
+pub use filling::{fill_maps, fill_maps_by};
 pub use listings::write_maps;
 
 #[cfg(test)]

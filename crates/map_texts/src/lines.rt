@@ -22,6 +22,16 @@ pub struct LineRoom {
     pub value: [u8; FIELD_ROOM],
 }
 
+impl LineRoom {
+    /// Room that holds zeros.
+    pub fn new() -> LineRoom {
+        LineRoom {
+            key: [0; FIELD_ROOM],
+            value: [0; FIELD_ROOM],
+        }
+    }
+}
+
 /// Where a line stands, and its fields in it.
 #[derive(Clone, Copy)]
 pub struct LinePlace {

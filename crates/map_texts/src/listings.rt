@@ -1,5 +1,5 @@
 //! The lines of what maps hold, written map by map and key by key. No memory is taken.
-ghost use Rattle.std.specs.Prelude.{◌≤◌, length, map, take, OnOk, OnErr, [], ◌∷◌};
+ghost use Rattle.std.specs.Prelude.{◌≡◌, ◌≤◌, length, map, take, OnOk, OnErr, [], ◌∷◌};
 ghost use Rattle.std.specs.Io.KnownBytes.{Appends};
 ghost use Rattle.exact_io.specs.Transfers.{AppendsBeginning};
 ghost use Rattle.isa_model.specs.Code.Limits.{max_key_size, max_value_size};
@@ -46,7 +46,8 @@ fn write_key_values<W: Write>(
     Ok(())
 }
 
-/// Writes a line for each key of each map, as a report has them. `fill_maps` reads them.
+/// Writes a line for each key of each map, as a report has them. `fill_maps` reads them. The maps
+/// stay as they are.
 ///
 /// The writer's first error, of any kind, is the failure and is returned; a write of no byte is the
 /// failure `ErrorKind::WriteZero`. Nothing is tried again.
@@ -56,6 +57,7 @@ pub fn write_maps<W: Write>(maps: &mut Maps, writer: &mut W) -> io::Result<()>
     ensures err { OnErr result (AppendsBeginning (W.contents writer.old) (W.contents writer.new)
         (text_of (rows_of maps.old) (contents_of maps.old))) }
     ensures read_back { ReadsBack (rows_of maps.old) (contents_of maps.old) }
+    ensures stay { maps.new ≡ maps.old }
 {
     for i in 0..maps.count() {
         let row = maps.row(i);

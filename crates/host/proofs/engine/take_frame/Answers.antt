@@ -1,4 +1,3 @@
-use Rattle.std.proofs.Common.{refl}
 use Rattle.std.proofs.lemmas.Bool.{eq-eqb, ne_eqb}
 use Rattle.host.proofs.engine.take_frame.Goals as goal
 
@@ -20,8 +19,8 @@ returns-else-frame-eq0-clause-writes g c =
 
 pub returns-else-frame-eq0-clause-contents : goal.returns-else-frame-eq0-clause-contents
 returns-else-frame-eq0-clause-contents g c =
-    rw (ne_eqb c.args.frame.reason 0 c.if-frame-eq0.false) refl
+    rw (ne_eqb c.args.frame.reason 0 c.if-frame-eq0.false) c.pass_over.ensures.contents
 
 pub returns-else-frame-eq0-clause-noted : goal.returns-else-frame-eq0-clause-noted
 returns-else-frame-eq0-clause-noted g c =
-    rw (ne_eqb c.args.frame.reason 0 c.if-frame-eq0.false) refl
+    rw (ne_eqb c.args.frame.reason 0 c.if-frame-eq0.false) c.pass_over.ensures.noted

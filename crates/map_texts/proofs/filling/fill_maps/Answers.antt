@@ -6,8 +6,8 @@ use borrow.Rule.Slice.PartMut.{put_mid}
 use Rattle.isa_model.specs.declared.map_defs.MapDef.{MapDef}
 use Rattle.maps.specs.Maps.{rows_of, contents_of}
 use Rattle.map_texts.specs.Fillings.{after_line}
-use Rattle.map_texts.specs.Progress.{GoesOnReading, StopsFilling, ArePending}
-use Rattle.map_texts.proofs.Finishing.{filled_more, more_read, at_end, at_error, at_refusal}
+use Rattle.map_texts.specs.Progress.{StopsFilling, ArePending}
+use Rattle.map_texts.proofs.Finishing.{read_on, at_end, at_error, at_refusal}
 use Rattle.map_texts.proofs.filling.fill_maps.Goals as goal
 
 pub returns-then-count-eq0 : goal.returns-then-count-eq0
@@ -52,19 +52,16 @@ returns-in-Err-take_bytes g c =
     let chunk = take count c.read.new.buf in
     let most = inv.len in
     let within : len ≤ length buffer = omega arith in
-    let fits : count ≤ length c.read.new.buf = c.in-Ok.ensures.bound.0 in
     let bytes = take (len + count) (put_mid len (16384 - len) buffer c.read.new.buf) in
-    let all : bytes ≡ take len buffer ++ chunk =
-    filled_more len (16384 - len) count buffer c.read.new.buf within fits in
     at_refusal (g.R.Read.remaining c.args.source.now) (g.R.Read.remaining c.read.new.self)
     (inv.read ++ chunk)
     (Consumes-trans _ _ _ _ _ inv.consumed c.in-Ok.ensures.bytes.0)
     old c.loop-reads.maps c.take_bytes.new.maps number bytes c.in-Err-take_bytes.error
     (c.in-Err-take_bytes.ensures.rows ∙ inv.rows)
-    (subst (GoesOnReading rows 1 (contents_of old) (inv.read ++ chunk) number held) (sym all)
-    (more_read rows 1 number (contents_of old) held inv.read (take len buffer) chunk inv.goes_on))
-    (subst (λ (r : List MapDef). StopsFilling r number held bytes (contents_of c.take_bytes.new.maps)
-    c.in-Err-take_bytes.error) inv.rows c.in-Err-take_bytes.ensures.taken)
+    (read_on rows 1 number (contents_of old) held inv.read buffer c.read.new.buf len (16384 - len)
+    count within c.in-Ok.ensures.bound.0 inv.goes_on)
+    (subst (λ (r : List MapDef). StopsFilling r number held bytes
+    (contents_of c.take_bytes.new.maps) c.in-Err-take_bytes.error) inv.rows c.in-Err-take_bytes.ensures.taken)
 
 pub returns-in-Err : goal.returns-in-Err
 returns-in-Err g c =
@@ -97,16 +94,13 @@ loop-reads-preserved g c =
     let within : len ≤ length buffer = omega arith in
     let fits : count ≤ length c.read.new.buf = c.in-Ok.ensures.bound.0 in
     let bytes = take (len + count) (put_mid len (16384 - len) buffer c.read.new.buf) in
-    let all : bytes ≡ take len buffer ++ chunk =
-    filled_more len (16384 - len) count buffer c.read.new.buf within fits in
     let state =
     subst (λ (r : List MapDef). ArePending r number held (contents_of c.take_bytes.new.maps) bytes
     c.take_bytes.new.buffer c.in-Ok-take_bytes.next) inv.rows c.in-Ok-take_bytes.ensures.taken in
     let step = state.goes_on in
     let before =
-    subst (GoesOnReading rows 1 (contents_of old) (inv.read ++ chunk) number held) (sym all)
-    (more_read rows 1 number (contents_of old) held inv.read (take len buffer) chunk
-    inv.goes_on) in
+    read_on rows 1 number (contents_of old) held inv.read buffer c.read.new.buf len (16384 - len)
+    count within fits inv.goes_on in
     let size = length-take (len + count) (put_mid len (16384 - len) buffer c.read.new.buf) in
     let few = state.few in
     record {

@@ -67,5 +67,6 @@ returns-in-None-clause-taken c =
     ∙ ap (λ (l : List ℕ). left_of rows number held l ending more) same
     ∙ none_kept rows number held tail none c.args.longest c.requires.longest c.requires.most
     c.in-None.ensures ending more
-    ∙ ap (λ (e : MapTextError). let f : FilledMaps = record { contents = held; error = Some e } in f)
+    ∙ ap (λ (e : MapTextError).
+    let f : FilledMaps = record { contents = held; error = Some e } in f)
     (sym c.at.ensures)

@@ -21,8 +21,8 @@ returns-in-Err-clause-taken c =
     (contents_of c.loop-at.maps) feed state.unended state.goes_on
     (contents_of c.take_line.new.maps) c.in-Err.error
     (c.in-Err.ensures.filled
-    ∙ ap (λ (r : List MapDef). after_line r c.loop-at.taken.number (contents_of c.loop-at.maps) line)
-    c.loop-at.invariant.0)
+    ∙ ap (λ (r : List MapDef). after_line r c.loop-at.taken.number
+    (contents_of c.loop-at.maps) line) c.loop-at.invariant.0)
 
 pub loop-at-preserved : goal.loop-at-preserved
 loop-at-preserved c =

@@ -11,7 +11,8 @@ returns-then-update-ne0-clause-filled c =
     let ms = c.args.maps.now in
     let new = c.update.new.self in
     let inside : c.args.index < length ms = omega arith in
-    ap (λ (e : MapTextError). let f : FilledMaps = record { contents = contents_of new; error = Some e } in f)
+    ap (λ (e : MapTextError).
+    let f : FilledMaps = record { contents = contents_of new; error = Some e } in f)
     c.at-then-update-ne0.ensures
     ∙ put_refused ms c.args.place.number c.args.place.key_column c.args.place.value_column
     c.args.index c.args.key.now c.args.value.now inside

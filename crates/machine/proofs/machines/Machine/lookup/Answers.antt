@@ -7,7 +7,7 @@ returns-clause-size c =
     let p = c.self.inside.program in
     let bound = c.self.inside.bound in
     let maps = c.self.inside.memory.maps in
-    let ready = c.self.invariant in
+    let ready = c.self.invariant.ready in
     value_size_is maps c.say_fits.ensures c.args.map
     (inside p bound maps ready.rows c.args.self.now c.self.view_is c.args.map c.requires.map)
     c.args.key.now

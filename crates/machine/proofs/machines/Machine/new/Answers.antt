@@ -2,9 +2,11 @@ use Rattle.std.proofs.Common.{◌≡◌, ◌≤◌, ◌∙◌, List, length, sym
 use Rattle.isa_model.specs.Code.Limits.{max_maps}
 use Rattle.isa_model.specs.declared.map_defs.MapDef.{MapDef}
 use Rattle.isa_model.specs.Code.Instructions.{Program}
+use Rattle.isa_model.specs.Code.Versions.{version_number}
 use Rattle.isa_model.specs.Machine.MachineStates.{FitRows}
 use Rattle.maps.specs.Maps.{rows_of, contents_of}
 use Rattle.maps.proofs.MapLaws.{FitRows-IsMap}
+use Rattle.machine.specs.Ready.{IsReady}
 use Rattle.machine.proofs.Runs.{starts_running}
 use Rattle.machine.proofs.machines.Machine.new.Goals as goal
 
@@ -17,7 +19,7 @@ invariant_of-result c =
     let maps = c.in-Ok-new.ensures.maps in
     let program : c.in-Ok.program ≡ c.args.verified.program =
     c.in-Ok.ensures ∙ c.into_image.ensures.program in
-    record {
+    let ready : IsReady c.in-Ok.program c.bound-bound.result c.in-Ok-new.memory = record {
       running = rw (maps, c.bound-bound.ensures.bound, program) started;
       few =
           subst (λ (p : Program). length p.maps ≤ max_maps)
@@ -26,4 +28,10 @@ invariant_of-result c =
       whole = c.in-Ok-new.ensures.frames;
       outer = c.in-Ok-new.ensures.saved;
       capacity = c.in-Ok-new.ensures.capacity;
+    } in
+    record {
+      ready = ready;
+      version_is =
+          c.version-version.ensures
+          ∙ ap (λ (p : Program). version_number p.version) (c.image.ensures.program ∙ sym program);
     }
