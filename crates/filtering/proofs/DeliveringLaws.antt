@@ -23,7 +23,7 @@ use Rattle.std.specs.Prelude.{codes}
 use Rattle.filtering.specs.declared.ready.Ready.{Ready}
 use Rattle.filtering.specs.Counting.{counts_text}
 use Rattle.filtering.specs.Delivering.{Filters, GetsReport}
-use Rattle.filtering.specs.Files.{RunsSome}
+use Rattle.filtering.specs.Files.{RunsWanted}
 use Rattle.filtering.specs.Finishing.{SaysCounts}
 
 -- a buffer with no byte in it has handed on all
@@ -70,7 +70,7 @@ pub runs-reported : (ready : Ready) (contents : List KeyValues) (source : Origin
     (before after : Outputs) (result : Result Counted TaskOutcome) → report ≡ Some name
     → Filters ready contents source (record { report = name; sent = sent }) why cause before after
     result
-    → RunsSome ready contents source report sent result
+    → RunsWanted ready contents source report sent result
 runs-reported ready contents source report name sent why cause before after result is h =
     rw is (record { why = why; cause = cause; before = before; after = after; filters = h })
 
@@ -79,7 +79,7 @@ pub runs-unreported : (ready : Ready) (contents : List KeyValues) (source : Orig
     (before after : Outputs) (result : Result Counted TaskOutcome) → report ≡ None
     → Filters ready contents source
     (record { report = codes "standard output"; sent = sent }) why cause before after result
-    → RunsSome ready contents source report sent result
+    → RunsWanted ready contents source report sent result
 runs-unreported ready contents source report sent why cause before after result is h =
     rw is (record { why = why; cause = cause; before = before; after = after; filters = h })
 

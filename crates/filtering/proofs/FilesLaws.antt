@@ -23,7 +23,7 @@ use Rattle.filtering.specs.declared.ready.Ready.{Ready}
 use Rattle.filtering.specs.declared.ready.Ready.TheVariants.{Bounded as Bound, Tested}
 use Rattle.filtering.specs.Filling.{BeginsNot, BeginsWith}
 use Rattle.filtering.specs.Files.{EndsRun, FiltersBy, FiltersOn, FiltersSome}
-use Rattle.filtering.specs.Finishing.{Finishes}
+use Rattle.filtering.specs.Finishing.{WritesEnd}
 use Rattle.filtering.specs.Opening.{IsOpenFailure, output_name}
 use Rattle.filtering.specs.Running.{program_of}
 
@@ -153,7 +153,7 @@ filters_opened ready request p contents source form report maps_out sent old mid
 
 pub ends-finished : (ended : Result Counted TaskOutcome) (counted : Counted) (form : FileForm)
     (maps_out old new : Option (List ℕ)) (o : TaskOutcome) → ended ≡ Ok counted
-    → Finishes counted form maps_out old new o → EndsRun ended form maps_out old new o
+    → WritesEnd counted form maps_out old new o → EndsRun ended form maps_out old new o
 ends-finished ended counted form maps_out old new o is h = rw is h
 
 pub ends-failed : (ended : Result Counted TaskOutcome) (form : FileForm)

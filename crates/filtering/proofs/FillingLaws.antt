@@ -9,7 +9,7 @@ use Rattle.maps.proofs.MapLaws.{contents_of-starting, rows_of-starting}
 use Rattle.map_texts.specs.Fillings.{FilledMaps, filled_by}
 use Rattle.map_texts.specs.Reading.{AreFilledFrom}
 use Rattle.task_outcomes.specs.declared.outcomes.TaskOutcome.{TaskOutcome}
-use Rattle.filtering.specs.Filling.{BeginsNot, BeginsWith, RefusesText}
+use Rattle.filtering.specs.Filling.{BeginsNot, BeginsWith, RefusesMapText}
 
 pub rows-begun : (p : Program) (maps : List MapState) → maps ≡ map starting_map p.maps
     → rows_of maps ≡ p.maps
@@ -38,7 +38,7 @@ begins_filled p given path source old new e is f = rw e (
 pub begins_refused : (p : Program) (given : Option (List ℕ)) (path : List ℕ)
     (source old new : Option (List ℕ)) (maps : List MapState) (r : TaskOutcome)
     → given ≡ Some path → maps ≡ map starting_map p.maps
-    → RefusesText source maps path old new r → BeginsNot p given old new r
+    → RefusesMapText source maps path old new r → BeginsNot p given old new r
 begins_refused p given path source old new maps r e is (error, filled, f, says) =
     let same = f.filled ∙ ap₂ (λ (rows : List MapDef) (contents : List KeyValues).
     filled_by rows contents f.input) (rows-begun p maps is) (contents-begun p maps is) in

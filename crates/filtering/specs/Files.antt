@@ -21,13 +21,13 @@ use Rattle.filtering.specs.declared.ready.Ready.{Ready}
 use Rattle.filtering.specs.declared.ready.Ready.TheVariants.{Bounded, Tested}
 use Rattle.filtering.specs.Delivering.{Filters}
 use Rattle.filtering.specs.Filling.{BeginsNot, BeginsWith}
-use Rattle.filtering.specs.Finishing.{Finishes}
+use Rattle.filtering.specs.Finishing.{WritesEnd}
 use Rattle.filtering.specs.Opening.{IsOpenFailure, output_name}
 use Rattle.filtering.specs.Running.{program_of}
 
 -- a program is run from these contents on; the report, if it is wanted, and the frames out go to
 -- outputs of these names
-pub record RunsSome (ready : Ready) (contents : List KeyValues) (source : Origin)
+pub record RunsWanted (ready : Ready) (contents : List KeyValues) (source : Origin)
     (report : Option (List ℕ)) (sent : List ℕ) (result : Result Counted TaskOutcome) : Type 0 where
   pub why : Option ErrorKind
   pub cause : Option ErrorKind
@@ -40,7 +40,7 @@ pub record RunsSome (ready : Ready) (contents : List KeyValues) (source : Origin
 -- after a run its end is written; or the run failed, and nothing is said
 abbrev pub EndsRun : Result Counted TaskOutcome → FileForm → Option (List ℕ) → Option (List ℕ)
     → Option (List ℕ) → TaskOutcome → Type 0
-EndsRun (Ok counted) form maps_out old new result = Finishes counted form maps_out old new result
+EndsRun (Ok counted) form maps_out old new result = WritesEnd counted form maps_out old new result
 EndsRun (Err o) form maps_out old new result = (result ≡ o) × (new ≡ old)
 
 -- a program is run on a source, whose first bytes have this file form, and then the end is written
@@ -48,7 +48,7 @@ pub record FiltersSome (ready : Ready) (contents : List KeyValues) (source : Ori
     (form : FileForm) (report : Option (List ℕ)) (sent : List ℕ) (maps_out : Option (List ℕ))
     (old new : Option (List ℕ)) (result : TaskOutcome) : Type 0 where
   pub ended : Result Counted TaskOutcome
-  pub runs : RunsSome ready contents source report sent ended
+  pub runs : RunsWanted ready contents source report sent ended
   pub ends : EndsRun ended form maps_out old new result
 
 -- the frames or an output could not be opened, or the program is run on some source

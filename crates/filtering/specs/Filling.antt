@@ -37,9 +37,9 @@ abbrev pub SaysTextError : MapTextError → List ℕ → Option (List ℕ) → O
 SaysTextError error path old new result = SaysKind error.kind error path old new result
 
 -- the text of a source does not fill the maps, and standard output says why
-abbrev pub RefusesText : Option (List ℕ) → List MapState → List ℕ → Option (List ℕ)
+abbrev pub RefusesMapText : Option (List ℕ) → List MapState → List ℕ → Option (List ℕ)
     → Option (List ℕ) → TaskOutcome → Type 0
-RefusesText source maps path old new result =
+RefusesMapText source maps path old new result =
     (error : MapTextError) × (filled : List MapState)
     × AreFilledFrom source maps filled (Err error) × SaysTextError error path old new result
 

@@ -23,9 +23,9 @@ SaysCounts totals tally form old new result =
     ⊎ Says old new (counts_text totals tally) (outcome_at form tally.fault) result
 
 -- the output for what the maps hold, if it is wanted, got its lines
-abbrev pub Stores : List MapDef → List KeyValues → Option (List ℕ) → Type 0
-Stores rows contents None = Unit {0}
-Stores rows contents (Some path) =
+abbrev pub StoresWanted : List MapDef → List KeyValues → Option (List ℕ) → Type 0
+StoresWanted rows contents None = Unit {0}
+StoresWanted rows contents (Some path) =
     (before : Option (List ℕ)) × (after : Option (List ℕ))
     × Appends before after (text_of rows contents)
 
@@ -35,9 +35,9 @@ StoresNot None old new result = ⊥
 StoresNot (Some path) old new result = IsWriteFailure path result × (new ≡ old)
 
 -- after a run: what the maps hold was written, if that is wanted, and then the counts are said
-abbrev pub Finishes : Counted → FileForm → Option (List ℕ) → Option (List ℕ) → Option (List ℕ)
+abbrev pub WritesEnd : Counted → FileForm → Option (List ℕ) → Option (List ℕ) → Option (List ℕ)
     → TaskOutcome → Type 0
-Finishes counted form maps_out old new result =
-    (Stores (rows_of counted.traced.maps) (contents_of counted.traced.maps) maps_out
+WritesEnd counted form maps_out old new result =
+    (StoresWanted (rows_of counted.traced.maps) (contents_of counted.traced.maps) maps_out
     × SaysCounts (totals_of counted.counts) counted.traced.tally form old new result)
     ⊎ StoresNot maps_out old new result

@@ -5,7 +5,7 @@ ghost use Rattle.maps.specs.Maps.{contents_of, rows_of};
 ghost use Rattle.words.specs.FilterRequests as judging;
 ghost use Rattle.words.specs.FilterRequests.{filter_request_of};
 ghost use Rattle.filtering.specs.Running.{program_of};
-ghost use Rattle.filtering.specs.Files.{FiltersBy, FiltersFiles, FiltersOn, FiltersSome, RunsSome};
+ghost use Rattle.filtering.specs.Files.{FiltersBy, FiltersFiles, FiltersOn, FiltersSome, RunsWanted};
 
 use super::delivering::{Names, run_reported, run_unreported};
 use super::filling::maps_begun;
@@ -34,7 +34,7 @@ fn run_wanted<'a, S: Source + Drop, W: Write + Drop>(
     sent: &mut PromptWriter<W>,
 ) -> Result<Counted, TaskOutcome<'a>>
     requires { rows_of maps ≡ (program_of ready).maps }
-    ensures { RunsSome ready (contents_of maps)
+    ensures { RunsWanted ready (contents_of maps)
         record { bytes = S.remaining source; may_fail = S.may_fail }
         (option_map (λ output. output.path.now) report.entry) name.now result }
 {

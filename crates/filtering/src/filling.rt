@@ -3,7 +3,7 @@
 ghost use Rattle.std.specs.Prelude.{◌≡◌, IfOk, IfErr, OnOk, option_map};
 ghost use Rattle.maps.specs.Maps.{contents_of, rows_of};
 ghost use Rattle.map_texts.specs.Reading.{AreFilledFrom};
-ghost use Rattle.filtering.specs.Filling.{BeginsWith, BeginsNot, RefusesText, SaysTextError};
+ghost use Rattle.filtering.specs.Filling.{BeginsWith, BeginsNot, RefusesMapText, SaysTextError};
 
 use image::Image;
 use map_texts::{MapTextError, MapTextErrorKind, fill_maps};
@@ -70,7 +70,7 @@ pub fn filled<'a, S: Read + Drop, W: Write>(
 ) -> Result<Maps, TaskOutcome<'a>>
     ensures ok { OnOk result (W.contents out.new ≡ W.contents out.old) }
     ensures fills { IfOk result (λ filled. AreFilledFrom (S.remaining source) maps filled (Ok tt)) }
-    ensures refuses { IfErr result (λ ended. RefusesText (S.remaining source) maps path.now
+    ensures refuses { IfErr result (λ ended. RefusesMapText (S.remaining source) maps path.now
         (W.contents out.old) (W.contents out.new) ended) }
 {
     let mut maps = maps;

@@ -4,7 +4,7 @@ ghost use Rattle.std.specs.Prelude.{◌≡◌, false, option_map};
 ghost use Rattle.host.specs.Counts.{totals_of};
 ghost use Rattle.task_outcomes.specs.Statuses.{is_silent};
 ghost use Rattle.task_outcomes.specs.Streams.{outcome_at};
-ghost use Rattle.filtering.specs.Finishing.{Finishes, SaysCounts};
+ghost use Rattle.filtering.specs.Finishing.{WritesEnd, SaysCounts};
 
 use super::counting::counts_text;
 use super::delivering::store_maps;
@@ -52,7 +52,7 @@ pub fn finish<'a, W1: Write + Drop, W2: Write>(
     maps_out: Option<Named<'a, W1>>,
     lines: &mut W2,
 ) -> TaskOutcome<'a>
-    ensures { Finishes counted form (option_map (λ output. output.path.now) maps_out.entry)
+    ensures { WritesEnd counted form (option_map (λ output. output.path.now) maps_out.entry)
         (W2.contents lines.old) (W2.contents lines.new) result }
 {
     let Counted { traced, counts } = counted;

@@ -14,7 +14,7 @@ use Rattle.words.specs.declared.filter_tasks.FilterWordsError.{FilterWordsError}
 use Rattle.words.specs.declared.filter_tasks.FilterWordsError.TheVariants.{Shown, Wrong, Memory}
 use Rattle.words.specs.FilterLine.{filter_program}
 use Rattle.words.specs.FilterRequests.{FilterRequest}
-use Rattle.words.specs.FilterAsked.{AsksForText, FilterAsksFor, FilterTellsOf, IsRefusal, IsShown, ShowsText, filter_asked, filter_request_in}
+use Rattle.words.specs.FilterAsked.{AsksForText, FilterAsksFor, FilterTellsOf, IsUnshown, HasText, ShowsText, filter_asked, filter_request_in}
 use Rattle.words.specs.Asked.{unless_wrong}
 
 -- for this command line clap's contracts say what a parse finds, and how it fails
@@ -41,7 +41,7 @@ asks-text k words among (inr version) =
 -- the parse failed, with one of the kinds of this command line
 failed-among : (words : List (List ℕ)) (k : ErrorKind) (w : FilterWordsError)
     → IsAmong k (fault_of filter_program words)
-    → (IsShown w → (k ≡ kind.DisplayHelp) ⊎ (k ≡ kind.DisplayVersion))
+    → (HasText w → (k ≡ kind.DisplayHelp) ⊎ (k ≡ kind.DisplayVersion))
     → FilterAsksFor words (Err w)
 unfolding filter_asked
 failed-among words k (Shown text) among shown =
@@ -55,7 +55,7 @@ pub filter-failed : (a : App) (words : List (List ℕ)) (e : Error) (w : FilterW
     → a ≡ filter_program
     → (is_simple_and_free a ≡ true → HasKind (fault_of a words) e)
     → (kind_of e ≡ kind.OutOfMemory → w ≡ Memory)
-    → (IsShown w → (kind_of e ≡ kind.DisplayHelp) ⊎ (kind_of e ≡ kind.DisplayVersion))
+    → (HasText w → (kind_of e ≡ kind.DisplayHelp) ⊎ (kind_of e ≡ kind.DisplayVersion))
     → FilterAsksFor words (Err w)
 filter-failed a words e w is h memory shown =
     elim (h (ap is_simple_and_free is ∙ is_simple_and_free-filter)) [
@@ -67,7 +67,7 @@ filter-failed a words e w is h memory shown =
     ]
 
 unshown-shows : (words : List (List ℕ)) (r : Result FilterTask FilterWordsError)
-    → IfErr r IsRefusal → ShowsText words r
+    → IfErr r IsUnshown → ShowsText words r
 unshown-shows words (Ok task) h = tt
 unshown-shows words (Err (Shown text)) h = absurd h
 unshown-shows words (Err (Wrong text)) h = tt
@@ -77,7 +77,7 @@ unshown-shows words (Err Memory) h = tt
 pub filter-parsed : (a : App) (words : List (List ℕ)) (m : ArgMatches)
     (r : Result FilterTask FilterWordsError) → a ≡ filter_program
     → (is_simple_and_free a ≡ true → fault_of a words ≡ []) → HasMatchesOf a words m
-    → FilterTellsOf (filter_request_in (rows_of (found_of m))) r → IfErr r IsRefusal
+    → FilterTellsOf (filter_request_in (rows_of (found_of m))) r → IfErr r IsUnshown
     → FilterAsksFor words r
 unfolding filter_asked
 filter-parsed a words m r is h found tells unshown =
@@ -92,4 +92,5 @@ filter-parsed a words m r is h found tells unshown =
     unless_wrong kinds (filter_request_in (matches_of filter_program words))) none in
     let same : filter_request_in (rows_of (found_of m)) ≡ filter_asked words =
     ap filter_request_in rows ∙ sym asked in
-    (subst (λ (o : Option FilterRequest). FilterTellsOf o r) same tells, unshown-shows words r unshown)
+    (subst (λ (o : Option FilterRequest). FilterTellsOf o r) same tells,
+    unshown-shows words r unshown)

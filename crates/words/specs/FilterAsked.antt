@@ -72,16 +72,16 @@ FilterTellsOf request (Err (error.Wrong text)) = request ≡ None
 FilterTellsOf request (Err error.Memory) = Unit {0}
 
 -- the error has the help or the version
-abbrev pub IsShown : FilterWordsError → Type 0
-IsShown (error.Shown text) = Unit {0}
-IsShown (error.Wrong text) = ⊥
-IsShown error.Memory = ⊥
+abbrev pub HasText : FilterWordsError → Type 0
+HasText (error.Shown text) = Unit {0}
+HasText (error.Wrong text) = ⊥
+HasText error.Memory = ⊥
 
 -- the error says that the arguments are wrong, or that memory ran out
-abbrev pub IsRefusal : FilterWordsError → Type 0
-IsRefusal (error.Shown text) = ⊥
-IsRefusal (error.Wrong text) = Unit {0}
-IsRefusal error.Memory = Unit {0}
+abbrev pub IsUnshown : FilterWordsError → Type 0
+IsUnshown (error.Shown text) = ⊥
+IsUnshown (error.Wrong text) = Unit {0}
+IsUnshown error.Memory = Unit {0}
 
 -- only arguments that may ask for the help or the version get it
 abbrev pub ShowsText : List (List ℕ) → Result FilterTask FilterWordsError → Type 0

@@ -5,15 +5,15 @@ use Rattle.words.specs.declared.filter_tasks.FilterTask.{FilterTask}
 use Rattle.words.specs.declared.filter_tasks.Judging.{Judging}
 use Rattle.words.specs.declared.filter_tasks.Judging.TheVariants as judging
 
--- what is done with a program before it runs: it is verified, the proof table at the path is tested,
--- or nothing, and every access is tested while it runs, with this limit of steps
+-- what is done with a program before it runs: it is verified, or the proof table at the path is
+-- tested; or nothing, and every access is tested while it runs, with this limit of steps
 pub data JudgingRequest : Type 0 where
   Verified : JudgingRequest
   Shown : List ℕ → JudgingRequest
   Checked : ℕ → JudgingRequest
 
--- the files, by their paths; `maps` fills the maps before the first frame, `maps_out` gets what they
--- hold after the last, and `report` gets the report
+-- the files, by their paths; `maps` fills the maps before the first frame, `maps_out` gets what
+-- they hold after the last, and `report` gets the report
 pub record FilterRequest : Type 0 where
   pub files : RunFiles
   pub judging : JudgingRequest

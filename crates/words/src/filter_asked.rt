@@ -3,7 +3,7 @@
 ghost use Rattle.std.specs.Prelude.{◌≡◌, ◌⊎◌, true, false, None, map, option_map, IfErr};
 ghost use Rattle.std.specs.String.{string_bytes};
 ghost use Rattle.clap.specs.Words.{found_of, kind_of, rows_of};
-ghost use Rattle.words.specs.FilterAsked.{FilterAsksFor, FilterTellsOf, IsRefusal, IsShown, TellsJudging, filter_request_in, is_given, judging_by, judging_in};
+ghost use Rattle.words.specs.FilterAsked.{FilterAsksFor, FilterTellsOf, IsUnshown, HasText, TellsJudging, filter_request_in, is_given, judging_by, judging_in};
 
 use super::asked::{NO_LIMIT, limit_of, message_of, paths_in, value_in};
 use super::filter_line::filter_program;
@@ -86,7 +86,7 @@ fn judging_in<'a>(matches: &ArgMatches<'a>) -> Result<Judging<'a>, &'static str>
 
 // The error for arguments that the program does not accept, with this message.
 fn wrong(alloc: Global, message: &str) -> FilterWordsError
-    ensures { IsRefusal result }
+    ensures { IsUnshown result }
 {
     match String::from_str(alloc, message) {
         Ok(text) => FilterWordsError::Wrong(text),
@@ -97,7 +97,7 @@ fn wrong(alloc: Global, message: &str) -> FilterWordsError
 // The task of a command line that clap accepts.
 fn task_in<'a>(alloc: Global, matches: &ArgMatches<'a>) -> Result<FilterTask<'a>, FilterWordsError>
     ensures tells { FilterTellsOf (filter_request_in (rows_of (found_of matches.now))) result }
-    ensures unshown { IfErr result IsRefusal }
+    ensures unshown { IfErr result IsUnshown }
 {
     let Some(paths) = paths_in(matches) else {
         return Err(wrong(alloc, ""));
@@ -117,7 +117,7 @@ fn task_in<'a>(alloc: Global, matches: &ArgMatches<'a>) -> Result<FilterTask<'a>
 // Why a command line was not accepted, or the text that it asks for.
 fn filter_error_of(alloc: Global, error: &clap::Error) -> FilterWordsError
     ensures memory { kind_of error.now ≡ ErrorKind.OutOfMemory → result ≡ FilterWordsError.Memory }
-    ensures shown { IsShown result → (kind_of error.now ≡ ErrorKind.DisplayHelp)
+    ensures shown { HasText result → (kind_of error.now ≡ ErrorKind.DisplayHelp)
         ⊎ (kind_of error.now ≡ ErrorKind.DisplayVersion) }
 {
     match (error.kind(), message_of(alloc, error)) {
