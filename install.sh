@@ -1,9 +1,9 @@
 #!/bin/bash
 # Installs xdpvm: the programs, the tools around them, the pages, the man pages and completions, and the library where it is built.
-# usage: bash install.sh FOLDER [PROGRAM [SURVEY]]        (such as ~/bin)
-# Without PROGRAM it proves every crate that the programs depend on, and builds both. That needs the toolchain's `rt` on the
+# usage: bash install.sh FOLDER [PROGRAM [SURVEY [FILTER]]]        (such as ~/bin)
+# Without PROGRAM it proves every crate that the programs depend on, and builds them. That needs the toolchain's `rt` on the
 # path, 6 GB of memory, and about half an hour on 4 cores, an hour on 2. Work that is proved is kept, so a second run goes on
-# where one ended; what the gate (.ci/run) has proved at this commit on this machine is taken as it is. With PROGRAM, and SURVEY for xdpvm_survey, it takes these, as `rt ci` leaves them in crates/*/out, and
+# where one ended; what the gate (.ci/run) has proved at this commit on this machine is taken as it is. With PROGRAM, SURVEY for xdpvm_survey and FILTER for xdpvm_filter, it takes these, as `rt ci` leaves them in crates/*/out, and
 # proves nothing.
 # FOLDER gets the programs, and links to the tools, each as xdpvm-NAME for tools/NAME.py: xdpvm-xdp runs a filter of any form on
 # a capture; xdpvm-frames, xdpvm-image, xdpvm-table and xdpvm-compile convert captures, objects, proof tables and C; xdpvm-survey
@@ -27,9 +27,10 @@ case ${1-} in
     --help | -h) usage && exit 0 ;;
     '' | -*) usage >&2 && exit 1 ;;
 esac
-[ $# -le 3 ] || { usage >&2 && exit 1; }
+[ $# -le 4 ] || { usage >&2 && exit 1; }
 program=${2:+$(realpath "$2")}
 survey=${3:+$(realpath "$3")}
+filter=${4:+$(realpath "$4")}
 
 # ---- the programs
 
@@ -39,18 +40,24 @@ if [ -n "$program" ]; then
     if [ -n "$survey" ]; then
         "$survey" --format csv "$top/examples/pass.image" 2> /dev/null | grep -q 'pass.image,ok,' || stop "$survey is no xdpvm_survey"
     fi
+    if [ -n "$filter" ]; then
+        "$filter" --version 2> /dev/null | grep -q '^xdpvm_filter ' || stop "$filter is no xdpvm_filter"
+    fi
     told="$program, as it was given: nothing was proved now"
 elif gate=$(python3 "$top/assurance/record.py" --find); then
     program=$gate/xdpvm
     survey=$gate/xdpvm_survey
+    filter=$gate/xdpvm_filter
     told="proved by the gate at this commit ($(sed -n 's/^  "gate": "\(.*\)",$/\1/p' "$gate/record.json"), $(sed -n 's/^  "date": "\(.*\)",$/\1/p' "$gate/record.json")): nothing was proved now"
 else
     command -v rt > /dev/null || stop "rt, the toolchain's command, is not on the path, and no PROGRAM is given"
     echo "install.sh: proving and building the programs" >&2
     (cd "$top/crates/xdpvm" && rt run -- verify "$top/examples/pass.image")
     (cd "$top/crates/xdpvm_survey" && rt run -- dis "$top/examples/pass.image" > /dev/null)
+    (cd "$top/crates/xdpvm_filter" && rt run -- --version > /dev/null)
     program=$top/crates/xdpvm/out/xdpvm
     survey=$top/crates/xdpvm_survey/out/xdpvm_survey
+    filter=$top/crates/xdpvm_filter/out/xdpvm_filter
     told="proved by $(rt version)"
 fi
 
@@ -64,6 +71,7 @@ share=$beside/share
 home=$share/xdpvm
 install "$program" "$folder/xdpvm"
 if [ -n "$survey" ]; then install "$survey" "$folder/xdpvm_survey"; fi
+if [ -n "$filter" ]; then install "$filter" "$folder/xdpvm_filter"; fi
 
 # ---- the tools; those for this project's developers stay here
 
@@ -92,7 +100,7 @@ install -m 644 "$top"/docs/pictures/* "$home/docs/pictures"
 
 # ---- man pages and completions
 
-for name in xdpvm xdpvm_survey; do
+for name in xdpvm xdpvm_survey xdpvm_filter; do
     install -D -m 644 "$top/docs/$name.1" "$share/man/man1/$name.1"
     install -D -m 644 "$top/tools/completions/$name.bash" "$share/bash-completion/completions/$name"
     install -D -m 644 "$top/tools/completions/_$name" "$share/zsh/site-functions/_$name"
@@ -113,6 +121,7 @@ else
 fi
 echo "$folder/xdpvm: $told"
 if [ -n "$survey" ]; then echo "$folder/xdpvm_survey: for many programs at once"; fi
+if [ -n "$filter" ]; then echo "$folder/xdpvm_filter: runs a filter whose maps are filled, and counts"; fi
 echo "beside it: xdpvm-xdp runs a filter of any form on a capture; each tool says with --help what it does"
 echo "$library"
 echo "in $home: the pages (docs) and the examples; in $share: the man pages, and completions for bash, zsh and fish"

@@ -54,7 +54,7 @@ compare_files() {
     list_files "$1" > "$work/found"
     diff "$work/wanted" "$work/found" > "$work/differs" || { cat "$work/differs" && wrong=1; }
     # the programs are those that the gate built
-    for name in xdpvm xdpvm_survey; do
+    for name in xdpvm xdpvm_survey xdpvm_filter; do
         if ! grep -q "^built $(sha256sum < "$1/bin/$name" | cut -c -64) crates/$name/out/$name$" "$1/MANIFEST"; then
             echo "bin/$name is not what the MANIFEST says that the gate built" && wrong=1
         fi
@@ -106,15 +106,17 @@ gate=
 if [ -n "$trial" ]; then
     program=$top/crates/xdpvm/out/xdpvm
     survey=$top/crates/xdpvm_survey/out/xdpvm_survey
+    filter=$top/crates/xdpvm_filter/out/xdpvm_filter
     library=$top/crates/xdpvm_c/out/libxdpvm_c.a
 else
     [ -z "$(git -C "$top" status --porcelain)" ] || stop "there are changes that are not committed: a release is of a commit"
     gate=$(python3 "$top/assurance/record.py" --find) || stop "the gate has not passed on this commit here: bash .ci/run"
     program=$gate/xdpvm
     survey=$gate/xdpvm_survey
+    filter=$gate/xdpvm_filter
     library=$gate/libxdpvm_c.a
 fi
-for file in "$program" "$survey" "$library"; do
+for file in "$program" "$survey" "$filter" "$library"; do
     [ -f "$file" ] || stop "there is no $file: bash .ci/run proves and builds it"
 done
 rt=$(command -v rt) || stop "rt, the toolchain's command, is not on the path"
@@ -129,7 +131,7 @@ export SOURCE_DATE_EPOCH
 mkdir -p "$folder"
 folder=$(cd "$folder" && pwd)
 name=xdpvm-$version-x86_64-linux
-needs=$(objdump -T "$program" "$survey" | grep -o 'GLIBC_[0-9.]*' | sort -V | tail -n 1)
+needs=$(objdump -T "$program" "$survey" "$filter" | grep -o 'GLIBC_[0-9.]*' | sort -V | tail -n 1)
 
 # One archive for linkers, of the library and of its heap, and a shared library of it.
 printf 'create %s\naddlib %s\naddlib %s\nsave\nend\n' "$work/libxdpvm.a" "$library" "$heap" | ar -M
@@ -141,9 +143,9 @@ cc -shared -nostartfiles -o "$work/libxdpvm.so" -Wl,-soname,"libxdpvm.so.${versi
 
 # The same objects without shared libraries, for any Linux on x86-64. The object files are there where the programs were proved.
 statics=()
-[ -f "$program.o" ] && [ -f "$survey.o" ] || echo "release.sh: there are no object files of the programs, so no static ones" >&2
-for it in "$program" "$survey"; do
-    [ -f "$program.o" ] && [ -f "$survey.o" ] || continue
+[ -f "$program.o" ] && [ -f "$survey.o" ] && [ -f "$filter.o" ] || echo "release.sh: there are no object files of the programs, so no static ones" >&2
+for it in "$program" "$survey" "$filter"; do
+    [ -f "$program.o" ] && [ -f "$survey.o" ] && [ -f "$filter.o" ] || continue
     statics+=("$work/$(basename "$it")-static")
     cc -static-pie -Wl,--build-id=none -o "$work/$(basename "$it")-static" "$it.o" "$kit/c/libos_c.a" "$heap" "$kit/c/libos_c.a"
 done
@@ -185,9 +187,10 @@ END
     echo "licence $([ -f "$top/LICENSE" ] && echo LICENSE || echo 'none: nobody has said what others may do with these files')"
     echo "rests bin/xdpvm: commands::execute_given; of its runs host::run: reports, of verify explorer::verify: verified, of recheck rechecking::recheck: verified"
     echo "rests bin/xdpvm_survey: survey_commands::execute_given; of a row surveys::judge: says"
+    echo "rests bin/xdpvm_filter: filtering::execute_given; of its runs host::run_counted_from: reports"
     echo "rests lib/libxdpvm.a: the clauses of the exports of crates/xdpvm_c"
-    echo "linked lib/libxdpvm.so${statics[*]:+, bin/xdpvm-static, bin/xdpvm_survey-static}: of the same objects by cc; that link is outside the proofs"
-    for it in "xdpvm/out/xdpvm" "xdpvm_survey/out/xdpvm_survey" "xdpvm_c/out/libxdpvm_c.a"; do
+    echo "linked lib/libxdpvm.so${statics[*]:+, bin/xdpvm-static, bin/xdpvm_survey-static, bin/xdpvm_filter-static}: of the same objects by cc; that link is outside the proofs"
+    for it in "xdpvm/out/xdpvm" "xdpvm_survey/out/xdpvm_survey" "xdpvm_filter/out/xdpvm_filter" "xdpvm_c/out/libxdpvm_c.a"; do
         file=${gate:+$gate/$(basename "$it")}
         echo "built $(sha256sum < "${file:-$top/crates/$it}" | cut -c -64) crates/$it"
     done
@@ -244,7 +247,7 @@ stamped() {
 # ---- the archive
 
 tree=$work/$name
-bash "$top/install.sh" "$tree/bin" "$program" "$survey" > "$work/said"
+bash "$top/install.sh" "$tree/bin" "$program" "$survey" "$filter" > "$work/said"
 rm -rf "${tree:?}/lib" "${tree:?}/include"
 if [ ${#statics[@]} -gt 0 ]; then install -m 755 "${statics[@]}" "$tree/bin"; fi
 put_library "$tree/include" "$tree/lib" "\${pcfiledir}/../.."
@@ -309,7 +312,7 @@ packed() {
 
 tree=$work/xdpvm/usr
 mkdir -p "$work/xdpvm/DEBIAN" "$work/libxdpvm-dev/DEBIAN"
-bash "$top/install.sh" "$tree/bin" "$program" "$survey" > "$work/said"
+bash "$top/install.sh" "$tree/bin" "$program" "$survey" "$filter" > "$work/said"
 rm -rf "${tree:?}/lib" "${tree:?}/include"
 mkdir -p "$tree/share/doc/xdpvm"
 mv "$tree/share/zsh/site-functions" "$tree/share/zsh/vendor-completions"
@@ -322,8 +325,9 @@ control xdpvm net "libc6 (>= ${needs#GLIBC_})" "proved verifier and virtual mach
  and assembles and disassembles them. That every run of an accepted program ends
  and stays in its memory is proved.
  .
- xdpvm_survey judges many images at once. The xdpvm-* commands run filters on
- captures, convert captures and objects, and need python3.
+ xdpvm_survey judges many images at once, and xdpvm_filter runs a filter whose
+ maps are filled, and counts. The xdpvm-* commands run filters on captures,
+ convert captures and objects, and need python3.
 END
 packed xdpvm
 tree=$work/libxdpvm-dev/usr

@@ -19,7 +19,7 @@ from typing import Any
 
 from record import object_of
 
-PROGRAMS = ("xdpvm", "xdpvm_survey")
+PROGRAMS = ("xdpvm", "xdpvm_survey", "xdpvm_filter")
 
 
 def built(kit: Path, crate: Any, words: list[str], made: str) -> bool:

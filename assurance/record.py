@@ -21,8 +21,8 @@ import sys
 from pathlib import Path
 
 TOP = Path(__file__).resolve().parent.parent
-FILES = ("crates/xdpvm/out/xdpvm", "crates/xdpvm_survey/out/xdpvm_survey", "crates/xdpvm_c/out/libxdpvm_c.a")
-OBJECTS = ("crates/xdpvm/out/xdpvm", "crates/xdpvm_survey/out/xdpvm_survey")  # programs, beside which their object files may be
+OBJECTS = tuple(f"crates/{name}/out/{name}" for name in ("xdpvm", "xdpvm_survey", "xdpvm_filter"))  # programs, beside which their object files may be
+FILES = (*OBJECTS, "crates/xdpvm_c/out/libxdpvm_c.a")
 MOST = 5
 
 

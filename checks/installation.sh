@@ -5,7 +5,7 @@ top=$(dirname "$(dirname "$(realpath "$0")")")
 cd "$top"
 work=$(mktemp -d)
 trap 'rm -rf "$work"' EXIT
-bash install.sh "$work/bin" crates/xdpvm/out/xdpvm crates/xdpvm_survey/out/xdpvm_survey
+bash install.sh "$work/bin" crates/xdpvm/out/xdpvm crates/xdpvm_survey/out/xdpvm_survey crates/xdpvm_filter/out/xdpvm_filter
 cd "$work"
 PATH=$work/bin:$PATH
 
@@ -48,5 +48,10 @@ xdpvm-survey --format csv --no-header "$top/examples/firewall.text" > rows
 grep -q '^[^,]*firewall.text,ok,,35,0,32,' rows
 grep -q '^.TH XDPVM 1' share/man/man1/xdpvm.1
 grep -q '^.TH XDPVM_SURVEY 1' share/man/man1/xdpvm_survey.1
+xdpvm_filter "$top/examples/firewall.image" firewall.frames passed.frames --report report > counts
+cmp report "$top/examples/firewall.report"
+cmp passed.frames sent.frames
+printf 'PASS 4\nDROP 4\nend 8\n' | cmp counts
+grep -q '^.TH XDPVM_FILTER 1' share/man/man1/xdpvm_filter.1
 bash -n share/bash-completion/completions/xdpvm
 [[ -s share/zsh/site-functions/_xdpvm && -s share/fish/vendor_completions.d/xdpvm.fish ]]

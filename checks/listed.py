@@ -21,7 +21,7 @@ class Check:
 
 CHECKS = (
     Check("guide", "python3 examples/guide.py", "every example of the pages, on the program; that links lead somewhere, and that clauses which pages name exist", 40),
-    Check("cases", "python3 tests/commands.py", "the commands of both programs on cases that are written by hand: what is written to each output and file, and the status", 6),
+    Check("cases", "python3 tests/commands.py", "the commands of the programs on cases that are written by hand: what is written to each output and file, and the status", 6),
     Check("programs", "python3 tests/programs.py", "texts: verdicts, bounds and runs of programs that are written by hand", 8),
     Check("messages", "python3 examples/messages.py", "what is said of wrong inputs", 4),
     Check("edits_fit", "python3 assurance/run.py --fit", "whether the text that each edit replaces is still there", 2),

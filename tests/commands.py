@@ -1,9 +1,10 @@
 #!/usr/bin/env python3
 """Runs the cases of tests/commands/ on the programs, and compares outputs, files and statuses.
 
-usage: python3 tests/commands.py [PROGRAM [SURVEY]]
+usage: python3 tests/commands.py [PROGRAM [SURVEY [FILTER]]]
 
-PROGRAM and SURVEY are xdpvm and xdpvm_survey (the default: those that `rt run` leaves in crates/).
+PROGRAM, SURVEY and FILTER are xdpvm, xdpvm_survey and xdpvm_filter (the default: those that `rt run` leaves in
+crates/).
 What differs is printed. The last line is 'N cases, M differ', and the status is 0 if none does.
 
 Each line of a file of cases begins with one of these words. An indented line goes on with the line
@@ -40,7 +41,7 @@ from pathlib import Path
 
 TOP = Path(__file__).resolve().parent.parent
 PROGRAMS = {name: os.path.abspath((sys.argv[at:] or [TOP / f"crates/{name}/out/{name}"])[0])
-            for at, name in ((1, "xdpvm"), (2, "xdpvm_survey"))}
+            for at, name in enumerate(("xdpvm", "xdpvm_survey", "xdpvm_filter"), 1)}
 PART = re.compile(r"(?:(\d+)\*)?(?:'([^']*)'|((?:[0-9a-f]{2})+))(?:\s+|$)")
 ANSWER = ("1>", "1*", "2>", "status", "same")
 READER, UNREAD = os.pipe()

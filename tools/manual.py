@@ -5,10 +5,10 @@ programs say.
 usage: python3 tools/manual.py [--check] [PROGRAM ..]
 
 For xdpvm it writes docs/xdpvm.1, tools/completions/xdpvm.bash, _xdpvm (zsh) and xdpvm.fish, and for
-xdpvm_survey the files of that name. With --check nothing is written: each file has to be as it is
+xdpvm_survey and xdpvm_filter the files of their names. With --check nothing is written: each file has to be as it is
 made, `man -l` and the shells, if they are installed, have to read it, and the status is 1 if one
 does not. PROGRAM is a program that is asked, whose file has its name (the default:
-crates/xdpvm/out/xdpvm and crates/xdpvm_survey/out/xdpvm_survey).
+those that `rt run` leaves in crates/).
 """
 import argparse
 import collections
@@ -26,11 +26,12 @@ Option = collections.namedtuple("Option", "name value about")
 
 
 def help_of(program, *words):
-    """What help says; the program answers it on standard error, with status 1."""
-    ran = subprocess.run([program, *words, "--help"], stderr=subprocess.PIPE, text=True, check=False)
-    if ran.returncode != 1 or "Usage: " not in ran.stderr:
+    """What help says: on standard error with status 1, or on standard output with status 0."""
+    ran = subprocess.run([program, *words, "--help"], capture_output=True, text=True, check=False)
+    said = ran.stdout if ran.returncode == 0 else ran.stderr
+    if ran.returncode not in (0, 1) or "Usage: " not in said:
         raise SystemExit(f"manual.py: {program} {' '.join(words)} --help has no help")
-    return ran.stderr
+    return said
 
 
 def rows(text, title):
@@ -54,11 +55,11 @@ def read(program):
     """What the program is for, and its commands."""
     text = help_of(program)
     commands = [command_of(program, name, about) for name, about in rows(text, "Commands") if name != "help"]
-    if not commands:
-        raise SystemExit(f"manual.py: {program} names no commands")
     about = text.splitlines()[0]
     if rows(text, "Arguments"):
         commands.insert(0, command_of(program, "", about))
+    if not commands:
+        raise SystemExit(f"manual.py: {program} names no commands and no arguments")
     return about, commands
 
 
@@ -81,8 +82,17 @@ STATUSES = {
         (5, "out of memory"),
     ),
 }
-PAGES = {"xdpvm": "docs/GUIDE.md and docs/REFUSALS.md", "xdpvm_survey": "docs/SURVEY.md and docs/REFUSALS.md"}
-OTHERS = {"xdpvm": "xdpvm_survey", "xdpvm_survey": "xdpvm"}
+STATUSES["xdpvm_filter"] = (
+    (0, "done"),
+    (1, "invalid arguments"),
+    (2, "the image, the program, the proof table or the text of the maps is refused; standard error says why and where"),
+    (3, "the frame stream has a fault; standard error says which"),
+    (4, "a file or an output cannot be read or written"),
+    (5, "out of memory"),
+)
+PAGES = {"xdpvm": "docs/GUIDE.md and docs/REFUSALS.md", "xdpvm_survey": "docs/SURVEY.md and docs/REFUSALS.md",
+         "xdpvm_filter": "docs/FORMATS.md and docs/REFUSALS.md"}
+OTHERS = {"xdpvm": ("xdpvm_filter", "xdpvm_survey"), "xdpvm_survey": ("xdpvm",), "xdpvm_filter": ("xdpvm",)}
 
 
 def roff(text):
@@ -122,7 +132,8 @@ def manual(name, about, commands):
     lines += [".SH EXIT STATUS"]
     for status, meaning in STATUSES[name]:
         lines += [".TP", f"\\fB{status}\\fR", roff(meaning) + "."]
-    lines += [".SH SEE ALSO", f"{PAGES[name]} of the sources; \\fB{OTHERS[name]}\\fR(1), \\fBbpf\\fR(2), \\fBbpf\\-helpers\\fR(7)"]
+    others = ", ".join(f"\\fB{other}\\fR(1)" for other in OTHERS[name])
+    lines += [".SH SEE ALSO", f"{PAGES[name]} of the sources; {others}, \\fBbpf\\fR(2), \\fBbpf\\-helpers\\fR(7)"]
     return "\n".join(lines) + "\n"
 
 
@@ -153,7 +164,7 @@ def arguments_of(command):
     words = ["_arguments '--help[Print help]'"]
     for one in command.options:
         about = quoted(one.about).replace("[", "\\[").replace("]", "\\]")
-        end = "_files" if one.value in ("TABLE", "FOLDER", "OLD.csv") else ""
+        end = "_files" if one.value in ("TABLE", "FOLDER", "OLD.csv", "MAPS", "FILE") else ""
         words.append(f"'--{one.name}[{about}]" + (f":{one.value}:{end}'" if one.value else "'"))
     many = len(command.arguments) == 1 and not command.name
     words += [f"'{'*' if many else place}:{one.name}:_files'" for place, one in enumerate(command.arguments, 1)]
@@ -213,11 +224,13 @@ def is_read(name, *words):
 COMPLETES = """\
 source tools/completions/xdpvm.bash
 source tools/completions/xdpvm_survey.bash
+source tools/completions/xdpvm_filter.bash
 COMP_WORDS=(xdpvm ver) COMP_CWORD=1; _xdpvm; echo "${COMPREPLY[@]}"
 COMP_WORDS=(xdpvm trace --li) COMP_CWORD=2; _xdpvm; echo "${COMPREPLY[@]}"
 COMP_WORDS=(xdpvm verify install.s) COMP_CWORD=2; _xdpvm; echo "${COMPREPLY[@]}"
 COMP_WORDS=(xdpvm_survey log --sl) COMP_CWORD=2; _xdpvm_survey; echo "${COMPREPLY[@]}"
 COMP_WORDS=(xdpvm_survey --fo) COMP_CWORD=1; _xdpvm_survey; echo "${COMPREPLY[@]}"
+COMP_WORDS=(xdpvm_filter image frames out --che) COMP_CWORD=4; _xdpvm_filter; echo "${COMPREPLY[@]}"
 """
 
 
@@ -233,7 +246,7 @@ def check(files):
         script.write(COMPLETES)
         script.flush()
         found = subprocess.run(["bash", script.name], stdout=subprocess.PIPE, text=True, check=False).stdout.split()
-    if found != ["verify", "--limit", "install.sh", "--slot", "--format"]:
+    if found != ["verify", "--limit", "install.sh", "--slot", "--format", "--checked"]:
         print(f"tools/completions: the shell completes to {found}")
         good = False
     for name in files:
@@ -244,7 +257,7 @@ def check(files):
 
 def main():
     words = argparse.ArgumentParser(description=__doc__, formatter_class=argparse.RawDescriptionHelpFormatter)
-    built = [os.path.join(TOP, f"crates/{name}/out/{name}") for name in ("xdpvm", "xdpvm_survey")]
+    built = [os.path.join(TOP, f"crates/{name}/out/{name}") for name in STATUSES]
     words.add_argument("programs", nargs="*", metavar="PROGRAM", default=built)
     words.add_argument("--check", action="store_true")
     asked = words.parse_args()

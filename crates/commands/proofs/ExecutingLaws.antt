@@ -37,6 +37,12 @@ told_refused (Refused rejection.Explored) (Some text) old new
     (inr (inr (inl (p, bytes, none)))) e h = absurd (none-some text (sym none))
 told_refused (Refused rejection.Explored) (Some text) old new (inr (inr (inr (source, none)))) e h =
     absurd (none-some text (sym none))
+told_refused (Refused (rejection.Maps error)) (Some text) old new (inr (inl (p, none))) e h =
+    absurd (none-some text (sym none))
+told_refused (Refused (rejection.Maps error)) (Some text) old new
+    (inr (inr (inl (p, bytes, none)))) e h = absurd (none-some text (sym none))
+told_refused (Refused (rejection.Maps error)) (Some text) old new
+    (inr (inr (inr (source, none)))) e h = absurd (none-some text (sym none))
 told_refused (Refused (rejection.Text error)) (Some text) old new (inr (inl (p, none))) e h =
     absurd (none-some text (sym none))
 told_refused (Refused (rejection.Text error)) (Some text) old new

@@ -39,6 +39,7 @@ tells-none p (Refused (rejection.Program refusal slot insn)) why e = rw e tt
 tells-none p (Refused (rejection.Table error position)) why e = e
 tells-none p (Refused rejection.Explored) why e = e
 tells-none p (Refused (rejection.Text error)) why e = e
+tells-none p (Refused (rejection.Maps error)) why e = e
 tells-none p (Faulted fault form) why e = e
 tells-none p (CannotRead path kind) why e = e
 tells-none p (CannotWrite path cause) why e = e

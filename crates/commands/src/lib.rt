@@ -15,6 +15,8 @@ mod verdicts;
 
 pub use executing::{execute, execute_given};
 pub use requests::serve;
+pub use tables::load_shown;
 pub use task_outcomes::{
     Ending, FileForm, Rejection, TaskOutcome, buffered, is_pipe, is_unwatched, piped,
 };
+pub use verdicts::judge;

@@ -17,9 +17,9 @@ use task_outcomes::{
 };
 use words::{RunPaths, TablePaths};
 
-// The program of an image with the bound that a table shows, or how the task ends without one: the
-// image is read and parsed, then the table is read and tested.
-fn load_shown<'a, R: Files, W: Write>(
+/// The program of an image with the bound that a table shows, or how the task ends without one: the
+/// image is read and parsed, then the table is read and tested.
+pub fn load_shown<'a, R: Files, W: Write>(
     rt: &R,
     alloc: Global,
     paths: TablePaths<'a>,

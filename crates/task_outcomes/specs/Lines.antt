@@ -19,6 +19,8 @@ use Rattle.table_entries.specs.declared.errors.WriteTableError.TheVariants as un
 use Rattle.table_entries.specs.Messages as table_entries
 use Rattle.assembler.specs.declared.errors.AsmError.{AsmError}
 use Rattle.assembler.specs.Messages as assembler
+use Rattle.map_texts.specs.declared.errors.MapTextError.{MapTextError}
+use Rattle.map_texts.specs.Messages as map_texts
 
 -- an image is refused
 abbrev pub image_line : ImageError → List ℕ
@@ -66,6 +68,13 @@ explored_line = codes "refused " ++ (table_entries.code_of unwritten.Explored ++
 abbrev pub text_line : AsmError → List ℕ
 text_line error =
     codes "refused " ++ (assembler.code_of error.kind
+    ++ (codes " line "
+    ++ (decimal error.line ++ (codes " column " ++ (decimal error.column ++ codes "\n")))))
+
+-- a text of maps is refused, at a line and a column
+abbrev pub maps_line : MapTextError → List ℕ
+maps_line error =
+    codes "refused " ++ (map_texts.code_of error.kind
     ++ (codes " line "
     ++ (decimal error.line ++ (codes " column " ++ (decimal error.column ++ codes "\n")))))
 

@@ -14,10 +14,12 @@ use Rattle.rechecking.specs.Messages as rechecking
 use Rattle.table_entries.specs.declared.errors.WriteTableError.TheVariants as unwritten
 use Rattle.table_entries.specs.Messages as table_entries
 use Rattle.assembler.specs.Messages as assembler
+use Rattle.map_texts.specs.declared.errors.MapTextError.{MapTextError}
+use Rattle.map_texts.specs.Messages as map_texts
 use Rattle.task_outcomes.specs.declared.forms.FileForm.{FileForm}
 use Rattle.task_outcomes.specs.Forms.{file_line}
 use Rattle.task_outcomes.specs.declared.rejections.Rejection.{Rejection}
-use Rattle.task_outcomes.specs.declared.rejections.Rejection.TheVariants.{Image, Program, Table, Explored, Text}
+use Rattle.task_outcomes.specs.declared.rejections.Rejection.TheVariants.{Image, Program, Table, Explored, Text, Maps}
 
 abbrev pub sentence_of : Rejection → List ℕ
 sentence_of (Image error form) = image.sentence_of error
@@ -25,6 +27,7 @@ sentence_of (Program refusal slot insn) = walks.sentence_of refusal
 sentence_of (Table error position) = rechecking.sentence_of error
 sentence_of Explored = table_entries.sentence_of unwritten.Explored
 sentence_of (Text error) = assembler.sentence_of error.kind
+sentence_of (Maps error) = map_texts.sentence_of error.kind
 
 -- ---- the position of what is refused, in a line
 
@@ -40,6 +43,11 @@ abbrev pub text_position : ℕ → ℕ → List ℕ
 text_position line column =
     (codes "line " ++ (decimal line ++ codes " "))
     ++ (codes "column " ++ (decimal column ++ codes "\n"))
+
+-- a line and a column in a text of maps, and a hint
+abbrev pub maps_position : MapTextError → List ℕ
+maps_position error =
+    text_position error.line error.column ++ (map_texts.hint_of error.kind ++ codes "\n")
 
 -- ---- hints
 
@@ -94,6 +102,7 @@ position_of (Program refusal slot insn) = slot_position slot insn
 position_of (Table error position) = table_position error position
 position_of Explored = []
 position_of (Text error) = text_position error.line error.column
+position_of (Maps error) = maps_position error
 
 -- the sentence in a line, and then the position
 abbrev pub rejection_text : Rejection → List ℕ

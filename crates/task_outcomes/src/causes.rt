@@ -77,6 +77,8 @@ pub enum Conflict {
     IsRead,
     /// It is the pipe that standard output is.
     IsStandardOutput,
+    /// It is another output of the same run.
+    IsWritten,
 }
 
 /// The end of a line that names such a file, and a line that says why.
@@ -86,6 +88,7 @@ pub fn conflict_line(conflict: Conflict) -> &'static str
     match conflict {
         Conflict::IsRead => "\nit is one of the files that are read\n",
         Conflict::IsStandardOutput => "\nit is the pipe that the report is written to\n",
+        Conflict::IsWritten => "\nit is another output of this run\n",
     }
 }
 

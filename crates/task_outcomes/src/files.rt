@@ -7,13 +7,12 @@ ghost use Rattle.task_outcomes.specs.Statuses.{IsReadFailure, IsMakeFailure};
 ghost use Rattle.words.specs.Requests.{files_of};
 ghost use Rattle.task_outcomes.specs.Files.{LoadsNone, RunsOn, DisassemblesFile, Assembles, AssemblesFile};
 
-use super::causes::Conflict;
 use super::endings::Ending;
 use super::forms::FileForm;
 use super::fronts::{Watched, read_ahead};
 use super::outcomes::TaskOutcome;
+use super::outputs::{create_file, create_sent};
 use super::reading::{read_start, read_text};
-use super::same::{is_output_pipe, is_same_file};
 use super::screens::Screen;
 use super::streams::{run_stream, store_image};
 use super::verdicts::{assembled, image_of, say_text, size_line};
@@ -27,18 +26,14 @@ use std::alloc::Global;
 use std::fs;
 use std::io::Write;
 use std::rt::{Clock, Files};
-use words::{AssemblyPaths, RunPaths, TablePaths};
+use words::{AssemblyPaths, RunPaths};
 
 // One byte more than the longest image has: its head, its map rows and its slots. A longer file is
 // refused whatever the rest of it is.
 const PAST_ANY_IMAGE: u64 = 8 + 12 * MAX_MAPS as u64 + 8 * MAX_SLOTS as u64 + 1;
 
-// How many bytes of packet frames or of a proof table are read or written at a time.
+// How many bytes of packet frames are read at a time.
 const BUFFER: usize = 64 * 1024;
-
-// The length of the magic that frames out begin with. It is written through the buffer immediately,
-// so that a file that cannot be written is found before the report begins.
-const MAGIC: usize = 4;
 
 /// A source of frames, what it is by its first bytes, and where the frames out go.
 pub type Streams<'b, R> = (
@@ -46,40 +41,6 @@ pub type Streams<'b, R> = (
     FileForm,
     PromptWriter<<R as Files>::File>,
 );
-
-// Makes a file to write to, unless it is one of those that are read.
-fn create_file<'a, R: Files>(
-    rt: &R,
-    path: &'a str,
-    read: &[&str],
-) -> Result<R::File, TaskOutcome<'a>>
-    ensures { IfErr result (IsMakeFailure path.now) }
-{
-    for other in read {
-        if is_same_file(rt, path, *other) {
-            return Err(TaskOutcome::CannotReplace(path, Conflict::IsRead));
-        }
-    }
-    match fs::create(rt, path) {
-        Ok(file) => Ok(file),
-        Err(error) => Err(TaskOutcome::of_write(path, &error)),
-    }
-}
-
-// Makes the file of the frames out, unless it is one of those that are read, or the pipe that the
-// report is written to: there the two would be mixed.
-fn create_sent<'a, R: Files>(
-    rt: &R,
-    path: &'a str,
-    read: &[&str],
-) -> Result<R::File, TaskOutcome<'a>>
-    ensures { IfErr result (IsMakeFailure path.now) }
-{
-    if is_output_pipe(rt, path) {
-        return Err(TaskOutcome::CannotReplace(path, Conflict::IsStandardOutput));
-    }
-    create_file(rt, path, read)
-}
 
 /// The image in a file, or how the task ends without it.
 pub fn load_image<'a, R: Files, W: Write>(
@@ -100,6 +61,35 @@ pub fn load_image<'a, R: Files, W: Write>(
     image_of(alloc, bytes.as_slice(), out)
 }
 
+/// Opens a frame stream, with a buffer. Nothing is read from it.
+pub fn open_frames<'a, 'b, R: Files + Clock>(
+    rt: &'b R,
+    alloc: Global,
+    path: &'a str,
+) -> Result<Buffered<Watched<'b, R, <R as Files>::File>>, TaskOutcome<'a>>
+    ensures { IfErr result (IsReadFailure path.now) }
+{
+    match fs::open(rt, path) {
+        Ok(source) => {
+            let source = Watched::new(source, Screen::shared(rt, alloc));
+            match Buffered::new(alloc, BUFFER, source) {
+                Ok(source) => Ok(source),
+                Err(_) => Err(TaskOutcome::NoMemory),
+            }
+        }
+        Err(error) => Err(TaskOutcome::of_read(path, &error)),
+    }
+}
+
+/// Reads the first bytes of the frame stream at a path ahead, and what the file is by them.
+pub fn begin_frames<'b, R: Files + Clock>(
+    rt: &'b R,
+    path: &str,
+    source: Buffered<Watched<'b, R, <R as Files>::File>>,
+) -> (Ahead<Watched<'b, R, <R as Files>::File>>, FileForm) {
+    read_ahead(source, !is_plain_file(rt, path))
+}
+
 /// Opens the frame stream, and then makes the file of the frames out, which may not replace a file
 /// that is read, nor be the pipe that standard output is. The buffer of each is made before any of
 /// its bytes is read or written. At the end the first bytes of the frame stream are read ahead.
@@ -113,35 +103,10 @@ pub fn open_streams<'a, 'b, R: Files + Clock>(
         (λ ended. IsReadFailure paths.entry.frames.now ended
         ⊎ IsMakeFailure paths.entry.out.now ended) }
 {
-    let source = match fs::open(rt, paths.frames) {
-        Ok(source) => source,
-        Err(error) => return Err(TaskOutcome::of_read(paths.frames, &error)),
-    };
-    let source = Watched::new(source, Screen::shared(rt, alloc));
-    let Ok(source) = Buffered::new(alloc, BUFFER, source) else {
-        return Err(TaskOutcome::NoMemory);
-    };
-    let file = create_sent(rt, paths.out, read)?;
-    let Ok(file) = PromptWriter::new(alloc, BUFFER, MAGIC, file) else {
-        return Err(TaskOutcome::NoMemory);
-    };
-    let (source, form) = read_ahead(source, !is_plain_file(rt, paths.frames));
+    let source = open_frames(rt, alloc, paths.frames)?;
+    let file = create_sent(rt, alloc, paths.out, read)?;
+    let (source, form) = begin_frames(rt, paths.frames, source);
     Ok((source, form, file))
-}
-
-/// Makes the file of a table, with a buffer in front of it. It may not replace the image.
-pub fn create_table<'a, R: Files>(
-    rt: &R,
-    alloc: Global,
-    paths: TablePaths<'a>,
-) -> Result<PromptWriter<R::File>, TaskOutcome<'a>>
-    ensures { IfErr result (IsMakeFailure paths.entry.table.now) }
-{
-    let file = create_file(rt, paths.table, &[paths.image])?;
-    match PromptWriter::new(alloc, BUFFER, 0, file) {
-        Ok(file) => Ok(file),
-        Err(_) => Err(TaskOutcome::NoMemory),
-    }
 }
 
 /// Runs a program with its bound on a frame stream: the stream is opened, then the frames out,

@@ -15,6 +15,7 @@ mod fronts;
 mod lines;
 mod names;
 mod outcomes;
+mod outputs;
 mod reading;
 mod rejections;
 mod same;
@@ -26,14 +27,18 @@ mod watching;
 
 pub use buffering::{buffered, piped};
 pub use endings::Ending;
-pub use files::{assemble_file, create_table, disassemble_file, load_image, open_streams, run_on};
+pub use files::{
+    assemble_file, begin_frames, disassemble_file, load_image, open_frames, open_streams, run_on,
+};
 pub use forms::FileForm;
 pub use fronts::Watched;
-pub use lines::table_line;
-pub use outcomes::TaskOutcome;
+pub use lines::{maps_line, table_line};
+pub use outcomes::{STANDARD_OUTPUT, TaskOutcome};
+pub use outputs::{create_output, create_table, keep_apart, open_standard_output};
 pub use reading::read_table;
 pub use rejections::Rejection;
 pub use screens::Screen;
 pub use streams::outcome_of;
+pub use texts::write_texts;
 pub use verdicts::{accepted, bound_line, say_line, say_made, say_refused, say_unwritten};
 pub use watching::{is_pipe, is_unwatched};

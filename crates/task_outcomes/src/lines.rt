@@ -2,10 +2,11 @@
 
 ghost use Rattle.std.specs.Prelude.{◌≡◌, ◌++◌, IfOk, codes, decimal};
 ghost use Rattle.std.specs.String.{string_bytes};
-ghost use Rattle.task_outcomes.specs.Lines.{image_line, verdict_line, table_line, text_line};
+ghost use Rattle.task_outcomes.specs.Lines.{image_line, verdict_line, table_line, text_line, maps_line};
 
 use assembler::AsmError;
 use image::ImageError;
+use map_texts::MapTextError;
 use rechecking::TableError;
 use std::alloc::{AllocError, Global};
 use table_entries::TableRefusal;
@@ -84,6 +85,16 @@ pub fn table_line(alloc: Global, error: TableError) -> Result<String, AllocError
 /// The line for a text that is refused at a line and a column.
 pub fn text_line(alloc: Global, error: AsmError) -> Result<String, AllocError>
     ensures { IfOk result (λ line. string_bytes line ≡ text_line error) }
+{
+    let code = error.kind.code();
+    let line = error.line;
+    let column = error.column;
+    format!(in alloc; "refused {code} line {line} column {column}\n")
+}
+
+/// The line for a text of maps that is refused at a line and a column.
+pub fn maps_line(alloc: Global, error: MapTextError) -> Result<String, AllocError>
+    ensures { IfOk result (λ line. string_bytes line ≡ maps_line error) }
 {
     let code = error.kind.code();
     let line = error.line;

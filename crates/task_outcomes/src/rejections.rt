@@ -5,7 +5,7 @@ ghost use Rattle.std.specs.Io.KnownBytes.{Appends};
 ghost use Rattle.isa_model.specs.Text.CanonicalText as canonical;
 ghost use Rattle.exact_io.specs.Transfers.{AppendsBeginning};
 ghost use Rattle.task_outcomes.specs.Forms.{file_line};
-ghost use Rattle.task_outcomes.specs.Messages.{sentence_of, hint_line, image_position, insn_position, text_position, position_of, entry_position, anew, entry_anew, step_position, table_position, rejection_text};
+ghost use Rattle.task_outcomes.specs.Messages.{sentence_of, hint_line, image_position, insn_position, text_position, position_of, entry_position, anew, entry_anew, step_position, table_position, maps_position, rejection_text};
 
 use super::forms::FileForm;
 use super::texts::write_texts;
@@ -15,6 +15,7 @@ use exact_io::write_bytes;
 use image::ImageError;
 use isa_model::Insn;
 use itoa::Buffer;
+use map_texts::MapTextError;
 use rechecking::TableError;
 use std::io;
 use std::io::Write;
@@ -35,6 +36,8 @@ pub enum Rejection {
     Explored,
     /// The text spells no program.
     Text(AsmError),
+    /// The text does not fill the maps.
+    Maps(MapTextError),
 }
 
 impl Rejection {
@@ -47,6 +50,7 @@ impl Rejection {
             Rejection::Table(error, _) => error.sentence(),
             Rejection::Explored => WriteTableError::Explored.sentence(),
             Rejection::Text(error) => error.kind.sentence(),
+            Rejection::Maps(error) => error.kind.sentence(),
         }
     }
 
@@ -64,6 +68,7 @@ impl Rejection {
             Rejection::Table(error, position) => say_table_position(err, error, position),
             Rejection::Explored => Ok(()),
             Rejection::Text(error) => say_text_position(err, error.line, error.column),
+            Rejection::Maps(error) => say_maps_position(err, error),
         }
     }
 
@@ -247,4 +252,15 @@ fn say_text_position<W: Write>(err: &mut W, line: usize, column: usize) -> io::R
     let mut buffer = Buffer::new();
     write_texts(err, "line ", buffer.format(line as u64), " ")?;
     write_texts(err, "column ", buffer.format(column as u64), "\n")
+}
+
+// Writes a line and a column in a text of maps, and a hint.
+fn say_maps_position<W: Write>(err: &mut W, error: MapTextError) -> io::Result<()>
+    ensures ok { OnOk result (Appends (W.contents err.old) (W.contents err.new)
+        (maps_position error)) }
+    ensures err { OnErr result (AppendsBeginning (W.contents err.old) (W.contents err.new)
+        (maps_position error)) }
+{
+    say_text_position(err, error.line, error.column)?;
+    write_texts(err, "", error.kind.hint(), "\n")
 }

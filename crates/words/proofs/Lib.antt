@@ -1,5 +1,6 @@
 mod Words
 mod Parsed
+mod FilterParsed
 pub mod AskedExamples
 pub mod AskedLaws
 pub mod WalkLaws

@@ -80,7 +80,7 @@ abbrev pub request_met : Option (List ℕ × List Row) → Option TaskRequest
 request_met = option_and_then (λ met. request_by met.0 met.1)
 
 -- arguments that clap does not accept ask for nothing
-abbrev pub unless_wrong : Kinds → Option TaskRequest → Option TaskRequest
+abbrev pub unless_wrong : {A : Type 0} → Kinds → Option A → Option A
 unless_wrong [] request = request
 unless_wrong (wrong ∷ more) request = None
 

@@ -1,3 +1,6 @@
 pub mod Requests
 pub mod CommandLine
 pub mod Asked
+pub mod FilterRequests
+pub mod FilterLine
+pub mod FilterAsked

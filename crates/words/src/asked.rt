@@ -15,8 +15,8 @@ use clap::error::ErrorKind;
 use isa_model::MAX_STEPS;
 use std::alloc::{AllocError, Global};
 
-// The message for arguments that clap accepts and a command does not.
-const NO_LIMIT: &str = "error: the value of --limit is not a number from 1 to 1000000\n";
+/// The message for a limit that is none.
+pub const NO_LIMIT: &str = "error: the value of --limit is not a number from 1 to 1000000\n";
 
 fn is_all_digits(text: &[u8]) -> bool
     ensures { result ≡ list_all is_ascii_digit text.now }
@@ -24,8 +24,8 @@ fn is_all_digits(text: &[u8]) -> bool
     text.iter().all(|b| b.is_ascii_digit())
 }
 
-// A limit: decimal digits, from 1 to 1,000,000.
-fn limit_of(text: &str) -> Option<StepLimit>
+/// A limit: decimal digits, from 1 to 1,000,000.
+pub fn limit_of(text: &str) -> Option<StepLimit>
     ensures { option_map (λ limit. limit.steps) result ≡ limit_of text.now }
 {
     if text.is_empty() || !is_all_digits(text.as_bytes()) {
@@ -37,15 +37,16 @@ fn limit_of(text: &str) -> Option<StepLimit>
     }
 }
 
-// The value of an argument.
-fn value_in<'a>(matches: &ArgMatches<'a>, name: &str) -> Option<&'a str>
+/// The value of an argument.
+pub fn value_in<'a>(matches: &ArgMatches<'a>, name: &str) -> Option<&'a str>
     ensures { option_map (λ value. value.now) result
         ≡ first_of name.now (rows_of (found_of matches.now)) }
 {
     matches.get_str(name)
 }
 
-fn paths_in<'a>(matches: &ArgMatches<'a>) -> Option<RunPaths<'a>>
+/// The image, the frames, and the frames out.
+pub fn paths_in<'a>(matches: &ArgMatches<'a>) -> Option<RunPaths<'a>>
     ensures { option_map files_of result ≡ files_in (rows_of (found_of matches.now)) }
 {
     Some(RunPaths {
@@ -137,8 +138,8 @@ fn without_tip(alloc: Global, message: String) -> Result<String, AllocError> {
     Ok(message)
 }
 
-// What clap prints for a command line that it did not accept, or for help or the version.
-fn message_of(alloc: Global, error: &clap::Error) -> Result<String, AllocError> {
+/// What clap prints for a command line that it did not accept, or for help or the version.
+pub fn message_of(alloc: Global, error: &clap::Error) -> Result<String, AllocError> {
     let message = format!(in alloc; "{error}")?;
     without_tip(alloc, message)
 }

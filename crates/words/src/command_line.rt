@@ -13,11 +13,11 @@ const NAME: &str = "xdpvm";
 /// The version of the program, which `--version` prints.
 pub const VERSION: &str = "0.1.0";
 
-// An argument that a command requires, and its help text.
+/// An argument that a command requires, and its help text.
 #[derive(Clone, Copy)]
-struct Argument {
-    name: &'static str,
-    help: &'static str,
+pub struct Argument {
+    pub name: &'static str,
+    pub help: &'static str,
 }
 
 const TEXT: Argument = Argument {
@@ -30,7 +30,8 @@ const MADE: Argument = Argument {
     help: "The image that is made; a file that is there is replaced",
 };
 
-const IMAGE: Argument = Argument {
+/// The argument of a program's image.
+pub const IMAGE: Argument = Argument {
     name: "image",
     help: "The image of the program, as `asm` makes it; /dev/stdin is taken, too",
 };
@@ -55,21 +56,23 @@ const TABLE: Argument = Argument {
     help: "The proof table, as `prove` makes it",
 };
 
-// An option of a command, the name of its value in the help, and its help text.
+/// An option of a command, the name of its value in the help, and its help text.
 #[derive(Clone, Copy)]
-struct Choice {
-    name: &'static str,
-    value: &'static str,
-    help: &'static str,
+pub struct Choice {
+    pub name: &'static str,
+    pub value: &'static str,
+    pub help: &'static str,
 }
 
-const LIMIT: Choice = Choice {
+/// The option of a limit of steps.
+pub const LIMIT: Choice = Choice {
     name: "limit",
     value: "N",
     help: "The most steps on one frame, from 1 to 1000000 [default: 1000000]",
 };
 
-const INSTEAD: Choice = Choice {
+/// The option of a proof table.
+pub const INSTEAD: Choice = Choice {
     name: "table",
     value: "TABLE",
     help: "A proof table, which is tested in place of verifying the program",
@@ -103,8 +106,8 @@ fn wanted<'a>(alloc: Global, argument: Argument) -> Arg<'a>
         .help(argument.help)
 }
 
-// The command of this name that requires these arguments.
-fn command<'a>(
+/// The command of this name that requires these arguments.
+pub fn command<'a>(
     alloc: Global,
     name: &'static str,
     about: &'static str,
@@ -120,8 +123,8 @@ fn command<'a>(
     Ok(command)
 }
 
-// A command with an option.
-fn with_choice<'a>(
+/// A command with an option.
+pub fn with_choice<'a>(
     alloc: Global,
     command: Command<'a>,
     choice: Choice,

@@ -3,9 +3,14 @@
 
 mod asked;
 mod command_line;
+mod filter_asked;
+mod filter_line;
+mod filter_tasks;
 mod given;
 mod tasks;
 
 pub use asked::read_words;
+pub use filter_asked::read_filter_words;
+pub use filter_tasks::{FilterTask, FilterWordsError, Judging};
 pub use given::given_words;
 pub use tasks::{AssemblyPaths, RunPaths, StepLimit, TablePaths, Task, WordsError};

@@ -1,0 +1,162 @@
+-- What a run on files did, by how far it came.
+use Rattle.std.proofs.Common.{◌≡◌, ◌∙◌, ◌⊎◌, ℕ, List, Option, None, Result, Ok, Err, refl, subst, sym, inl, inr}
+use Rattle.isa_model.specs.{Program}
+use Rattle.isa_model.specs.Machine.States.{KeyValues}
+use Rattle.image.specs.Images.{IsImage}
+use Rattle.bounds.specs.Bounds.{Bounded, IsVerified}
+use Rattle.stack_state.specs.Starts.{start}
+use Rattle.walks.specs.Accepting.{BoundsAll}
+use Rattle.walks.specs.Counts.{HasNumber}
+use Rattle.host.specs.declared.traced.Counted.{Counted}
+use Rattle.frames.specs.Sources.{Origin}
+use Rattle.task_outcomes.specs.declared.forms.FileForm.{FileForm}
+use Rattle.task_outcomes.specs.declared.outcomes.TaskOutcome.{TaskOutcome}
+use Rattle.task_outcomes.specs.declared.endings.Ending.{Ending}
+use Rattle.task_outcomes.specs.Files.{LoadsNone}
+use Rattle.task_outcomes.specs.Known.{Plainly}
+use Rattle.words.specs.declared.tasks.StepLimit.{StepLimit}
+use Rattle.words.specs.FilterRequests.{FilterRequest, Verified, Shown, Checked}
+use Rattle.commands.specs.Commands.{IsShown, ShowsNone}
+use Rattle.commands.specs.Judging.{IsBoundOf, RefusesProgram}
+use Rattle.commands.specs.Known.{IsKnownOfProgram}
+use Rattle.filtering.specs.declared.ready.Ready.{Ready}
+use Rattle.filtering.specs.declared.ready.Ready.TheVariants.{Bounded as Bound, Tested}
+use Rattle.filtering.specs.Filling.{BeginsNot, BeginsWith}
+use Rattle.filtering.specs.Files.{EndsRun, FiltersBy, FiltersOn, FiltersSome}
+use Rattle.filtering.specs.Finishing.{WritesEnd}
+use Rattle.filtering.specs.Opening.{IsOpenFailure, output_name}
+use Rattle.filtering.specs.Running.{program_of}
+
+-- the outcome that the ending has, with nothing more
+plainly : (P : TaskOutcome → Type 0) (o : TaskOutcome) (r : Ending) → P o → r.outcome ≡ o
+    → r.why ≡ None → Plainly P r
+plainly P o r h same none = (subst P (sym same) h, none)
+
+-- the image could not be loaded
+pub verified_unloaded : (request : FilterRequest) (old new : Option (List ℕ)) (o : TaskOutcome)
+    (r : Ending) → LoadsNone request.files.image old new o → r.outcome ≡ o → r.why ≡ None
+    → FiltersBy Verified request old new r
+verified_unloaded request old new o r h same none =
+    inl (plainly (LoadsNone request.files.image old new) o r h same none)
+
+pub checked_unloaded : (request : FilterRequest) (steps : ℕ) (old new : Option (List ℕ))
+    (o : TaskOutcome) (r : Ending) → LoadsNone request.files.image old new o → r.outcome ≡ o
+    → r.why ≡ None → FiltersBy (Checked steps) request old new r
+checked_unloaded request steps old new o r h same none =
+    inl (plainly (LoadsNone request.files.image old new) o r h same none)
+
+-- the program is refused
+pub verified_refused : (request : FilterRequest) (p : Program) (old mid new : Option (List ℕ))
+    (r : Ending) → mid ≡ old → IsImage p → RefusesProgram p mid new r.outcome
+    → IsKnownOfProgram p r → FiltersBy Verified request old new r
+verified_refused request p old mid new r e fits h known =
+    inr (inl (
+      p,
+      fits,
+      (subst (λ (x : Option (List ℕ)). RefusesProgram p x new r.outcome) e h, known),
+    ))
+
+-- the program is accepted and run
+pub verified_run : (request : FilterRequest) (p : Program) (v : Bounded)
+    (old mid more new : Option (List ℕ)) (o : TaskOutcome) (r : Ending) → mid ≡ old → more ≡ mid
+    → IsImage p → v.program ≡ p → IsBoundOf v.program v.bound
+    → FiltersOn (Bound v) request more new o → r.outcome ≡ o → r.why ≡ None
+    → FiltersBy Verified request old new r
+verified_run request p v old mid more new o r e f fits is bound h same none =
+    let here : FiltersOn (Bound v) request old new o =
+    subst (λ (x : Option (List ℕ)). FiltersOn (Bound v) request x new o) (f ∙ e) h in
+    inr (inr (
+      v.program,
+      subst IsImage (sym is) fits,
+      (v.bound, bound, plainly (FiltersOn (Bound v) request old new) o r here same none),
+    ))
+
+-- a table shows the bound
+pub shown_run : (request : FilterRequest) (table : List ℕ) (v : Bounded)
+    (old mid new : Option (List ℕ)) (o : TaskOutcome) (r : Ending) → mid ≡ old → IsShown v
+    → FiltersOn (Bound v) request mid new o → r.outcome ≡ o → r.why ≡ None
+    → FiltersBy (Shown table) request old new r
+shown_run request table v old mid new o r e shown h same none =
+    let here : FiltersOn (Bound v) request old new o =
+    subst (λ (x : Option (List ℕ)). FiltersOn (Bound v) request x new o) e h in
+    inr (v, shown, plainly (FiltersOn (Bound v) request old new) o r here same none)
+
+-- every access is tested while the program runs
+pub checked_run : (request : FilterRequest) (p : Program) (limit : StepLimit)
+    (old mid new : Option (List ℕ)) (o : TaskOutcome) (r : Ending) → mid ≡ old → IsImage p
+    → FiltersOn (Tested p limit) request mid new o → r.outcome ≡ o → r.why ≡ None
+    → FiltersBy (Checked limit.steps) request old new r
+checked_run request p limit old mid new o r e fits h same none =
+    let here : FiltersOn (Tested p limit) request old new o =
+    subst (λ (x : Option (List ℕ)). FiltersOn (Tested p limit) request x new o) e h in
+    inr (
+      p,
+      fits,
+      (limit, refl, plainly (FiltersOn (Tested p limit) request old new) o r here same none),
+    )
+
+-- the bound that the verifier found
+pub bound-of : (p : Program) (v : Bounded) → v.program ≡ p → IsVerified v
+    → HasNumber p start v.bound → BoundsAll p v.bound → IsBoundOf v.program v.bound
+bound-of p v is verified number bounds =
+    record {
+      verified = verified;
+      number = subst (λ (x : Program). HasNumber x start v.bound) (sym is) number;
+      bounds = subst (λ (x : Program). BoundsAll x v.bound) (sym is) bounds;
+    }
+
+-- ---- a program that is ready
+
+pub filters_unbegun : (ready : Ready) (request : FilterRequest) (p : Program)
+    (old new : Option (List ℕ)) (o : TaskOutcome) → p ≡ program_of ready
+    → BeginsNot p request.maps old new o → FiltersOn ready request old new o
+filters_unbegun ready request p old new o is h =
+    inl (subst (λ (x : Program). BeginsNot x request.maps old new o) is h)
+
+pub filters_unopened : (ready : Ready) (request : FilterRequest) (p : Program)
+    (contents : List KeyValues) (old new : Option (List ℕ)) (o : TaskOutcome)
+    → p ≡ program_of ready → BeginsWith p request.maps contents → new ≡ old
+    → IsOpenFailure request o → FiltersOn ready request old new o
+filters_unopened ready request p contents old new o is begins e failed =
+    inr (
+      contents,
+      subst (λ (x : Program). BeginsWith x request.maps contents) is begins,
+      inl (failed, e),
+    )
+
+pub filters_opened : (ready : Ready) (request : FilterRequest) (p : Program)
+    (contents : List KeyValues) (source : Origin) (form : FileForm)
+    (report maps_out : Option (List ℕ)) (sent : List ℕ) (old mid new : Option (List ℕ))
+    (o : TaskOutcome) → p ≡ program_of ready → BeginsWith p request.maps contents → mid ≡ old
+    → report ≡ request.report → maps_out ≡ request.maps_out
+    → sent ≡ output_name request.files.out
+    → FiltersSome ready contents source form report sent maps_out mid new o
+    → FiltersOn ready request old new o
+filters_opened ready request p contents source form report maps_out sent old mid new o is begins e
+    f g h some =
+    inr (
+      contents,
+      subst (λ (x : Program). BeginsWith x request.maps contents) is begins,
+      inr (
+        source,
+        form,
+        subst (λ (x : Option (List ℕ)). FiltersSome ready contents source form request.report
+            (output_name request.files.out) request.maps_out x new o) e
+            (subst (λ (x : List ℕ). FiltersSome ready contents source form request.report x
+            request.maps_out mid new o) h
+            (subst (λ (x : Option (List ℕ)). FiltersSome ready contents source form request.report sent x
+            mid new o) g
+            (subst (λ (x : Option (List ℕ)). FiltersSome ready contents source form x sent maps_out mid new
+            o) f some))),
+      ),
+    )
+
+pub ends-finished : (ended : Result Counted TaskOutcome) (counted : Counted) (form : FileForm)
+    (maps_out old new : Option (List ℕ)) (o : TaskOutcome) → ended ≡ Ok counted
+    → WritesEnd counted form maps_out old new o → EndsRun ended form maps_out old new o
+ends-finished ended counted form maps_out old new o is h = rw is h
+
+pub ends-failed : (ended : Result Counted TaskOutcome) (form : FileForm)
+    (maps_out old new : Option (List ℕ)) (o : TaskOutcome) → ended ≡ Err o → new ≡ old
+    → EndsRun ended form maps_out old new o
+ends-failed ended form maps_out old new o is e = rw is (refl, e)

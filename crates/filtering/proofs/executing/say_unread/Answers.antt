@@ -1,0 +1,12 @@
+use Rattle.std.proofs.Common.{refl}
+use Rattle.filtering.specs.Executing.{usage}
+use Rattle.filtering.proofs.DeliveringLaws.{said-wrong}
+use Rattle.filtering.proofs.executing.say_unread.Goals as goal
+
+pub returns-in-Wrong : goal.returns-in-Wrong
+returns-in-Wrong g c =
+    rw c.in-Wrong.is (
+      refl,
+      said-wrong _ _ _ _ _ usage c.as_str.ensures.value c.write_texts.ensures.ok
+          c.write_texts.ensures.err,
+    )

@@ -1,0 +1,13 @@
+use Rattle.std.proofs.Common.{inl}
+use Rattle.words.specs.FilterRequests.{filter_request_of}
+use Rattle.filtering.proofs.FilesLaws.{shown_run}
+use Rattle.filtering.proofs.files.filter_shown.Goals as goal
+
+pub returns-in-Ok : goal.returns-in-Ok
+returns-in-Ok g c =
+    shown_run (filter_request_of c.args.task) c.args.table.now c.in-Ok.verified _ _ _ _ _
+    c.in-Ok.ensures.ok c.in-Ok.ensures.shown c.filter_on.ensures c.plain.ensures.outcome
+    c.plain.ensures.why
+
+pub returns-in-Err : goal.returns-in-Err
+returns-in-Err g c = inl c.in-Err.ensures.none

@@ -1,0 +1,122 @@
+-- What the program does for its arguments.
+use Rattle.std.specs.Prelude.{◌≡◌, ◌⊎◌, ℕ, Bool, true, false, List, ◌++◌, Option, Some, None, bytes_eq, codes}
+use Rattle.std.specs.String.{string_bytes}
+use Rattle.exact_io.specs.declared.buffering.PromptWriter.{PromptWriter}
+use Rattle.exact_io.specs.Waiting.{held}
+use Rattle.words.specs.declared.filter_tasks.FilterWordsError.{FilterWordsError}
+use Rattle.words.specs.declared.filter_tasks.FilterWordsError.TheVariants as error
+use Rattle.words.specs.declared.tasks.WordsError.{WordsError}
+use Rattle.words.specs.declared.tasks.WordsError.TheVariants.{Wrong, Memory}
+use Rattle.words.specs.FilterRequests.{FilterRequest}
+use Rattle.words.specs.FilterAsked.{AsksForText, filter_asked}
+use Rattle.task_outcomes.specs.declared.endings.Ending.{Ending}
+use Rattle.task_outcomes.specs.declared.outcomes.TaskOutcome.{TaskOutcome}
+use Rattle.task_outcomes.specs.declared.outcomes.TaskOutcome.TheVariants.{Done}
+use Rattle.task_outcomes.specs.Flushing.{Flushes}
+use Rattle.task_outcomes.specs.Known.{told_of}
+use Rattle.task_outcomes.specs.Saying.{AppendsPart, Says}
+use Rattle.task_outcomes.specs.Statuses.{status_of}
+use Rattle.filtering.specs.Files.{FiltersFiles}
+
+-- ---- a run
+
+-- Standard output is said what was done, and then flushed; standard error gets the messages.
+pub record SaysOnOutput {W : Type 0} (contents : W → Option (List ℕ)) (request : FilterRequest)
+    (old new : PromptWriter W) (before after : Option (List ℕ)) (status : ℕ) : Type 0 where
+  pub given : PromptWriter W
+  pub ended : Ending
+  pub ending : Ending
+  pub filters : FiltersFiles request (held contents old) (held contents given) ended
+  pub hands_on : Flushes contents given new ended ending
+  pub status_is : status ≡ status_of ending.outcome
+  pub said : AppendsPart before after (told_of ending)
+
+-- The frames out go to standard output, so that standard error is said what was done, and then the
+-- messages.
+pub record SaysOnError {W : Type 0} (request : FilterRequest) (old new : PromptWriter W)
+    (before after : Option (List ℕ)) (status : ℕ) : Type 0 where
+  pub untouched : new ≡ old
+  pub between : Option (List ℕ)
+  pub ended : Ending
+  pub filters : FiltersFiles request before between ended
+  pub status_is : status ≡ status_of ended.outcome
+  pub said : AppendsPart between after (told_of ended)
+
+abbrev pub FiltersByOutput : {W : Type 0} → Bool → (W → Option (List ℕ)) → FilterRequest
+    → PromptWriter W → PromptWriter W → Option (List ℕ) → Option (List ℕ) → ℕ → Type 0
+FiltersByOutput true contents request old new before after status =
+    SaysOnError request old new before after status
+FiltersByOutput false contents request old new before after status =
+    SaysOnOutput contents request old new before after status
+
+-- a run as it is asked for, by whether the frames out go to standard output
+abbrev pub FiltersWhole : {W : Type 0} → (W → Option (List ℕ)) → FilterRequest → PromptWriter W
+    → PromptWriter W → Option (List ℕ) → Option (List ℕ) → ℕ → Type 0
+FiltersWhole contents request old new before after status =
+    FiltersByOutput (bytes_eq request.files.out (codes "-")) contents request old new before after
+    status
+
+-- ---- no run
+
+abbrev pub usage : List ℕ
+usage = codes "usage: xdpvm_filter IMAGE FRAMES OUT\n"
+
+-- the arguments are wrong: standard error got why and how they are written, or a beginning of that
+abbrev pub TellsWrong : {W : Type 0} → List ℕ → PromptWriter W → PromptWriter W → Option (List ℕ)
+    → Option (List ℕ) → ℕ → Type 0
+TellsWrong text old new before after status =
+    (status ≡ 1) × (new ≡ old) × AppendsPart before after (text ++ usage)
+
+-- memory ran out, and nothing was done
+abbrev pub TellsMemory : {W : Type 0} → PromptWriter W → PromptWriter W → Option (List ℕ)
+    → Option (List ℕ) → ℕ → Type 0
+TellsMemory old new before after status =
+    (status ≡ 5) × (new ≡ old) × AppendsPart before after (codes "out of memory\n")
+
+-- standard output is said a text, and then flushed
+pub record SaysText {W : Type 0} (contents : W → Option (List ℕ)) (text : List ℕ)
+    (old new : PromptWriter W) (before after : Option (List ℕ)) (status : ℕ) : Type 0 where
+  pub given : PromptWriter W
+  pub outcome : TaskOutcome
+  pub ending : Ending
+  pub says : Says (held contents old) (held contents given) text Done outcome
+  pub hands_on : Flushes contents given new (record { outcome = outcome; why = None }) ending
+  pub status_is : status ≡ status_of ending.outcome
+  pub said : AppendsPart before after (told_of ending)
+
+-- why there is no run is said, or the text that is asked for
+abbrev pub SaysNoTask : {W : Type 0} → (W → Option (List ℕ)) → FilterWordsError → PromptWriter W
+    → PromptWriter W → Option (List ℕ) → Option (List ℕ) → ℕ → Type 0
+SaysNoTask contents (error.Shown text) old new before after status =
+    SaysText contents (string_bytes text) old new before after status
+SaysNoTask contents (error.Wrong text) old new before after status =
+    TellsWrong (string_bytes text) old new before after status
+SaysNoTask contents error.Memory old new before after status =
+    TellsMemory old new before after status
+
+-- ---- the program
+
+-- what is done for a request, or where the arguments make none: only those that may ask for the
+-- help or the version get a text
+abbrev pub Answers : {W : Type 0} → (W → Option (List ℕ)) → Option FilterRequest
+    → List (List ℕ) → PromptWriter W → PromptWriter W → Option (List ℕ) → Option (List ℕ) → ℕ
+    → Type 0
+Answers contents (Some request) words old new before after status =
+    FiltersWhole contents request old new before after status
+Answers contents None words old new before after status =
+    ((text : List ℕ) × TellsWrong text old new before after status)
+    ⊎ ((text : List ℕ) × AsksForText words × SaysText contents text old new before after status)
+
+-- the program does what the arguments ask for; or memory ran out before that was known
+abbrev pub FiltersWords : {W : Type 0} → (W → Option (List ℕ)) → List (List ℕ) → PromptWriter W
+    → PromptWriter W → Option (List ℕ) → Option (List ℕ) → ℕ → Type 0
+FiltersWords contents words old new before after status =
+    TellsMemory old new before after status
+    ⊎ Answers contents (filter_asked words) words old new before after status
+
+-- the arguments could not be read, and nothing is done: standard error got why
+abbrev pub TellsUnread : WordsError → Option (List ℕ) → Option (List ℕ) → ℕ → Type 0
+TellsUnread (Wrong text) before after status =
+    (status ≡ 1) × AppendsPart before after (string_bytes text ++ usage)
+TellsUnread Memory before after status =
+    (status ≡ 5) × AppendsPart before after (codes "out of memory\n")

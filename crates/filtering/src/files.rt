@@ -1,0 +1,188 @@
+//! What is done with the files of a run.
+
+ghost use Rattle.std.specs.Prelude.{◌≡◌, option_map};
+ghost use Rattle.maps.specs.Maps.{contents_of, rows_of};
+ghost use Rattle.words.specs.FilterRequests as judging;
+ghost use Rattle.words.specs.FilterRequests.{filter_request_of};
+ghost use Rattle.filtering.specs.Running.{program_of};
+ghost use Rattle.filtering.specs.Files.{FiltersBy, FiltersFiles, FiltersOn, FiltersSome, RunsWanted};
+
+use super::delivering::{Names, run_reported, run_unreported};
+use super::filling::maps_begun;
+use super::finishing::finish;
+use super::opening::{Named, Opened, open_all, output_name};
+use super::ready::Ready;
+use commands::{judge, load_shown};
+use exact_io::PromptWriter;
+use frames::Source;
+use host::Counted;
+use maps::Maps;
+use std::alloc::Global;
+use std::io::Write;
+use std::rt::{Clock, Files};
+use task_outcomes::{Ending, TaskOutcome, load_image};
+use words::{FilterTask, Judging, StepLimit, TablePaths};
+
+// Runs a program, with a report or without.
+fn run_wanted<'a, S: Source + Drop, W: Write + Drop>(
+    alloc: Global,
+    ready: Ready,
+    maps: Maps,
+    source: S,
+    report: Option<Named<'a, W>>,
+    name: &'a str,
+    sent: &mut PromptWriter<W>,
+) -> Result<Counted, TaskOutcome<'a>>
+    requires { rows_of maps ≡ (program_of ready).maps }
+    ensures { RunsWanted ready (contents_of maps)
+        record { bytes = S.remaining source; may_fail = S.may_fail }
+        (option_map (λ output. output.path.now) report.entry) name.now result }
+{
+    match report {
+        Some(Named { path, mut file }) => {
+            let names = Names {
+                report: path,
+                sent: name,
+            };
+            run_reported(alloc, ready, maps, source, names, &mut file, sent)
+        }
+        None => run_unreported(alloc, ready, maps, source, name, sent),
+    }
+}
+
+/// Runs a program on the frames of a stream, from these maps on, and writes all that is wanted to
+/// its outputs. The frames out go to an output of this name.
+pub fn filter_opened<'a, S: Source + Drop, W1: Write + Drop, W2: Write>(
+    alloc: Global,
+    ready: Ready,
+    maps: Maps,
+    opened: Opened<'a, S, W1>,
+    name: &'a str,
+    lines: &mut W2,
+) -> TaskOutcome<'a>
+    requires { rows_of maps ≡ (program_of ready).maps }
+    ensures { FiltersSome ready (contents_of maps)
+        record { bytes = S.remaining opened.entry.source; may_fail = S.may_fail }
+        opened.entry.form (option_map (λ output. output.path.now) opened.entry.report) name.now
+        (option_map (λ output. output.path.now) opened.entry.maps_out)
+        (W2.contents lines.old) (W2.contents lines.new) result }
+{
+    let Opened {
+        source,
+        form,
+        mut sent,
+        report,
+        maps_out,
+    } = opened;
+    match run_wanted(alloc, ready, maps, source, report, name, &mut sent) {
+        Ok(counted) => finish(alloc, counted, form, maps_out, lines),
+        Err(outcome) => outcome,
+    }
+}
+
+// Runs a program that is ready: its maps are filled, then the frames are opened, and then the
+// outputs are made.
+fn filter_on<'a, R: Files + Clock, W: Write>(
+    rt: &R,
+    alloc: Global,
+    ready: Ready,
+    task: FilterTask<'a>,
+    lines: &mut W,
+) -> TaskOutcome<'a>
+    ensures { FiltersOn ready (filter_request_of task.entry) (W.contents lines.old)
+        (W.contents lines.new) result }
+{
+    let maps = match maps_begun(rt, alloc, ready.image(), task.maps, lines) {
+        Ok(maps) => maps,
+        Err(outcome) => return outcome,
+    };
+    match open_all(rt, alloc, task) {
+        Ok(opened) => {
+            let name = output_name(task.paths.out);
+            filter_opened(alloc, ready, maps, opened, name, lines)
+        }
+        Err(outcome) => outcome,
+    }
+}
+
+// Verifies a program and runs it.
+fn filter_verified<'a, R: Files + Clock, W: Write>(
+    rt: &R,
+    alloc: Global,
+    task: FilterTask<'a>,
+    lines: &mut W,
+) -> Ending<'a>
+    ensures { FiltersBy judging.Verified (filter_request_of task.entry) (W.contents lines.old)
+        (W.contents lines.new) result }
+{
+    let image = match load_image(rt, alloc, task.paths.image, lines) {
+        Ok(image) => image,
+        Err(outcome) => return Ending::plain(outcome),
+    };
+    match judge(rt, alloc, image, lines) {
+        Ok(verified) => {
+            let ready = Ready::Bounded(verified);
+            Ending::plain(filter_on(rt, alloc, ready, task, lines))
+        }
+        Err(ending) => ending,
+    }
+}
+
+// Tests a proof table and runs its program.
+fn filter_shown<'a, R: Files + Clock, W: Write>(
+    rt: &R,
+    alloc: Global,
+    task: FilterTask<'a>,
+    table: &'a str,
+    lines: &mut W,
+) -> Ending<'a>
+    ensures { FiltersBy (judging.Shown table.now) (filter_request_of task.entry)
+        (W.contents lines.old) (W.contents lines.new) result }
+{
+    let image = task.paths.image;
+    match load_shown(rt, alloc, TablePaths { image, table }, lines) {
+        Ok(verified) => {
+            let ready = Ready::Bounded(verified);
+            Ending::plain(filter_on(rt, alloc, ready, task, lines))
+        }
+        Err(ending) => ending,
+    }
+}
+
+// Runs a program with every access tested.
+fn filter_checked<'a, R: Files + Clock, W: Write>(
+    rt: &R,
+    alloc: Global,
+    task: FilterTask<'a>,
+    limit: StepLimit,
+    lines: &mut W,
+) -> Ending<'a>
+    ensures { FiltersBy (judging.Checked limit.steps) (filter_request_of task.entry)
+        (W.contents lines.old) (W.contents lines.new) result }
+{
+    match load_image(rt, alloc, task.paths.image, lines) {
+        Ok(image) => {
+            let ready = Ready::Tested(image, limit);
+            Ending::plain(filter_on(rt, alloc, ready, task, lines))
+        }
+        Err(outcome) => Ending::plain(outcome),
+    }
+}
+
+/// Runs a program as the task says. Files are opened by their paths, and `lines` gets what is said:
+/// a refusal, or the counts.
+pub fn filter_files<'a, R: Files + Clock, W: Write>(
+    rt: &R,
+    alloc: Global,
+    task: FilterTask<'a>,
+    lines: &mut W,
+) -> Ending<'a>
+    ensures { FiltersFiles (filter_request_of task.entry) (W.contents lines.old)
+        (W.contents lines.new) result }
+{
+    match task.judging {
+        Judging::Verified => filter_verified(rt, alloc, task, lines),
+        Judging::Shown(table) => filter_shown(rt, alloc, task, table, lines),
+        Judging::Checked(limit) => filter_checked(rt, alloc, task, limit, lines),
+    }
+}

@@ -1,0 +1,167 @@
+//! The files of a run: the frames that are read, and the outputs.
+
+ghost use Rattle.std.specs.Prelude.{◌≡◌, IfErr, IfOk, bytes_eq, codes, option_map};
+ghost use Rattle.task_outcomes.specs.Statuses.{IsMakeFailure};
+ghost use Rattle.words.specs.FilterRequests.{filter_request_of};
+ghost use Rattle.filtering.specs.Opening.{IsOpenFailure, IsOutputConflict, MakesNot, frames_path, output_name};
+
+use exact_io::PromptWriter;
+use frames::Ahead;
+use std::alloc::Global;
+use std::io::Write;
+use std::rt::{Clock, Files};
+use task_outcomes::{
+    FileForm, STANDARD_OUTPUT, TaskOutcome, Watched, begin_frames, create_output, keep_apart,
+    open_frames, open_standard_output,
+};
+use words::{FilterTask, Judging};
+
+/// An output, and the path that it was opened by.
+#[derive(Drop)]
+pub struct Named<'a, W: Write + Drop> {
+    pub path: &'a str,
+    pub file: PromptWriter<W>,
+}
+
+/// The files of a run, opened.
+#[derive(Drop)]
+pub struct Opened<'a, S, W: Write + Drop> {
+    pub source: S,
+    /// What the frames are by their first bytes.
+    pub form: FileForm,
+    pub sent: PromptWriter<W>,
+    pub report: Option<Named<'a, W>>,
+    pub maps_out: Option<Named<'a, W>>,
+}
+
+/// Whether a path stands for standard input or standard output.
+pub fn is_dash(path: &str) -> bool
+    ensures { result ≡ bytes_eq path.now (codes "-") }
+{
+    path == "-"
+}
+
+// Where the frames are read.
+fn frames_path(path: &str) -> &str
+    ensures { result.now ≡ frames_path path.now }
+{
+    if is_dash(path) { "/dev/stdin" } else { path }
+}
+
+/// How messages name the output of the frames out.
+pub fn output_name<'a>(path: &'a str) -> &'a str
+    ensures { result.now ≡ output_name path.now }
+{
+    if is_dash(path) { STANDARD_OUTPUT } else { path }
+}
+
+// The files that a task reads; where it has none of a kind, the image again.
+fn files_read<'a>(task: &FilterTask<'a>) -> [&'a str; 4] {
+    let image = task.paths.image;
+    let table = match task.judging {
+        Judging::Shown(table) => table,
+        Judging::Verified | Judging::Checked(_) => image,
+    };
+    let maps = match task.maps {
+        Some(maps) => maps,
+        None => image,
+    };
+    [image, table, maps, frames_path(task.paths.frames)]
+}
+
+// Tests, before any file is made, that no output is a file that is read or another output.
+fn keep_all_apart<'a, R: Files>(
+    rt: &R,
+    task: &FilterTask<'a>,
+    read: &[&str],
+) -> Result<(), TaskOutcome<'a>>
+    ensures { IfErr result (IsOutputConflict (filter_request_of task.now)) }
+{
+    let out = task.paths.out;
+    if !is_dash(out) {
+        keep_apart(rt, out, read, &[])?;
+    }
+    let report = match task.report {
+        Some(report) => {
+            keep_apart(rt, report, read, &[out])?;
+            report
+        }
+        None => out,
+    };
+    match task.maps_out {
+        Some(maps_out) => keep_apart(rt, maps_out, read, &[out, report]),
+        None => Ok(()),
+    }
+}
+
+// Makes the output of the frames out.
+fn open_sent<'a, R: Files>(
+    rt: &R,
+    alloc: Global,
+    path: &'a str,
+    read: &[&str],
+) -> Result<PromptWriter<R::File>, TaskOutcome<'a>>
+    ensures { IfErr result (IsMakeFailure (output_name path.now)) }
+{
+    if is_dash(path) {
+        open_standard_output(rt, alloc, read)
+    } else {
+        create_output(rt, alloc, path, read, &[])
+    }
+}
+
+// Makes an output, if it is wanted.
+fn open_wanted<'a, R: Files>(
+    rt: &R,
+    alloc: Global,
+    path: Option<&'a str>,
+    read: &[&str],
+    written: &[&str],
+) -> Result<Option<Named<'a, R::File>>, TaskOutcome<'a>>
+    ensures named { IfOk result (λ output. option_map (λ o. o.path.now) output
+        ≡ option_map (λ p. p.now) path.entry) }
+    ensures failed { IfErr result (MakesNot (option_map (λ p. p.now) path.entry)) }
+{
+    match path {
+        Some(path) => match create_output(rt, alloc, path, read, written) {
+            Ok(file) => Ok(Some(Named { path, file })),
+            Err(outcome) => Err(outcome),
+        },
+        None => Ok(None),
+    }
+}
+
+/// Opens the frames, and then makes the outputs: the frames out, the report, and what the maps hold
+/// at the end. At the end the first bytes of the frames are read ahead.
+pub fn open_all<'a, 'b, R: Files + Clock>(
+    rt: &'b R,
+    alloc: Global,
+    task: FilterTask<'a>,
+) -> Result<
+    Opened<'a, Ahead<Watched<'b, R, <R as Files>::File>>, <R as Files>::File>,
+    TaskOutcome<'a>,
+>
+    ensures report { IfOk result (λ opened. option_map (λ o. o.path.now) opened.report
+        ≡ option_map (λ p. p.now) task.entry.report) }
+    ensures maps_out { IfOk result (λ opened. option_map (λ o. o.path.now) opened.maps_out
+        ≡ option_map (λ p. p.now) task.entry.maps_out) }
+    ensures failed { IfErr result (IsOpenFailure (filter_request_of task.entry)) }
+{
+    let read = files_read(&task);
+    let frames = frames_path(task.paths.frames);
+    let source = open_frames(rt, alloc, frames)?;
+    keep_all_apart(rt, &task, &read)?;
+    let out = task.paths.out;
+    let sent = open_sent(rt, alloc, out, &read)?;
+    let report = open_wanted(rt, alloc, task.report, &read, &[out])?;
+    let written = [out, task.report.unwrap_or(out)];
+    let maps_out = open_wanted(rt, alloc, task.maps_out, &read, &written)?;
+    let (source, form) = begin_frames(rt, frames, source);
+    Ok(Opened {
+        source,
+        form,
+        sent,
+        report,
+        maps_out,
+    })
+}

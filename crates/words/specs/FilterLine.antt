@@ -1,0 +1,28 @@
+-- The command line of xdpvm_filter, in clap's terms.
+use Rattle.std.specs.Prelude.{ℕ, true, List, [], ◌∷◌, Some, codes}
+use Rattle.clap.specs.Walk.{Rule}
+use Rattle.clap.specs.Simple.{App, new_rule, on_top, with_rule}
+use Rattle.clap.specs.declared.builder.action.ArgAction.TheVariants.{SetTrue}
+use Rattle.words.specs.CommandLine.{command, optional}
+
+-- an option that takes no value
+abbrev pub flag : List ℕ → Rule
+flag name = record (new_rule name) { long = Some name; action = Some SetTrue }
+
+-- xdpvm_filter, which has a version and requires an image, frames and an output
+abbrev pub filter_start : App
+filter_start =
+    on_top (λ s. record s { has_version = true })
+    (command (codes "xdpvm_filter") (codes "image" ∷ codes "frames" ∷ codes "out" ∷ []))
+
+abbrev pub with_option : List ℕ → App → App
+with_option name app = with_rule app (optional name)
+
+unfoldable pub filter_program : App
+filter_program =
+    with_option (codes "report")
+    (with_option (codes "limit")
+    (with_rule
+    (with_option (codes "table")
+    (with_option (codes "maps-out") (with_option (codes "maps") filter_start)))
+    (flag (codes "checked"))))

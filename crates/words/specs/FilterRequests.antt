@@ -1,0 +1,39 @@
+-- The parts of a request of xdpvm_filter, and the request that a task makes.
+use Rattle.std.specs.Prelude.{ℕ, List, Option, option_map}
+use Rattle.words.specs.Requests.{RunFiles, files_of}
+use Rattle.words.specs.declared.filter_tasks.FilterTask.{FilterTask}
+use Rattle.words.specs.declared.filter_tasks.Judging.{Judging}
+use Rattle.words.specs.declared.filter_tasks.Judging.TheVariants as judging
+
+-- what is done with a program before it runs: it is verified, or the proof table at the path is
+-- tested; or nothing, and every access is tested while it runs, with this limit of steps
+pub data JudgingRequest : Type 0 where
+  Verified : JudgingRequest
+  Shown : List ℕ → JudgingRequest
+  Checked : ℕ → JudgingRequest
+
+-- the files, by their paths; `maps` fills the maps before the first frame, `maps_out` gets what
+-- they hold after the last, and `report` gets the report
+pub record FilterRequest : Type 0 where
+  pub files : RunFiles
+  pub judging : JudgingRequest
+  pub maps : Option (List ℕ)
+  pub maps_out : Option (List ℕ)
+  pub report : Option (List ℕ)
+
+-- ---- the request of a task
+
+abbrev pub judging_of : Judging → JudgingRequest
+judging_of judging.Verified = Verified
+judging_of (judging.Shown table) = Shown table.now
+judging_of (judging.Checked limit) = Checked limit.steps
+
+abbrev pub filter_request_of : FilterTask → FilterRequest
+filter_request_of task =
+    record {
+      files = files_of task.paths;
+      judging = judging_of task.judging;
+      maps = option_map (λ path. path.now) task.maps;
+      maps_out = option_map (λ path. path.now) task.maps_out;
+      report = option_map (λ path. path.now) task.report;
+    }

@@ -1,0 +1,144 @@
+//! What the arguments of xdpvm_filter ask for.
+
+ghost use Rattle.std.specs.Prelude.{◌≡◌, ◌⊎◌, true, false, None, map, option_map, IfErr};
+ghost use Rattle.std.specs.String.{string_bytes};
+ghost use Rattle.clap.specs.Words.{found_of, kind_of, rows_of};
+ghost use Rattle.words.specs.FilterAsked.{FilterAsksFor, FilterTellsOf, IsUnshown, HasText, TellsJudging, filter_request_in, is_given, judging_by, judging_in};
+
+use super::asked::{NO_LIMIT, limit_of, message_of, paths_in, value_in};
+use super::filter_line::filter_program;
+use super::filter_tasks::{FilterTask, FilterWordsError, Judging};
+use super::tasks::StepLimit;
+use clap::ArgMatches;
+use clap::error::ErrorKind;
+use isa_model::MAX_STEPS;
+use std::alloc::Global;
+
+// The messages for arguments that clap accepts and the program does not.
+const TWO_WAYS: &str = "error: --table and --checked exclude each other\n";
+
+const UNUSED_LIMIT: &str = "error: --limit is of use only with --checked\n";
+
+// Whether an option is given that takes no value.
+fn is_given(matches: &ArgMatches<'_>, name: &str) -> bool
+    ensures { result ≡ is_given name.now (rows_of (found_of matches.now)) }
+{
+    match value_in(matches, name) {
+        Some(text) => text == "true",
+        None => false,
+    }
+}
+
+// With every access tested: the limit that is given, or the greatest.
+fn checked_by<'a>(limit: Option<&str>) -> Result<Judging<'a>, &'static str>
+    ensures { TellsJudging (judging_by true None (option_map (λ text. text.now) limit.entry))
+        result }
+{
+    match limit {
+        None => Ok(Judging::Checked(StepLimit { steps: MAX_STEPS })),
+        Some(text) => match limit_of(text) {
+            Some(limit) => Ok(Judging::Checked(limit)),
+            None => Err(NO_LIMIT),
+        },
+    }
+}
+
+// Without: the table that is given takes the place of the verifier.
+fn judged_by<'a>(table: Option<&'a str>, limit: Option<&str>) -> Result<Judging<'a>, &'static str>
+    ensures { TellsJudging (judging_by false (option_map (λ path. path.now) table.entry)
+        (option_map (λ text. text.now) limit.entry)) result }
+{
+    if limit.is_some() {
+        return Err(UNUSED_LIMIT);
+    }
+    match table {
+        Some(table) => Ok(Judging::Shown(table)),
+        None => Ok(Judging::Verified),
+    }
+}
+
+// What is done before the run, or the message why these options do not go together.
+fn judging_by<'a>(
+    is_checked: bool,
+    table: Option<&'a str>,
+    limit: Option<&str>,
+) -> Result<Judging<'a>, &'static str>
+    ensures { TellsJudging (judging_by is_checked (option_map (λ path. path.now) table.entry)
+        (option_map (λ text. text.now) limit.entry)) result }
+{
+    if !is_checked {
+        return judged_by(table, limit);
+    }
+    match table {
+        Some(_) => Err(TWO_WAYS),
+        None => checked_by(limit),
+    }
+}
+
+// What is done before the run, by the options that are given.
+fn judging_in<'a>(matches: &ArgMatches<'a>) -> Result<Judging<'a>, &'static str>
+    ensures { TellsJudging (judging_in (rows_of (found_of matches.now))) result }
+{
+    let is_checked = is_given(matches, "checked");
+    let table = value_in(matches, "table");
+    judging_by(is_checked, table, value_in(matches, "limit"))
+}
+
+// The error for arguments that the program does not accept, with this message.
+fn wrong(alloc: Global, message: &str) -> FilterWordsError
+    ensures { IsUnshown result }
+{
+    match String::from_str(alloc, message) {
+        Ok(text) => FilterWordsError::Wrong(text),
+        Err(_) => FilterWordsError::Memory,
+    }
+}
+
+// The task of a command line that clap accepts.
+fn task_in<'a>(alloc: Global, matches: &ArgMatches<'a>) -> Result<FilterTask<'a>, FilterWordsError>
+    ensures tells { FilterTellsOf (filter_request_in (rows_of (found_of matches.now))) result }
+    ensures unshown { IfErr result IsUnshown }
+{
+    let Some(paths) = paths_in(matches) else {
+        return Err(wrong(alloc, ""));
+    };
+    match judging_in(matches) {
+        Ok(judging) => Ok(FilterTask {
+            paths,
+            judging,
+            maps: value_in(matches, "maps"),
+            maps_out: value_in(matches, "maps-out"),
+            report: value_in(matches, "report"),
+        }),
+        Err(message) => Err(wrong(alloc, message)),
+    }
+}
+
+// Why a command line was not accepted, or the text that it asks for.
+fn filter_error_of(alloc: Global, error: &clap::Error) -> FilterWordsError
+    ensures memory { kind_of error.now ≡ ErrorKind.OutOfMemory → result ≡ FilterWordsError.Memory }
+    ensures shown { HasText result → (kind_of error.now ≡ ErrorKind.DisplayHelp)
+        ⊎ (kind_of error.now ≡ ErrorKind.DisplayVersion) }
+{
+    match (error.kind(), message_of(alloc, error)) {
+        (ErrorKind::OutOfMemory, _) | (_, Err(_)) => FilterWordsError::Memory,
+        (ErrorKind::DisplayHelp | ErrorKind::DisplayVersion, Ok(text)) => {
+            FilterWordsError::Shown(text)
+        }
+        (_, Ok(text)) => FilterWordsError::Wrong(text),
+    }
+}
+
+/// What the arguments of xdpvm_filter ask for. The first word is the program's name.
+pub fn read_filter_words<'a>(
+    alloc: Global,
+    words: &'a [String],
+) -> Result<FilterTask<'a>, FilterWordsError>
+    ensures { FilterAsksFor (map string_bytes words.now) result }
+{
+    let matches = match filter_program(alloc)?.try_get_matches_from(words) {
+        Ok(matches) => matches,
+        Err(error) => return Err(filter_error_of(alloc, &error)),
+    };
+    task_in(alloc, &matches)
+}

@@ -1,0 +1,86 @@
+//! The command line of xdpvm_filter, for clap.
+
+ghost use Rattle.std.specs.Prelude.{◌≡◌, IfOk};
+ghost use Rattle.clap.specs.Words.{app_of, with_rule};
+ghost use Rattle.words.specs.FilterLine.{flag, filter_start, filter_program};
+
+use super::command_line::{Argument, Choice, IMAGE, INSTEAD, LIMIT, VERSION, command, with_choice};
+use clap::{Arg, ArgAction, Command};
+use std::alloc::{AllocError, Global};
+
+// The program's name.
+const NAME: &str = "xdpvm_filter";
+
+const ABOUT: &str = "Verifies a BPF program of type XDP, runs it on a stream of frames, and counts";
+
+const FRAMES: Argument = Argument {
+    name: "frames",
+    help: "The stream of frames, as `frames.py` makes it; - is standard input",
+};
+
+const OUT: Argument = Argument {
+    name: "out",
+    help: "Gets the frames that are sent on; - is standard output, and then all lines go to \
+         standard error",
+};
+
+const MAPS: Choice = Choice {
+    name: "maps",
+    value: "MAPS",
+    help: "The lines that fill the maps before the first frame, as a report has them",
+};
+
+const MAPS_OUT: Choice = Choice {
+    name: "maps-out",
+    value: "FILE",
+    help: "Gets the lines of what the maps hold after the last frame",
+};
+
+const REPORT: Choice = Choice {
+    name: "report",
+    value: "FILE",
+    help: "Gets the report, with a line for each frame, as `xdpvm run` writes it",
+};
+
+// The name of the option that takes no value, and its help text.
+const CHECKED: &str = "checked";
+
+const CHECKED_HELP: &str = "Tests every access while the program runs, in place of verifying it";
+
+// A command with an option that takes no value.
+fn with_flag<'a>(
+    alloc: Global,
+    command: Command<'a>,
+    name: &'static str,
+    help: &'static str,
+) -> Result<Command<'a>, AllocError>
+    ensures { IfOk result
+        (λ made. app_of made ≡ with_rule (app_of command.entry) (flag name.now)) }
+{
+    let option = Arg::new(alloc, name)
+        .long(name)
+        .action(ArgAction::SetTrue)
+        .help(help);
+    command.arg(option)
+}
+
+// The program with its required arguments and a version.
+fn filter_start<'a>(alloc: Global) -> Result<Command<'a>, AllocError>
+    ensures { IfOk result (λ made. app_of made ≡ filter_start) }
+{
+    let plain = command(alloc, NAME, ABOUT, &[IMAGE, FRAMES, OUT])?;
+    plain.version(VERSION).bin_name(NAME)
+}
+
+/// The program with its arguments.
+pub fn filter_program<'a>(alloc: Global) -> Result<Command<'a>, AllocError>
+    ensures { IfOk result (λ made. app_of made ≡ filter_program) }
+{
+    let start = filter_start(alloc)?;
+    let with_maps = with_choice(alloc, start, MAPS)?;
+    let with_maps_out = with_choice(alloc, with_maps, MAPS_OUT)?;
+    let with_table = with_choice(alloc, with_maps_out, INSTEAD)?;
+    let with_checked = with_flag(alloc, with_table, CHECKED, CHECKED_HELP)?;
+    let with_limit = with_choice(alloc, with_checked, LIMIT)?;
+    with_choice(alloc, with_limit, REPORT)
+}

@@ -1,0 +1,50 @@
+//! What xdpvm_filter is asked to do, and why its arguments ask for nothing.
+
+use super::tasks::{RunPaths, StepLimit};
+use std::alloc::AllocError;
+
+/// What is done with a program before it runs.
+#[derive(Clone, Copy)]
+pub enum Judging<'a> {
+    /// It is verified.
+    Verified,
+    /// The proof table at the path is tested.
+    Shown(&'a str),
+    /// Nothing; every access is tested while it runs, with this limit of steps.
+    Checked(StepLimit),
+}
+
+/// A run of a program on a frame stream.
+#[derive(Clone, Copy)]
+pub struct FilterTask<'a> {
+    /// The image, the frames, and the frames out. `-` is standard input and standard output.
+    pub paths: RunPaths<'a>,
+    pub judging: Judging<'a>,
+    /// The text that fills the maps before the first frame.
+    pub maps: Option<&'a str>,
+    /// Gets what the maps hold after the last frame.
+    pub maps_out: Option<&'a str>,
+    /// Gets the report.
+    pub report: Option<&'a str>,
+}
+
+/// Why the arguments ask for no run.
+#[derive(Drop)]
+pub enum FilterWordsError {
+    /// They ask for the help or the version, which this is, in whole lines.
+    Shown(String),
+    /// They are invalid. With the message, in whole lines.
+    Wrong(String),
+    Memory,
+}
+
+impl From<AllocError> for FilterWordsError {
+    ghost use Rattle.std.specs.Prelude.{◌≡◌};
+    ghost use Rattle.words.specs.declared.filter_tasks.FilterWordsError.TheVariants.{Memory};
+
+    ghost from_gives = { λ _ e. e ≡ Memory };
+
+    fn from(_error: AllocError) -> FilterWordsError {
+        FilterWordsError::Memory
+    }
+}
