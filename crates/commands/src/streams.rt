@@ -28,7 +28,8 @@ pub fn trace_stream<'a, R: Source + Drop, W1: Write, W2: Write + Drop>(
     file: &mut PromptWriter<W2>,
 ) -> Ending<'a>
     ensures { Traces image limit.steps
-        record { bytes = R.remaining source; may_fail = R.may_fail } form path.now (failure_of file.new)
+        record { bytes = R.remaining source; may_fail = R.may_fail } form path.now
+        (failure_of file.new)
         record { report = W1.contents out.old; sent = held W2.contents file.old }
         record { report = W1.contents out.new; sent = W2.contents (behind file.new) } result }
 {

@@ -37,8 +37,8 @@ pub record RunnerState (N : Type 0) : Type 0 where
   pub notes : Noting N
 
 -- a machine has taken these frames
-pub record HasTaken {N : Type 0} (old : RunnerState N) (frames : List PacketFrame) (new : RunnerState N)
-    : Type 0 where
+pub record HasTaken {N : Type 0} (old : RunnerState N) (frames : List PacketFrame)
+    (new : RunnerState N) : Type 0 where
   pub bounded : new.bounded ≡ old.bounded
   pub notes : new.notes ≡ old.notes
   pub contents : new.contents ≡ contents_after (rule_of old.bounded) old.contents frames

@@ -27,8 +27,8 @@ refused_line error =
     record { line = error.line; column = error.column; code = code_number (code_of error.kind) }
 
 -- a line of the text is refused; the maps are as the lines before it left them
-abbrev pub RefusesMapText : List ℕ → MapRefusal → Running → Running → Type 0
-RefusesMapText text out before after =
+abbrev pub RefusesMaps : List ℕ → MapRefusal → Running → Running → Type 0
+RefusesMaps text out before after =
     (error : MapTextError) × FillsMaps text (Some error) before after
     × (out ≡ refused_line error)
 

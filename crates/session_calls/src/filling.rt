@@ -5,7 +5,7 @@ ghost use Rattle.machine.specs.Texts.{FillsMaps};
 ghost use Rattle.map_texts.specs.Messages.{code_of};
 ghost use Rattle.verdict_calls.specs.Numbers.{code_number};
 ghost use Rattle.held_machines.specs.OpenSessions.{StaysOpen};
-ghost use Rattle.session_calls.specs.MapTexts.{IsFilling, RefusesMapText, no_map_refusal, refused_line};
+ghost use Rattle.session_calls.specs.MapTexts.{IsFilling, RefusesMaps, no_map_refusal, refused_line};
 
 use held_machines::Session;
 use map_texts::{MapTextError, MapTextErrorKind};
@@ -54,7 +54,7 @@ pub fn fill_session(alloc: Global, session: &mut Session, text: &[u8], out: &mut
     ensures alone { result ≡ 0 → out.new ≡ no_map_refusal }
     ensures wrong { (result ≡ 1) ↔ (session.old.held ≡ None) }
     ensures refused { result ≡ 2 → StaysOpen session.old.held session.new.held
-        (RefusesMapText text.now out.new) }
+        (RefusesMaps text.now out.new) }
     ensures session_kept { result ≡ 1 → session.new.held ≡ session.old.held }
     ensures out_kept { result ≡ 1 → out.new ≡ out.old }
     ensures status { IsFilling result }

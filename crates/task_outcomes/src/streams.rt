@@ -56,7 +56,8 @@ pub fn run_stream<'a, R: Source + Drop, W1: Write, W2: Write + Drop>(
     file: &mut PromptWriter<W2>,
 ) -> TaskOutcome<'a>
     ensures { RunsAccepted verified
-        record { bytes = R.remaining source; may_fail = R.may_fail } form path.now (failure_of file.new)
+        record { bytes = R.remaining source; may_fail = R.may_fail } form path.now
+        (failure_of file.new)
         record { report = W1.contents out.old; sent = held W2.contents file.old }
         record { report = W1.contents out.new; sent = W2.contents (behind file.new) } result }
 {

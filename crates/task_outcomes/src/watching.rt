@@ -1,5 +1,5 @@
-//! Which paths lead to a terminal, to a file on a disk, to a pipe, and to where nobody sees when bytes
-//! come.
+//! Which paths lead to a terminal, to a file on a disk, to a pipe, and to where nobody sees when
+//! bytes come.
 
 use std::fs;
 use std::os::unix::fs::{FileTypeExt, MetadataExt};

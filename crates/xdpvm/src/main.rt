@@ -1,8 +1,8 @@
 //! xdpvm: runs BPF programs of type XDP on streams of packet frames.
 //!
-//! One function does the work, `execute`, whose contract says what each command does and with which
-//! status it ends. Those of `execute_given`, `buffered` and `piped` say what can be said of the calls
-//! around it.
+//! One function does the work, `execute`, whose contract says what each command does and with
+//! which status it ends. Those of `execute_given`, `buffered` and `piped` say what can be said of
+//! the calls around it.
 #![tactic(auto)]
 
 pub use commands::execute;

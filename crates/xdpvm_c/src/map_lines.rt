@@ -3,7 +3,7 @@
 ghost use Rattle.std.specs.Prelude.{◌≡◌, ◌≢◌, ◌↔◌, None};
 ghost use Rattle.machine.specs.Texts.{FillsMaps};
 ghost use Rattle.held_machines.specs.OpenSessions.{HoldsOpen, StaysOpen};
-ghost use Rattle.session_calls.specs.MapTexts.{IsFilling, IsListing, ListsMaps, ReadsBackMaps, RefusesMapText, no_map_refusal};
+ghost use Rattle.session_calls.specs.MapTexts.{IsFilling, IsListing, ListsMaps, ReadsBackMaps, RefusesMaps, no_map_refusal};
 
 use held_machines::Session;
 use session_calls::filling::{MapRefusal, fill_session};
@@ -25,7 +25,7 @@ pub extern "C" fn xdpvm_fill(
     ensures alone { result ≡ 0 → out.new ≡ no_map_refusal }
     ensures wrong { (result ≡ 1) ↔ (session.old.held ≡ None) }
     ensures refused { result ≡ 2 → StaysOpen session.old.held session.new.held
-        (RefusesMapText text.now out.new) }
+        (RefusesMaps text.now out.new) }
     ensures session_kept { result ≡ 1 → session.new.held ≡ session.old.held }
     ensures out_kept { result ≡ 1 → out.new ≡ out.old }
     ensures status { IsFilling result }
