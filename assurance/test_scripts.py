@@ -9,6 +9,7 @@ import struct
 import sys
 import tempfile
 import unittest
+from pathlib import Path
 
 sys.dont_write_bytecode = True
 sys.path.append(os.path.join(os.path.dirname(os.path.abspath(__file__)), "../bench"))
@@ -154,44 +155,33 @@ PAGE = """# Map
 
 ### low
 
-Its code is in `src/lib`.
-
-| file of `specs/` | defines |
-|---|---|
-| `Numbers` | numbers |
+Its code is in `src/lib`, and `specs/Num*` has the definitions.
 """
 
 
 class Map(Tree):
     def wrong(self, page=PAGE):
         self.write("docs/ARCHITECTURE.md", page)
-        return [line.split(":")[1].split()[0] for line in file_map.wrong(self.room.name)]
+        return [" ".join(line.split()[1:3]) for line in file_map.wrong(Path(self.room.name))]
 
     def test_a_page_that_fits(self):
-        self.assertEqual(self.wrong(PAGE.replace("Its code is in `src/lib`.", "")), [])
-        self.assertEqual(self.wrong(PAGE.replace("Its code is in `src/lib`.", "").replace("`Numbers`", "`Num*`")), [])
-        self.assertEqual(self.wrong("| `low` | numbers |\n# low\nHere `specs/Numbers` is all.\n"), [])
+        self.assertEqual(self.wrong(), [])
+        self.assertEqual(self.wrong("| `low` | numbers |\n"), [])
 
     def test_what_is_missing_on_the_page(self):
-        page = PAGE.replace("Its code is in `src/lib`.", "")
-        self.assertEqual(self.wrong(page.replace("`Numbers`", "Numbers")), ["specs/Numbers"])
-        self.assertEqual(self.wrong(page.replace("### low", "### high")), ["specs/Numbers"])
-        self.assertEqual(self.wrong(page.replace("| `low` |", "| low |")), ["not"])
-        self.write("crates/low/src/sums.rt", "//! Sums.\n")
-        self.assertEqual(self.wrong(page), [])
-        table = "\n| file of `src/` | has |\n|---|---|\n| `products` | products |\n"
-        self.assertEqual(self.wrong(page + table), ["src/products", "src/sums"])
-        self.assertEqual(self.wrong(page + table.replace("`products`", "`sums`")), [])
+        self.assertEqual(self.wrong(PAGE.replace("| `low` |", "| low |")), ["not in"])
 
     def test_what_is_missing_in_the_tree(self):
-        self.assertEqual(self.wrong(PAGE.replace("| `Numbers` |", "| `Numbers`, `Sets` |")), ["src/lib", "specs/Sets"])
+        self.assertEqual(self.wrong(PAGE.replace("`specs/Num*`", "`specs/Num*`, `specs/Sets`")), ["specs/Sets is"])
+        self.assertEqual(self.wrong(PAGE.replace("### low", "### high").replace("`specs/Num*`", "`specs/Sets`")), [])
 
-    def test_files_that_pass_others_on_need_no_place(self):
+    def test_a_file_says_what_it_has(self):
+        self.write("crates/low/src/sums.rt", "//! Sums.\n//!\n//! More.\n")
         self.write("crates/low/specs/Code.antt", "pub mod Sets\n")
-        self.write("crates/low/specs/Code/Sets.antt", "-- Sets.\n")
-        page = PAGE.replace("Its code is in `src/lib`.", "")
-        self.assertEqual(self.wrong(page), ["specs/Code/Sets"])
-        self.assertEqual(self.wrong(page.replace("`Numbers` |", "`Numbers`, `Code/Sets` |")), [])
+        self.write("crates/low/specs/Code/Sets.antt", "use Sums\n")
+        self.write("crates/low/proofs/sums/add/Answers.antt", "use Sums\n")
+        self.assertEqual(self.wrong(), ["specs/Code/Sets does"])
+        self.assertEqual(file_map.first_line(Path(self.room.name) / "crates/low/src/sums.rt"), "Sums.")
 
 
 ONE = struct.pack("<QIII", 1000, 1, 0, 2) + b"\xca\xfe"

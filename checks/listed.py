@@ -27,7 +27,7 @@ CHECKS = (
     Check("edits_fit", "python3 assurance/run.py --fit", "whether the text that each edit replaces is still there", 2),
     Check("laws", "python3 assurance/laws.py", "which laws are in specs/ without need", 2),
     Check("names", "python3 assurance/names.py", "which public names mean different things in two crates", 2),
-    Check("file_map", "python3 assurance/file_map.py", "whether the map of the files agrees with the tree", 2),
+    Check("file_map", "python3 assurance/file_map.py --check", "whether the map of the crates agrees with the tree, and each file says what it has", 2),
     Check("trusted", "python3 assurance/trusted.py", "which definitions the promise rests on", 2),
     Check("scripts", "python3 assurance/scripts.py", "whether each script has a run", 1),
     Check("script_tests", "python3 assurance/test_scripts.py", "the scripts of assurance/ on small cases", 5),
