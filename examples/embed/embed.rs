@@ -95,11 +95,11 @@ other: r0 = 1
 exit
 ";
 
-/// The text that fills the map of the session, and what the map holds.
+/// The text that fills the map of the session, what the map holds, and a stream on it.
 fn texts() -> Result<(), Error> {
     let image = xdpvm::assemble(COUNTS)?;
     let found = xdpvm::describe(&image)?;
-    assert_eq!((found.version, found.slots, found.maps.len()), (1, 14, 1));
+    assert_eq!((found.version, found.slots, found.maps.len()), (1, 15, 1));
     let row = MapRow {
         kind: 1,
         key_size: 4,
@@ -121,8 +121,19 @@ fn texts() -> Result<(), Error> {
         session.fill(b"map 0 09000000 0900000000000000\nmap 0 07 00")?,
         Some(wrong)
     );
-    let held = "map 0 02000000 0100000000000000\nmap 0 07000000 0000000000000000\nmap 0 09000000 0900000000000000\n";
-    assert_eq!(session.list()?, held);
+    let mut frames = b"XPF1".to_vec();
+    for interface in [2, 7, 2, 9, 1] {
+        frames.extend_from_slice(&[0; 8]);
+        frames.extend_from_slice(&[interface, 0, 0, 0, 0, 0, 0, 0, 1, 0, 0, 0, 255]);
+    }
+    let held = "map 0 02000000 0300000000000000\nmap 0 07000000 0100000000000000\nmap 0 09000000 0a00000000000000\n";
+    let ran = session.stream(&frames)?;
+    let report = String::from_utf8_lossy(&ran.report).into_owned();
+    assert!(report.starts_with("0 PASS 1 12\n") && report.ends_with(&format!("{held}end 5\n")));
+    assert_eq!(
+        (ran.frames, ran.sent.len(), session.list()?.as_str()),
+        (5, 88, held)
+    );
     Ok(())
 }
 

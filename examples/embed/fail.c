@@ -1,6 +1,6 @@
 /* Every request for memory refused, one after the other, in every call that takes some: the answer is XDPVM_MEMORY, or what
-   it is with all memory; no memory is lost, and nothing is written. On an open session no call asks for any, but the one
-   that lists the maps. Linked with the library alone, whose three heap functions are defined here.
+   it is with all memory; no memory is lost, and nothing is written. On an open session no call asks for any, but those that
+   list the maps or run a stream. Linked with the library alone, whose three heap functions are defined here.
 
    usage: fail IMAGE.. (with a text beside each image that is to be assembled, NAME.text, and a proof table, NAME.table) */
 #include "xdpvm.h"
@@ -56,10 +56,10 @@ static size_t read_file(const char *path, uint8_t *to, size_t room) {
     return size;
 }
 
-enum { ASSEMBLE, DESCRIBE, DISASSEMBLE, VERIFY, RUN_ONCE, TRACE_ONCE, RUN_STREAM, RECHECK, OPEN, OPEN_WITH_TABLE, LIST, OPENED, CALLS };
+enum { ASSEMBLE, DESCRIBE, DISASSEMBLE, VERIFY, RUN_ONCE, TRACE_ONCE, RUN_STREAM, RECHECK, OPEN, OPEN_WITH_TABLE, LIST, STREAM, OPENED, CALLS };
 
 static const char *const NAMES[CALLS] = {"assemble", "describe", "disassemble", "verify", "run_once", "trace_once", "run_stream",
-                                         "recheck", "open", "open_with_table", "list",
+                                         "recheck", "open", "open_with_table", "list", "stream",
                                          "run, lookup, update, delete, next, fill"};
 
 /* The status of opening a session; where that is not XDPVM_OK, the session is still closed. */
@@ -98,22 +98,26 @@ static uint32_t call_session(void) {
     return most;
 }
 
-/* The status of listing the maps of a session that was opened with all memory. Where memory is refused, the session
+/* The status of a call that takes memory, on a session that was opened with all memory. Where memory is refused, the session
    stays open, and a later call succeeds. */
-static uint32_t call_list(void) {
+static uint32_t call_open(int which) {
     struct xdpvm_session session = {0};
     struct xdpvm_text_size listed = {0};
+    struct xdpvm_streamed streamed = {0, 0, 0, 0, 0};
     struct xdpvm_ended ended;
-    static uint8_t other[64];
+    struct xdpvm_changed changed;
+    static uint8_t other[64], key[64], value[1 << 12];
     long some = left;
     left = -1;
     uint32_t status = opened(0, &session);
     if (status != XDPVM_OK) return status;
+    if (image[4]) xdpvm_update(&session, 0, key, image[10], value, image[12] | (size_t)image[13] << 8, 0, &changed);
     left = some, requests = 0;
-    status = xdpvm_list(&session, made, sizeof made, &listed);
+    status = which == LIST ? xdpvm_list(&session, made, sizeof made, &listed)
+                           : xdpvm_stream(&session, frames, sizeof frames, made, sizeof made, why, sizeof why, &streamed);
     long asked = requests;
     left = -1;
-    if (status == XDPVM_MEMORY && listed.size) status = 98;
+    if (status == XDPVM_MEMORY && (listed.size || streamed.report || streamed.sent || streamed.frames)) status = 98;
     if (xdpvm_run(&session, &head, other, sizeof other, &ended) != XDPVM_OK) status = 97;
     xdpvm_close(&session);
     requests = asked;
@@ -143,7 +147,7 @@ static uint32_t call(int which) {
     case RUN_STREAM:
         return xdpvm_run_stream(image, image_size, frames, sizeof frames, made, sizeof made, why, sizeof why, &streamed);
     case RECHECK: return xdpvm_recheck(image, image_size, table, table_size, why, sizeof why, &rechecked);
-    case LIST: return call_list();
+    case LIST: case STREAM: return call_open(which);
     case OPENED: return call_session();
     default:
         status = opened(which == OPEN_WITH_TABLE, &session);

@@ -38,13 +38,14 @@ static uint64_t count(struct xdpvm_session *session, uint32_t interface) {
     return packets;
 }
 
-/* What the map holds, as text, fills a second session. */
+/* What the map holds, as text, fills a second session; a stream goes on from it. */
 static void texts(struct xdpvm_session *session, const uint8_t *image, size_t image_size) {
     static const uint8_t wrong[] = "map 0 01000000 0000000000000000\nmap 1 01000000 0000000000000000\n";
-    static uint8_t lines[4096], text[4096];
-    struct xdpvm_text_size listed, size;
+    static uint8_t lines[4096], frames[4 + 21], report[4096], sent[64];
+    struct xdpvm_text_size listed, text;
     struct xdpvm_session other = {0};
     struct xdpvm_map_refusal filled;
+    struct xdpvm_streamed streamed;
     struct xdpvm_described found;
     struct xdpvm_map_row row;
     need(xdpvm_list(session, lines, sizeof lines, &listed) == XDPVM_OK && listed.size == 64, "a list");
@@ -53,11 +54,16 @@ static void texts(struct xdpvm_session *session, const uint8_t *image, size_t im
     need(count(&other, 1) == 3 && count(&other, 2) == 3, "the counts of the second session");
     need(xdpvm_fill(&other, wrong, sizeof wrong - 1, &filled) == XDPVM_REFUSED && filled.code == 2, "a map that has no row");
     need(filled.line == 2 && filled.column == 5 && count(&other, 1) == 0, "the line before it");
+    memcpy(frames, "XPF1", 4);
+    frames[4 + 8] = 2, frames[4 + 16] = 1;
+    need(xdpvm_stream(&other, frames, sizeof frames, report, sizeof report, sent, sizeof sent, &streamed) == XDPVM_OK, "a stream");
+    need(streamed.frames == 1 && streamed.sent == sizeof frames && streamed.fault == 0, "its frame");
+    need(streamed.report < sizeof report && memcmp(report, "0 PASS 1 12\n", 12) == 0 && count(&other, 2) == 4, "its report");
     xdpvm_close(&other);
     need(xdpvm_describe(image, image_size, &row, 1, &found) == XDPVM_OK && found.maps == 1 && found.version == 1, "a description");
     need(row.kind == XDPVM_HASH && row.key_size == 4 && row.value_size == 8 && row.entries == 8, "a map row");
-    need(xdpvm_disassemble(image, image_size, text, sizeof text, &size) == XDPVM_OK && size.size < sizeof text, "a text");
-    need(memcmp(text, "map hash 4 8 8\n", 15) == 0, "the first line of the text");
+    need(xdpvm_disassemble(image, image_size, report, sizeof report, &text) == XDPVM_OK && text.size < sizeof report, "a text");
+    need(memcmp(report, "map hash 4 8 8\n", 15) == 0, "the first line of the text");
 }
 
 int main(void) {

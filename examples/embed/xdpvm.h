@@ -18,7 +18,8 @@
    opens a file, reads a clock, or ends the process.
 
    A text or an image is written into a buffer of yours as far as there is room, and its whole size is returned: if that is
-   more than your buffer has, call again with a larger one. No text ends in a zero byte.
+   more than your buffer has, call again with a larger one; but not xdpvm_stream, which would run again. No text ends in a
+   zero byte.
 
    examples/embed/header.py compares this file with the sources of the library. */
 #ifndef XDPVM_H
@@ -222,6 +223,18 @@ uint32_t xdpvm_open_with_table(const uint8_t *image, size_t image_len, const uin
    XDPVM_WRONG: the session is closed, or the packet has more than 9,216 bytes. */
 uint32_t xdpvm_run(struct xdpvm_session *session, const struct xdpvm_head *head, uint8_t *packet, size_t packet_len,
                    struct xdpvm_ended *out);
+
+/* Runs an open program on the frames of a stream, from what its maps hold on; they keep their contents for the next run.
+   `report` gets what `xdpvm run` prints, with the lines of the maps, and `sent` the frames out. A fault of the stream ends the
+   run; the report and `out` have it, and the status is XDPVM_OK.
+
+   The run is done once, and what has no room is lost. For the lines of the frames 48 bytes for each 20 of the stream are
+   enough; xdpvm_list writes those of the maps, too. `sent` never has more bytes than the stream, or 4 if that has fewer.
+
+   It takes memory for the whole report and all frames out. XDPVM_MEMORY: nothing is written; the frames that were run before
+   memory ran out have changed the maps. XDPVM_WRONG: the session is closed. */
+uint32_t xdpvm_stream(struct xdpvm_session *session, const uint8_t *stream, size_t stream_len, uint8_t *report, size_t report_len,
+                      uint8_t *sent, size_t sent_len, struct xdpvm_streamed *out);
 
 /* Closes a session, and frees its memory. A closed one stays closed. */
 void xdpvm_close(struct xdpvm_session *session);

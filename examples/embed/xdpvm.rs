@@ -208,6 +208,16 @@ unsafe extern "C" {
         packet_len: usize,
         out: &mut Ended,
     ) -> u32;
+    fn xdpvm_stream(
+        session: &mut Session,
+        stream: *const u8,
+        stream_len: usize,
+        report: *mut u8,
+        report_len: usize,
+        sent: *mut u8,
+        sent_len: usize,
+        out: &mut Streamed,
+    ) -> u32;
     fn xdpvm_fill(
         session: &mut Session,
         text: *const u8,
@@ -518,13 +528,16 @@ pub fn run_stream(image: &[u8], stream: &[u8]) -> Result<Ran, Error> {
         (status, if status == 0 { out.report } else { 0 })
     });
     sent.truncate(out.sent);
-    let ran = Ran {
+    answer(status, ran(&out, report, sent), Vec::new())
+}
+
+fn ran(out: &Streamed, report: Vec<u8>, sent: Vec<u8>) -> Ran {
+    Ran {
         report,
         sent,
         frames: out.frames,
         fault: (out.fault != 0).then_some((out.fault, out.offset)),
-    };
-    answer(status, ran, Vec::new())
+    }
 }
 
 /// The bound that a proof table shows of an image's program, whoever made the table.
@@ -586,6 +599,48 @@ impl Session {
         // SAFETY: as above; the session is one that `open` returned, and no other call has it.
         let status = unsafe { xdpvm_run(self, head, packet.as_mut_ptr(), packet.len(), &mut out) };
         answer(status, out, Vec::new())
+    }
+
+    /// Runs the program on the frames of a stream, from what its maps hold on. They keep their contents for the next run. After
+    /// `Error::Memory` the frames that were run before have changed the maps.
+    pub fn stream(&mut self, stream: &[u8]) -> Result<Ran, Error> {
+        let lines = self.list()?.len();
+        // The lines of frames, of which each has at most 44 bytes, and as much as the maps hold.
+        let mut report = vec![0; (stream.len() / 20 + 2) * 48 + lines];
+        let mut sent = vec![0; stream.len().max(4)];
+        let mut out = Streamed::default();
+        // SAFETY: as above.
+        let status = unsafe {
+            xdpvm_stream(
+                self,
+                stream.as_ptr(),
+                stream.len(),
+                report.as_mut_ptr(),
+                report.len(),
+                sent.as_mut_ptr(),
+                sent.len(),
+                &mut out,
+            )
+        };
+        if out.report > report.len() {
+            self.end_report(&out, &mut report)?;
+        }
+        report.truncate(out.report);
+        sent.truncate(out.sent);
+        answer(status, ran(&out, report, sent), Vec::new())
+    }
+
+    /// Puts the lines of the maps, and the last line, behind those of the frames, where they did not fit.
+    fn end_report(&mut self, out: &Streamed, report: &mut Vec<u8>) -> Result<(), Error> {
+        let last = match out.fault {
+            0 => format!("end {}\n", out.frames),
+            fault => format!("fault F{fault} at {}\n", out.offset),
+        };
+        let lines = self.list()?;
+        report.truncate(out.report - lines.len() - last.len());
+        report.extend_from_slice(lines.as_bytes());
+        report.extend_from_slice(last.as_bytes());
+        Ok(())
     }
 
     /// Fills the maps by the lines of a text, `map INDEX KEY VALUE`, each an update with flag 0, in order. Some: a line is

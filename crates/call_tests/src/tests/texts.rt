@@ -1,11 +1,13 @@
-//! Texts of the maps of a session.
+//! Texts of the maps of a session, and streams on it.
 
 use super::buffers::holds;
-use super::images::MAPS;
+use super::images::{MAPS, ONE_FRAME};
+use command_calls::streaming::Streamed;
 use held_machines::Session;
 use held_machines::opening::{close_session, open_image};
 use session_calls::filling::{MapRefusal, fill_session};
 use session_calls::listing::list_session;
+use session_calls::streaming::stream_session;
 use std::alloc::Global;
 use std::process::Abort;
 use verdict_calls::filling::TextSize;
@@ -16,11 +18,13 @@ enum Call {
     Fill(&'static [u8]),
     /// With room for that many bytes.
     List(usize),
+    Stream(&'static [u8]),
     Close,
 }
 
 /// The status, and three numbers, which are 9 if nothing was written: the code, the line and the
-/// column of a text that fills maps; the size of a list.
+/// column of a text that fills maps; the size of a list; the sizes of the report and of the frames
+/// out, and how many frames there were.
 type Returned = (u32, usize, usize, usize);
 
 fn filled(alloc: Global, session: &mut Session, text: &[u8]) -> Returned {
@@ -39,6 +43,19 @@ fn listed(alloc: Global, session: &mut Session, buffer: &mut [u8]) -> Returned {
     (status, out.size, 9, 9)
 }
 
+fn streamed(alloc: Global, session: &mut Session, stream: &[u8], report: &mut [u8]) -> Returned {
+    let mut sent = [7; 40];
+    let mut out = Streamed {
+        report: 9,
+        sent: 9,
+        offset: 9,
+        frames: 9,
+        fault: 9,
+    };
+    let status = stream_session(alloc, session, stream, report, &mut sent, &mut out);
+    (status, out.report, out.sent, out.frames as usize)
+}
+
 fn called(alloc: Global, session: &mut Session, call: &Call, buffer: &mut [u8]) -> Returned {
     match call {
         Call::Open => (open_image(alloc, &MAPS, session), 9, 9, 9),
@@ -47,6 +64,7 @@ fn called(alloc: Global, session: &mut Session, call: &Call, buffer: &mut [u8]) 
             let room = (*room).min(buffer.len());
             listed(alloc, session, &mut buffer[..room])
         }
+        Call::Stream(stream) => streamed(alloc, session, *stream, buffer),
         Call::Close => {
             close_session(alloc, session);
             (0, 9, 9, 9)
@@ -58,6 +76,7 @@ fn called(alloc: Global, session: &mut Session, call: &Call, buffer: &mut [u8]) 
 const CALLS: &[(Call, Returned, &'static [u8])] = &[
     (Call::Fill(b""), (1, 9, 9, 9), b""),
     (Call::List(240), (1, 9, 9, 9), b""),
+    (Call::Stream(ONE_FRAME), (1, 9, 9, 9), b""),
     (Call::Open, (0, 9, 9, 9), b""),
     (
         Call::List(240),
@@ -87,11 +106,11 @@ const CALLS: &[(Call, Returned, &'static [u8])] = &[
     ),
     (Call::List(24), (0, 132, 9, 9), b"map 0 6100 040506\nmap 0 "),
     (
-        Call::List(240),
-        (0, 132, 9, 9),
-        b"map 0 6100 040506\nmap 0 6200 010203\n\
+        Call::Stream(ONE_FRAME),
+        (0, 149, 26, 1),
+        b"0 PASS 2 2\nmap 0 6100 040506\nmap 0 6200 010203\n\
           map 1 00000000 00000000\nmap 1 01000000 00000000\n\
-          map 1 02000000 0000000a\nmap 1 03000000 00000000\n",
+          map 1 02000000 0000000a\nmap 1 03000000 00000000\nend 1\n",
     ),
     (Call::Close, (0, 9, 9, 9), b""),
     (Call::List(240), (1, 9, 9, 9), b""),
