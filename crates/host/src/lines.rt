@@ -1,7 +1,7 @@
 //! The report's lines of packet frames and its last line, made in a buffer of fixed size.
-ghost use Rattle.std.specs.Prelude.{◌≡◌, ◌+◌, ◌≤◌, ◌++◌, length, IfSome, decimal};
+ghost use Rattle.std.specs.Prelude.{◌≡◌, ◌+◌, ◌≤◌, ◌++◌, length, IfSome, decimal, codes};
 ghost use Rattle.arrayvec.specs.ArrayString.{array_string_len};
-ghost use Rattle.isa_model.specs.Reporting.Reports.{frame_line, skip_line, last_line, reason_text};
+ghost use Rattle.isa_model.specs.Reporting.Reports.{action_name, frame_line, skip_line, last_line, reason_text};
 ghost use Rattle.host.specs.Forms.{report_form_by};
 
 use super::forms::ReportForm;
@@ -60,6 +60,21 @@ fn push_number(line: &mut ReportLine, number: u64)
     }
 }
 
+// The field of an action, with a blank on both sides.
+fn action_field(action: Action) -> &'static str
+    ensures field { result.now ≡ codes " " ++ action_name action ++ codes " " }
+    ensures short { length result.now ≤ 10 }
+{
+    match action {
+        Action::Aborted => " ABORTED ",
+        Action::Drop => " DROP ",
+        Action::Pass => " PASS ",
+        Action::Tx => " TX ",
+        Action::Redirect => " REDIRECT ",
+        Action::Invalid => " INVALID ",
+    }
+}
+
 // Appends the field of a reason, in a stream that has reasons.
 fn push_reason(line: &mut ReportLine, stream: Version, reason: u32)
     requires { array_string_len line.old + 21 ≤ 96 }
@@ -85,9 +100,7 @@ pub fn line_of_frame(form: ReportForm, number: u32, end: End, length: usize) -> 
     push_number(&mut line, u64::from(number));
     match end {
         End::Exit(answer, steps) => {
-            line.push_str(" ");
-            line.push_str(Action::of(answer).name());
-            line.push_str(" ");
+            line.push_str(action_field(Action::of(answer)));
             push_number(&mut line, length as u64);
             line.push_str(" ");
             push_number(&mut line, u64::from(steps));
