@@ -1,5 +1,5 @@
-//! What xdpvm_filter does: a program whose maps may be filled runs on a frame stream, and the frames
-//! are counted.
+//! What xdpvm_filter does: a program whose maps may be filled runs on a frame stream, and frames are
+//! counted.
 #![tactic(auto)]
 
 mod counting;
