@@ -144,10 +144,10 @@ filters_opened ready request p contents source form report maps_out sent old mid
             (output_name request.files.out) request.maps_out x new o) e
             (subst (λ (x : List ℕ). FiltersSome ready contents source form request.report x
             request.maps_out mid new o) h
-            (subst (λ (x : Option (List ℕ)). FiltersSome ready contents source form request.report sent x
-            mid new o) g
-            (subst (λ (x : Option (List ℕ)). FiltersSome ready contents source form x sent maps_out mid new
-            o) f some))),
+            (subst (λ (x : Option (List ℕ)).
+            FiltersSome ready contents source form request.report sent x mid new o) g
+            (subst (λ (x : Option (List ℕ)).
+            FiltersSome ready contents source form x sent maps_out mid new o) f some))),
       ),
     )
 

@@ -1,5 +1,4 @@
-//! What xdpvm_filter does: a program whose maps may be filled runs on a frame stream, and the
-//! frames are counted.
+//! What xdpvm_filter does: runs a program whose maps may be filled on a frame stream, and counts.
 #![tactic(auto)]
 
 mod counting;

@@ -16,7 +16,8 @@ returns g c =
       };
       untouched = λ e. ap₂ (λ (r s : Option (List ℕ)).
           let o : Outputs = record { report = r; sent = s } in o)
-          (c.run_ready-ended.ensures.report_untouched e) (c.run_ready-ended.ensures.sent_untouched e);
+          (c.run_ready-ended.ensures.report_untouched e)
+          (c.run_ready-ended.ensures.sent_untouched e);
       runs = c.run_ready-ended.ensures.runs;
       report = gets-report c.flush.result _ _ _ (waiting c.flush.new.self) c.flush.ensures.bytes
           c.flush.ensures.ok c.flush.ensures.remembered;
