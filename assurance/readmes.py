@@ -91,11 +91,10 @@ def wrong_names(crate, text, known):
             yield from (name for part in parts[-2:] if part not in known)
 
 
-def wrong_readme(crate, known):
+def wrong_readme(crate, known, everywhere):
     """What is wrong with the README of a crate."""
     path = os.path.join(TOP, "crates", crate, "README.md")
     text, heads = text_of(path), heads_of(f"crates/{crate}/src/**/*.rt")
-    everywhere = heads_of("crates/*/src/**/*.rt")
     count = len(text.splitlines())
     if count > MOST_LINES:
         yield f"{count} lines"
@@ -109,7 +108,7 @@ def main():
     wrong = [f"crates/{it}: no README.md" for it in sorted(lacking - MISSING)]
     known, heads = words(), heads_of("crates/*/src/**/*.rt")
     for crate in sorted(crates() - lacking):
-        wrong += [f"crates/{crate}/README.md: {it}" for it in wrong_readme(crate, known)]
+        wrong += [f"crates/{crate}/README.md: {it}" for it in wrong_readme(crate, known, heads)]
     for page in ("docs/PROOFS.md", "docs/ARCHITECTURE.md"):
         wrong += [f"{page}: {it}" for it in wrong_clauses(text_of(os.path.join(TOP, page)), heads)]
     for line in wrong:
