@@ -20,7 +20,7 @@ class Check:
 
 
 CHECKS = (
-    Check("guide", "python3 examples/guide.py", "every example of the pages, on the program; that links lead somewhere, and that clauses which pages name exist", 40),
+    Check("guide", "python3 examples/guide.py", "every example of the pages, on the program; that links lead somewhere", 40),
     Check("cases", "python3 tests/commands.py", "the commands of the programs on cases that are written by hand: what is written to each output and file, and the status", 6),
     Check("programs", "python3 tests/programs.py", "texts: verdicts, bounds and runs of programs that are written by hand", 8),
     Check("messages", "python3 examples/messages.py", "what is said of wrong inputs", 4),
@@ -28,6 +28,7 @@ CHECKS = (
     Check("laws", "python3 assurance/laws.py", "which laws are in specs/ without need", 2),
     Check("names", "python3 assurance/names.py", "which public names mean different things in two crates", 2),
     Check("file_map", "python3 assurance/file_map.py --check", "whether the map of the crates agrees with the tree, and each file says what it has", 2),
+    Check("readmes", "python3 assurance/readmes.py", "whether each crate has a README of at most 40 lines, and clauses and names that pages name exist", 3),
     Check("trusted", "python3 assurance/trusted.py", "which definitions the promise rests on", 2),
     Check("scripts", "python3 assurance/scripts.py", "whether each script has a run", 1),
     Check("script_tests", "python3 assurance/test_scripts.py", "the scripts of assurance/ on small cases", 5),

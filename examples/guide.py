@@ -26,7 +26,7 @@ The last six begin with a comment: the line of standard output, and after it wha
 tried. Each examples/NAME.text has to make NAME.image, each NAME.bpf.c too where clang 14 is installed, each NAME.table
 is what `prove` writes for NAME.image, and each NAME.report is what `run` prints for NAME.image and NAME.frames, into a
 pipe and into a file. The last rows read crates.txt, the crates and the pages: what `run` and
-`recheck` depend on, that the clauses which pages name exist, that each crate has its row, and that
+`recheck` depend on, that each crate has its row, and that
 each link leads somewhere. Each NAME.frames is what frames.py makes from NAME.pcapng, if there is
 one; frame streams of XPF1 and XPF2 become texts and captures, and those the same streams again. Each
 filter of examples/filters is answered as it says (filters.py). The exit status is 0 if every result
@@ -283,26 +283,6 @@ def depends():
     yield "crates below rechecking", f"{sorted(wanted)}\n", f"{sorted(found)}\n"
 
 
-def named_clauses():
-    """Each clause that PROOFS.md and ARCHITECTURE.md name is one of a function of that name; they write `function: clause`, or
-    for several functions or clauses `function`: `clause`."""
-    heads = {}
-    for path in glob.glob(os.path.join(TOP, "crates/*/src/**/*.rt"), recursive=True):
-        with open(path) as file:
-            for name, head in re.findall(r"\bfn (\w+)(.*?)(?=\n\s*\{\n|\bfn |\Z)", file.read(), re.S):
-                heads[name] = heads.get(name, "") + head
-    missing = []
-    for page in ("docs/PROOFS.md", "docs/ARCHITECTURE.md"):
-        with open(os.path.join(TOP, page)) as file:
-            text = file.read()
-        named = [it for it in re.findall(r"`([\w:]+): ([\w, ]+)`", text) if it != ("function", "clause")]
-        named += [it for it in re.findall(r"`([\w:]+)`: ((?:`\w+`(?:, )?)+)", text) if it[0].split("::")[-1] in heads]
-        for function, clauses in named:
-            head = heads.get(function.split("::")[-1], "")
-            missing += [f"{page} {function}: {clause}" for clause in re.findall(r"\w+", clauses) if not re.search(rf"\b{clause}\b", head)]
-    yield "clauses that pages name and no function has", "[]\n", f"{missing}\n"
-
-
 def crates_on_pages():
     """Each crate of crates.txt has a row in ARCHITECTURE.md, and no other one has."""
     with open(os.path.join(TOP, "crates.txt")) as rows:
@@ -383,9 +363,10 @@ def main():
         count("examples", reported())
         count("filters", filters_answer())
         count("crates.txt", depends())
-        count("crates", named_clauses())
         count("crates.txt", crates_on_pages())
-        count("pages", links(pages + [os.path.join(TOP, it) for it in ("examples/README.md", "assurance/LOG.md", "bench/LOG.md")]))
+        readmes = sorted(glob.glob(os.path.join(TOP, "crates/*/README.md")))
+        others = [os.path.join(TOP, it) for it in ("examples/README.md", "assurance/LOG.md", "bench/LOG.md")]
+        count("pages", links(pages + readmes + others))
         os.chdir("/")
     for program in (SURVEY, FILTER):
         if not os.path.exists(program):
