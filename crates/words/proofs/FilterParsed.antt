@@ -91,6 +91,7 @@ filter-parsed a words m r is h found tells unshown =
     ap (λ (kinds : Kinds).
     unless_wrong kinds (filter_request_in (matches_of filter_program words))) none in
     let same : filter_request_in (rows_of (found_of m)) ≡ filter_asked words =
-    ap filter_request_in rows ∙ sym asked in
-    (subst (λ (o : Option FilterRequest). FilterTellsOf o r) same tells,
-    unshown-shows words r unshown)
+    ap filter_request_in rows ∙ sym asked in (
+      subst (λ (o : Option FilterRequest). FilterTellsOf o r) same tells,
+      unshown-shows words r unshown,
+    )
