@@ -3,10 +3,10 @@
 
 usage: python3 assurance/readmes.py
 
-Each crate of crates.txt has a README.md of at most 40 lines, and only those of `MISSING` may lack one. Each clause that
-a README, docs/PROOFS.md or docs/ARCHITECTURE.md names is one of a function of that name. They write `function: clause`,
-or `function`: `clause`; in a table of a README the first cell names functions and the second one begins with clauses.
-Every other name in a README is one of the sources, of a crate or of a file.
+Each crate of crates.txt has a README.md of at most 40 lines. Each clause that a README, docs/PROOFS.md or
+docs/ARCHITECTURE.md names is one of a function of that name. They write `function: clause`, or `function`: `clause`;
+in a table of a README the first cell names functions and the second one begins with clauses. Every other name in a
+README is one of the sources, of a crate or of a file.
 """
 import glob
 import os
@@ -15,9 +15,6 @@ import sys
 
 TOP = os.path.dirname(os.path.dirname(os.path.abspath(__file__)))
 MOST_LINES = 40
-# Crates that may lack a README.
-MISSING = {"host", "machine", "map_texts", "session_calls", "command_calls", "verdict_calls", "xdpvm_c", "task_outcomes",
-           "commands", "filtering", "xdpvm_filter"}
 WORD = re.compile(r"[^\W\d][\w'\-]*")
 
 
@@ -105,7 +102,7 @@ def wrong_readme(crate, known, everywhere):
 
 def main():
     lacking = {it for it in crates() if not os.path.exists(os.path.join(TOP, "crates", it, "README.md"))}
-    wrong = [f"crates/{it}: no README.md" for it in sorted(lacking - MISSING)]
+    wrong = [f"crates/{it}: no README.md" for it in sorted(lacking)]
     known, heads = words(), heads_of("crates/*/src/**/*.rt")
     for crate in sorted(crates() - lacking):
         wrong += [f"crates/{crate}/README.md: {it}" for it in wrong_readme(crate, known, heads)]
@@ -113,8 +110,6 @@ def main():
         wrong += [f"{page}: {it}" for it in wrong_clauses(text_of(os.path.join(TOP, page)), heads)]
     for line in wrong:
         print(line)
-    if lacking & MISSING:
-        print(f"no README.md: {', '.join(sorted(lacking & MISSING))}")
     print(f"{len(crates()) - len(lacking)} READMEs, {len(wrong)} wrong")
     sys.exit(1 if wrong else 0)
 
