@@ -22,6 +22,9 @@ PROGRAM, FILTER = (
     for at, name in ((1, "xdpvm"), (2, "xdpvm_filter"))
 )
 
+with open(os.path.join(TOP, "VERSION"), encoding="utf-8") as of_version:
+    VERSION = of_version.read().strip()
+
 # A text, its refusal by `asm`, and the hint.
 TEXTS = (
     (b"r0 = 2\r\nexit\r\n", "A1 line 1 column 7", "a carriage return"),
@@ -202,9 +205,11 @@ FAULTS = (
     (b"XPF1" + bytes(16) + b"\x02\0\0\0\0", "fault F4 at 4", "the file was cut"),
 )
 
-# Arguments of xdpvm_filter, its status, and the first line of standard error, or of standard output for status 2. Of the files that they name, `image`,
+# Arguments of xdpvm_filter, its status, and the first line of standard error, or of standard output for status 0 and 2. Of the files that they name, `image`,
 # `frames` and `keys` are there and right.
 FILTERS = (
+    ("--version", 0, f"xdpvm_filter {VERSION}"),
+    ("--help", 0, "Verifies a BPF program of type XDP, runs it on a stream of frames, and counts"),
     ("image frames sent --limit 5", 1, "error: --limit is of use only with --checked"),
     ("image frames sent --table keys --checked", 1, "error: --table and --checked exclude each other"),
     ("image frames sent --checked --limit 0", 1, "error: the value of --limit is not a number from 1 to 1000000"),
@@ -269,8 +274,9 @@ def filters(folder, write):
         ended, out, err = run(*words.split())
         # the frames out are made before the report
         left = b"" if "--report missing" in words else b"as it was"
-        wanted = (status, [line if status == 2 else ""], left)
-        yield words, (wanted, "" if status == 2 else line), ((ended, out, sent()), err.split("\n", 1)[0])
+        silent = status in (1, 4)
+        wanted = (status, "" if silent else line, left, status != 0)
+        yield words, (wanted, line if silent else ""), ((ended, out[0], sent(), err != ""), err.split("\n", 1)[0])
 
 
 def rows(folder):
