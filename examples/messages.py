@@ -205,8 +205,8 @@ FAULTS = (
     (b"XPF1" + bytes(16) + b"\x02\0\0\0\0", "fault F4 at 4", "the file was cut"),
 )
 
-# Arguments of xdpvm_filter, its status, and the first line of standard error, or of standard output for status 0 and 2. Of the files that they name, `image`,
-# `frames` and `keys` are there and right.
+# Arguments of xdpvm_filter, its status, and the first line of standard error, or for status 0 and 2 of standard output.
+# Of the files that they name, `image`, `frames` and `keys` are there and right.
 FILTERS = (
     ("--version", 0, f"xdpvm_filter {VERSION}"),
     ("--help", 0, "Verifies a BPF program of type XDP, runs it on a stream of frames, and counts"),
