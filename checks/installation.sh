@@ -53,5 +53,21 @@ cmp report "$top/examples/firewall.report"
 cmp passed.frames sent.frames
 printf 'PASS 4\nDROP 4\nend 8\n' | cmp counts
 grep -q '^.TH XDPVM_FILTER 1' share/man/man1/xdpvm_filter.1
+
+# a list that fills a map, by both ways; a list that is refused before a frame is read
+allow=share/xdpvm/examples/allow
+printf '# counts so far\nmap 0 C0000207 1000000000000000\nmap 0 c0000208 0000000000000000\n' > list.maps
+printf 'map 0 %s00000000000000\n' 'c0000207 14' 'c0000208 01' 'c6336409 01' > wanted.maps
+xdpvm-xdp $allow.text $allow.pcapng --maps list.maps --maps-out held.maps > counts
+grep -q '^11 frames: 11 PASS$' counts
+cmp held.maps wanted.maps
+xdpvm_filter $allow.image $allow.frames passed.frames --maps list.maps --maps-out filled.maps > counts
+printf 'PASS 11\nend 11\n' | cmp counts
+cmp filled.maps wanted.maps
+echo 'map 0 c00002 00' > wrong.maps
+refused xdpvm_filter $allow.image $allow.frames passed.frames --maps wrong.maps --maps-out filled.maps > counts
+grep -q '^refused M3 line 1 column 7$' counts
+cmp filled.maps wanted.maps
+
 bash -n share/bash-completion/completions/xdpvm
 [[ -s share/zsh/site-functions/_xdpvm && -s share/fish/vendor_completions.d/xdpvm.fish ]]

@@ -54,6 +54,7 @@ CHECKS = (
     Check("endless", "python3 assurance/endless.py", "that tables, texts and earlier surveys without an end are refused as their first bytes are, within a second and 64 MB", 6, alone=True),
     Check("failures", "bash assurance/break.sh --few", "what happens where memory, a read or a write fails, on three programs", 12),
     Check("survey_failures", "python3 assurance/break_survey.py", "the same of the survey", 8),
+    Check("filter_failures", "python3 assurance/break_filter.py", "the same of xdpvm_filter", 8),
     Check("tables", "python3 assurance/proofs.py --random 20 --damages 3", "that recheck accepts what prove wrote, and refuses what is damaged", 12),
     Check("kernel", "bash checks/kernel.sh", "that Linux runs an example alike", 2, skips=True),
     Check("objects_of_cases", "python3 assurance/object_sweep.py stored --every 10", "objects of the cases in tests/programs", 8),

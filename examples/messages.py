@@ -1,12 +1,13 @@
 #!/usr/bin/env python3
 """What the program says of wrong texts, images, streams and arguments.
 
-usage: python3 examples/messages.py [PROGRAM]
+usage: python3 examples/messages.py [PROGRAM [FILTER]]
 
 Each row has an input, the line of standard output (for arguments the first line of standard error),
-and a piece of the hint on standard error. PROGRAM is the program that `rt run` leaves in
-crates/xdpvm (the default: crates/xdpvm/out/xdpvm). The exit status is 0 if each row has this
-result, else 1.
+and a piece of the hint on standard error; rows of xdpvm_filter have the exit status too. PROGRAM is
+the program that `rt run` leaves in crates/xdpvm (the default: crates/xdpvm/out/xdpvm), and FILTER
+that in crates/xdpvm_filter (crates/xdpvm_filter/out/xdpvm_filter). The exit status is 0 if each row
+has this result, else 1.
 """
 import os
 import shlex
@@ -16,7 +17,13 @@ import sys
 import tempfile
 
 TOP = os.path.dirname(os.path.dirname(os.path.abspath(__file__)))
-PROGRAM = os.path.abspath(sys.argv[1] if len(sys.argv) > 1 else os.path.join(TOP, "crates/xdpvm/out/xdpvm"))
+PROGRAM, FILTER = (
+    os.path.abspath(sys.argv[at] if len(sys.argv) > at else os.path.join(TOP, f"crates/{name}/out/{name}"))
+    for at, name in ((1, "xdpvm"), (2, "xdpvm_filter"))
+)
+
+with open(os.path.join(TOP, "VERSION"), encoding="utf-8") as of_version:
+    VERSION = of_version.read().strip()
 
 # A text, its refusal by `asm`, and the hint.
 TEXTS = (
@@ -139,6 +146,138 @@ WORDS = (
     (("verify", "missing.image"), "cannot read missing.image"),
 )
 
+# Two images for texts of maps: one with map 0, two keys of 2 bytes with values of 1 byte, and map 1, three values of 2
+# bytes, whose longest line has 19 bytes; and one without maps.
+WITH_MAPS = b"map hash 2 1 2\nmap array 4 2 3\nr0 = 2\nexit\n"
+NO_MAPS = b"r0 = 2\nexit\n"
+# two keys, which fill the hash map, and lines that are passed over
+FULL = b"# keys\n\n0 PASS 64 2\nmap 0 0a0b 01\nmap 0 0A0C 02\nmap 0 0a0b 03\nend 1\nfault F2 at 30\n"
+# the sentence of each refusal of a text, and a piece of its hint
+SAYS = {
+    "M1": ("the line does not have the form map <index> <key> <value>", "two hexadecimal digits"),
+    "M2": ("no map has this index", "maps are counted from 0, in the order of the image"),
+    "M3": ("the key has another size than the map's keys", "write all bytes of the key, zeros too"),
+    "M4": ("the value has another size than the map's values", "write all bytes of the value, zeros too"),
+    "M5": ("the hash map is full, or the index is past the array's end", "take fewer keys, or give the map more entries"),
+    "M6": ("the line is longer than any line of this image's maps", "look for a line feed that is missing"),
+}
+# A program text, a text of its maps, and the refusal: each at its first place and at its last one.
+MAPS = (
+    (WITH_MAPS, b" \n", "M1 line 1 column 1"),
+    (WITH_MAPS, b"map\n", "M1 line 1 column 1"),
+    (WITH_MAPS, b"map  0 0a0b 01\n", "M1 line 1 column 5"),
+    (WITH_MAPS, b"map 0\n", "M1 line 1 column 7"),
+    (WITH_MAPS, b"map 0 \n", "M1 line 1 column 7"),
+    (WITH_MAPS, b"map 0 0a0 01\n", "M1 line 1 column 10"),
+    (WITH_MAPS, b"map 0 0a0b 01 \n", "M1 line 1 column 14"),
+    (WITH_MAPS, b"map 0 0a0b 01\r\n", "M1 line 1 column 14"),
+    (WITH_MAPS, FULL + b"map 01 02000000 000", "M1 line 9 column 20"),
+    (WITH_MAPS, b"map 2 0a0b 01\n", "M2 line 1 column 5"),
+    (WITH_MAPS, FULL + b"map 999999999 00 00", "M2 line 9 column 5"),
+    (WITH_MAPS, b"map 0 0a 01\n", "M3 line 1 column 7"),
+    (WITH_MAPS, b"map 0 0a0b0c 0102\n", "M3 line 1 column 7"),
+    (WITH_MAPS, FULL + b"map 000000001 02 00", "M3 line 9 column 15"),
+    (WITH_MAPS, b"map 0 0a0b 0102\n", "M4 line 1 column 12"),
+    (WITH_MAPS, b"map 1 03000000 00\n", "M4 line 1 column 16"),
+    (WITH_MAPS, FULL + b"map 001 02000000 00", "M4 line 9 column 18"),
+    (WITH_MAPS, b"map 1 03000000 0000\n", "M5 line 1 column 7"),
+    (WITH_MAPS, b"map 1 02000000 0000\nmap 1 ffffffff 0000\n", "M5 line 2 column 7"),
+    (WITH_MAPS, b"map 0 0001 00\nmap 0 0002 00\nmap 0 0003 00\n", "M5 line 3 column 7"),
+    (WITH_MAPS, FULL + b"map 0000000 0000 00", "M5 line 9 column 13"),
+    (WITH_MAPS, b"map 1 03000000 0000000\n", "M6 line 1 column 20"),
+    (WITH_MAPS, 20 * b"x", "M6 line 1 column 20"),
+    (WITH_MAPS, FULL + b"map 1 02000000 00000", "M6 line 9 column 20"),
+    (WITH_MAPS, FULL + b"map 1 02000000 0000" + 100_000 * b"0" + b"\n", "M6 line 9 column 20"),
+    (WITH_MAPS, 10_000 * b"map 1 00000000 0000\n" + b"end", None),
+    (WITH_MAPS, FULL + b"# " + 100_000 * b"#", None),
+    (NO_MAPS, b"map 0 00 00\n", "M2 line 1 column 5"),
+    (NO_MAPS, b"map 18446744073709551616 00 00", "M2 line 1 column 5"),
+    (NO_MAPS, b"map " + 8336 * b"0" + b" 00 00", "M2 line 1 column 5"),
+    (NO_MAPS, b"map " + 8337 * b"0" + b" 00 00", "M6 line 1 column 8347"),
+    (NO_MAPS, b"", None),
+)
+
+# The bytes of a frame stream, the last line of xdpvm_filter for it, and what standard error says.
+FAULTS = (
+    (b"\xd4\xc3\xb2\xa1\x02\0\x04\0", "fault F1 at 0", "it is a capture (pcap): frames.py"),
+    (b"XPF1\0\0\0\0", "fault F2 at 4", "the file was cut"),
+    (b"XPF1" + bytes(16) + b"\x01\0\0\0\x0a" + bytes(16) + b"\x01\x10\0\0", "fault F3 at 25", "frames.py --reasons"),
+    (b"XPF1" + bytes(16) + b"\x02\0\0\0\0", "fault F4 at 4", "the file was cut"),
+)
+
+# Arguments of xdpvm_filter, its status, and the first line of standard error, or for status 0 and 2 of standard output.
+# Of the files that they name, `image`, `frames` and `keys` are there and right.
+FILTERS = (
+    ("--version", 0, f"xdpvm_filter {VERSION}"),
+    ("--help", 0, "Verifies a BPF program of type XDP, runs it on a stream of frames, and counts"),
+    ("image frames sent --limit 5", 1, "error: --limit is of use only with --checked"),
+    ("image frames sent --table keys --checked", 1, "error: --table and --checked exclude each other"),
+    ("image frames sent --checked --limit 0", 1, "error: the value of --limit is not a number from 1 to 1000000"),
+    ("image frames sent --checked --limit 1000001", 1, "error: the value of --limit is not a number from 1 to 1000000"),
+    ("image frames sent --json", 1, "error: unexpected argument '--json' found"),
+    ("image frames sent more", 1, "error: unexpected argument 'more' found"),
+    ("", 1, "error: the following required arguments were not provided:"),
+    ("image frames", 1, "error: the following required arguments were not provided:"),
+    ("image frames image", 4, "cannot write image"),
+    ("image frames frames", 4, "cannot write frames"),
+    ("image frames sent --maps keys --report keys", 4, "cannot write keys"),
+    ("image frames sent --maps keys --maps-out ./keys", 4, "cannot write ./keys"),
+    ("image frames sent --maps-out sent", 4, "cannot write sent"),
+    ("missing frames sent", 4, "cannot read missing"),
+    ("image missing sent", 4, "cannot read missing"),
+    ("image frames sent --maps missing", 4, "cannot read missing"),
+    ("image frames sent --table missing", 4, "cannot read missing"),
+    ("image frames sent --maps .", 4, "cannot read ."),
+    ("image frames missing/sent", 4, "cannot write missing/sent"),
+    ("image frames sent --report missing/report", 4, "cannot write missing/report"),
+    ("frames frames sent", 2, "refused I1"),
+    ("image frames sent --table keys", 2, "refused P1"),
+)
+
+
+def filters(folder, write):
+    """What xdpvm_filter says: the exit status, the first or the last line of standard output, and standard error."""
+    def run(*words):
+        ran = subprocess.run([FILTER, *words], cwd=folder, capture_output=True, timeout=60, check=False)
+        return ran.returncode, ran.stdout.decode().splitlines() or [""], ran.stderr.decode()
+
+    def sent():
+        with open(os.path.join(folder, "sent"), "rb") as file:
+            return file.read()
+
+    def make(text):
+        write("text", text)
+        subprocess.run([PROGRAM, "asm", "text", "image"], cwd=folder, check=True, capture_output=True)
+
+    one = b"XPF1" + bytes(16) + b"\x01\0\0\0\x0a"
+    write("frames", one)
+    for text, keys, refusal in MAPS:
+        make(text)
+        write("keys", keys)
+        write("sent", b"as it was")
+        status, out, err = run("image", "frames", "sent", "--maps", "keys")
+        if refusal is None:
+            yield keys, ((0, ["PASS 1", "end 1"], one), ""), ((status, out, sent()), err)
+            continue
+        code, place = refusal.split(" ", 1)
+        sentence, hint = SAYS[code]
+        said = err.startswith(f"{sentence}\n{place}\n")
+        yield keys, ((2, [f"refused {refusal}"], b"as it was", True), hint), ((status, out, sent(), said), err)
+    make(WITH_MAPS)
+    write("keys", FULL)
+    for content, line, help_line in FAULTS:
+        write("faulty", content)
+        status, out, err = run("image", "faulty", "sent")
+        yield content, ((3, line), help_line), ((status, out[-1]), err)
+    for words, status, line in FILTERS:
+        write("sent", b"as it was")
+        ended, out, err = run(*words.split())
+        # the frames out are made before the report
+        left = b"" if "--report missing" in words else b"as it was"
+        silent = status in (1, 4)
+        wanted = (status, "" if silent else line, left, status != 0)
+        yield words, (wanted, line if silent else ""), ((ended, out[0], sent(), err != ""), err.split("\n", 1)[0])
+
 
 def rows(folder):
     """What is tried, what is wanted, and whether the result is that."""
@@ -176,6 +315,7 @@ def rows(folder):
     for words, line in WORDS:
         out, err = run(*words)
         yield words, (line, ""), (err[0], "")
+    yield from filters(folder, write)
     yield from expressions()
 
 
@@ -237,8 +377,9 @@ EXPRESSIONS = (
 
 
 def main():
-    if not os.access(PROGRAM, os.X_OK):
-        sys.exit(f"messages.py: there is no program {PROGRAM}; `rt run` in crates/xdpvm builds it")
+    for path, crate in ((PROGRAM, "xdpvm"), (FILTER, "xdpvm_filter")):
+        if not os.access(path, os.X_OK):
+            sys.exit(f"messages.py: there is no program {path}; `rt run` in crates/{crate} builds it")
     count = wrong = 0
     with tempfile.TemporaryDirectory() as folder:
         for tried, wanted, found in rows(folder):

@@ -31,7 +31,7 @@ examples:
     python3 tools/xdp.py examples/firewall.text examples/firewall.pcapng sent.pcapng
     python3 tools/xdp.py -e 'udp port 53' examples/firewall.pcapng dns.pcapng
     python3 tools/xdp.py examples/talkers.bpf.c examples/talkers.pcapng -- -mcpu=v3
-    python3 tools/xdp.py examples/allow.text examples/allow.pcapng --maps allowed.maps --maps-out allowed.maps
+    python3 tools/xdp.py examples/allow.text examples/allow.pcapng --maps monday.maps --maps-out tuesday.maps
     tcpdump -U -w - | python3 tools/xdp.py filter.text - - | tcpdump -r -
 
 The exit status is that of xdpvm, or 1 with a message if a tool before it failed.
