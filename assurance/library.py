@@ -5,9 +5,9 @@ usage: python3 assurance/library.py FOLDER
 
 FOLDER is a copy of this repository in which `rt ci` ran. The library is crates/xdpvm_c/out/libxdpvm_c.a; only `xdpvm_c` itself
 is proved, over its libraries: `rt lib` in crates/xdpvm_c would build these once more. Where `rt ci` took a program as passed
-earlier it leaves no object file, of which release.sh links the static programs. Then it is built here, unless an earlier record
-of the gate has one of the same program, and stays only if the program that the toolchain links of it is, byte for byte, the one
-that `rt ci` left. The exit status is 0, or 1 with a message.
+earlier it leaves no object file, of which release.sh links the static programs. Then that of an earlier record of the gate with
+the same program is taken, or one is built here, which stays only if the program that the toolchain links of it is, byte for byte,
+the one that `rt ci` left. The exit status is 0, or 1 with a message.
 """
 import os
 import shutil
@@ -57,7 +57,12 @@ def main() -> int:
     for name in PROGRAMS:
         program = top / "crates" / name / "out" / name
         made = program.with_name(f"{name}.o")
-        if not program.is_file() or object_of(program):
+        if not program.is_file():
+            continue
+        earlier = object_of(program)
+        if earlier:
+            if earlier != made:
+                shutil.copy2(earlier, made)
             continue
         crate = rtlib.Crate(str(top / "crates" / name), str(top), {})
         if not built(kit, crate, crate.words(["--jobs", "2"]), f"out/{name}.o"):
