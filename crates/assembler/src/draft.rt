@@ -28,7 +28,7 @@ use std::alloc::Global;
 // are kept: its others are read, and change nothing.
 const MOST_TOKENS: usize = 16;
 
-/// Where a token begins in the text, and its bytes.
+/// Says where a token begins in the text, and its bytes.
 #[derive(Clone, Copy)]
 pub struct Span<'a> {
     pub offset: usize,

@@ -6,7 +6,7 @@ ghost use Rattle.assembler.specs.Messages.{code_of, sentence_of};
 use std::error::Error;
 use std::fmt;
 
-/// What is wrong with a text.
+/// Says what is wrong with a text.
 #[derive(Clone, Copy, PartialEq, Eq, Debug)]
 pub enum AsmErrorKind {
     /// A byte that begins no token.
@@ -57,7 +57,7 @@ impl AsmErrorKind {
         }
     }
 
-    /// What is wrong, in a sentence.
+    /// Returns what is wrong, in a sentence.
     pub fn sentence(self) -> &'static str
         ensures { result.now ≡ sentence_of self }
     {
@@ -92,7 +92,7 @@ impl fmt::Display for AsmErrorKind {
 
 impl Error for AsmErrorKind {}
 
-/// Why a text is no program, and where: lines and columns count from 1, columns in bytes.
+/// Says why a text is no program, and where: lines and columns count from 1, columns in bytes.
 #[derive(Clone, Copy, PartialEq, Eq, Debug)]
 pub struct AsmError {
     pub kind: AsmErrorKind,

@@ -104,9 +104,9 @@ fn objection_to_load(maps: &[MapDef], insn: Insn) -> Option<Objection>
     }
 }
 
-/// What is wrong with the statement after these instructions and map rows: a map line that may not
-/// follow them, or the load of a map that they do not have; or a version line that is not the first
-/// statement.
+/// Returns what is wrong with the statement after these instructions and map rows: a map line that
+/// may not follow them, or the load of a map that they do not have; or a version line that is not
+/// the first statement.
 pub fn objection(
     first: bool,
     insns: &[Insn],

@@ -105,7 +105,7 @@ fn same_width(a: Width, b: Width) -> bool
     a.bits() == b.bits()
 }
 
-/// Whether both are the same register.
+/// Returns whether both are the same register.
 pub fn same_register(a: Reg, b: Reg) -> bool
     ensures { result ≡ same_register a b }
 {
@@ -212,7 +212,7 @@ pub fn argument_at(tokens: &[Token], i: usize) -> Result<Place, Wrong>
     Ok(place)
 }
 
-/// Whether the word may name a slot: all words but `pc` may.
+/// Returns whether the word may name a slot: all words but `pc` may.
 pub fn is_name(word: Word) -> bool
     ensures { result ≡ is_name word }
 {

@@ -87,7 +87,7 @@ pub fn expect_at(tokens: &[Token], i: usize, wanted: Sign) -> Result<(), Wrong>
     }
 }
 
-/// Whether the sign of a number is a minus; it has to be `+` or `-`.
+/// Returns whether the sign of a number is a minus; it has to be `+` or `-`.
 pub fn is_minus(sign: Sign) -> Result<bool, Wrong>
     ensures { result ≡ is_minus sign }
 {
@@ -209,7 +209,7 @@ pub fn as_map_type(word: Word) -> Result<MapType, Wrong>
     }
 }
 
-/// Whether the word is `map_by_idx`.
+/// Returns whether the word is `map_by_idx`.
 pub fn is_by_index(word: Word) -> bool
     ensures { result ≡ is_by_index word }
 {
@@ -219,7 +219,7 @@ pub fn is_by_index(word: Word) -> bool
     }
 }
 
-/// Whether the width is that of a whole register.
+/// Returns whether the width is that of a whole register.
 pub fn is_full(width: Width) -> bool
     ensures { result ≡ is_full width }
 {

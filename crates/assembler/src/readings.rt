@@ -10,8 +10,8 @@ pub struct Reading {
     pub name: Option<usize>,
 }
 
-/// What the tokens of a statement spell, without its label. A number too large for a map line or
-/// for the load of a map counts as the most of its field.
+/// Says what the tokens of a statement spell, without its label. A number too large for a map line
+/// or for the load of a map counts as the most of its field.
 #[derive(Clone, Copy)]
 pub enum Statement {
     Empty,

@@ -5,7 +5,7 @@ ghost use Rattle.assembler.specs.Positions.{line_behind, column_behind, error_at
 
 use super::errors::{AsmError, AsmErrorKind};
 
-/// What is wrong, and at which byte of the text.
+/// Says what is wrong, and at which byte of the text.
 #[derive(Clone, Copy)]
 pub struct Refusal {
     pub kind: AsmErrorKind,

@@ -12,8 +12,8 @@ use std::alloc::{AllocError, Global};
 // As many bytes as the longest sign has.
 const LONGEST_SIGN: usize = 4;
 
-/// Whether every text that begins with these bytes is refused for the same, at the same line and
-/// column. If not, all that surely ends in them is accepted.
+/// Returns whether every text that begins with these bytes is refused for the same, at the same
+/// line and column. If not, all that surely ends in them is accepted.
 pub fn is_text_settled(alloc: Global, front: &[u8]) -> Result<bool, AllocError>
     ensures settled { IfOk result (λ yes. IsTrue yes → IsTextSettled front.now) }
     ensures open { IfOk result (λ yes. yes ≡ false → IsTextOpen front.now) }

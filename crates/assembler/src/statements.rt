@@ -237,8 +237,8 @@ fn version_line(tokens: &[Token]) -> Result<Statement, Wrong>
     }
 }
 
-/// Whether a form fits the tokens of a statement without a label: a version line, whatever its
-/// number is, or an instruction.
+/// Returns whether a form fits the tokens of a statement without a label: a version line, whatever
+/// its number is, or an instruction.
 pub fn fits_form(tokens: &[Token]) -> bool
     ensures { result ≡ fits_form tokens.now }
 {
@@ -246,7 +246,7 @@ pub fn fits_form(tokens: &[Token]) -> bool
         || reading_of(tokens).is_ok()
 }
 
-/// What the tokens of a statement spell that follow its label of `label_tokens` tokens.
+/// Returns what the tokens of a statement spell that follow its label of `label_tokens` tokens.
 pub fn spelled_behind(label_tokens: usize, tokens: &[Token]) -> Result<Statement, Wrong>
     ensures { result ≡ spelled_behind label_tokens tokens.now }
 {
@@ -261,7 +261,7 @@ pub fn spelled_behind(label_tokens: usize, tokens: &[Token]) -> Result<Statement
     }
 }
 
-/// What the tokens of a statement without a label spell.
+/// Returns what the tokens of a statement without a label spell.
 pub fn spelled(tokens: &[Token]) -> Result<Statement, Wrong>
     ensures { result ≡ spelled tokens.now }
 {

@@ -2,7 +2,7 @@
 
 use super::errors::AsmErrorKind;
 
-/// Why the tokens of a statement spell nothing.
+/// Says why the tokens of a statement spell nothing.
 #[derive(Clone, Copy)]
 pub enum Wrong {
     /// No form fits.
@@ -11,8 +11,8 @@ pub enum Wrong {
     Range(usize),
 }
 
-/// What is wrong with a map line, a version line or the load of a map, and the index of the token
-/// at which it is.
+/// Says what is wrong with a map line, a version line or the load of a map, and the index of the
+/// token at which it is.
 #[derive(Clone, Copy)]
 pub struct Objection {
     pub kind: AsmErrorKind,

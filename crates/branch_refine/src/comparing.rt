@@ -9,7 +9,7 @@ use isa_model::{Comparison, Cond, Operand, Width};
 use reg_state::Kind;
 use stack_state::State;
 
-/// What a condition compares.
+/// Says what a condition compares.
 #[derive(Clone, Copy, PartialEq, Eq)]
 pub enum Compared {
     /// Two numbers.
@@ -21,7 +21,7 @@ pub enum Compared {
         shows: bool,
         bytes: u32,
     },
-    /// What a look-up answered and 0: null where the test comes out as `null` says.
+    /// A look-up's answer and 0: null where the test comes out as `null` says.
     OrNull {
         identity: u32,
         null: bool,
@@ -34,7 +34,7 @@ pub enum Compared {
     Undefined,
 }
 
-/// What the condition compares in the state.
+/// Returns what the condition compares in the state.
 pub fn compared_by(cond: Cond, state: &State) -> Compared
     ensures { result ≡ comparing_defs.compared_by state.now cond }
 {
@@ -178,14 +178,14 @@ fn packet_by(comparison: Comparison, identity: u32, fixed: i32) -> Compared
     }
 }
 
-/// The bytes between the variable part and the pointer.
+/// Returns how many bytes there are between the variable part and the pointer.
 fn before(fixed: i32) -> u32
     ensures { result ≡ bytes_before fixed }
 {
     if fixed > 0 { fixed as u32 } else { 0 }
 }
 
-/// The same, with the byte at the pointer.
+/// Returns how many bytes there are between the variable part and the pointer, with the byte at it.
 fn through(fixed: i32) -> u32
     ensures { result ≡ bytes_before (fixed +ℤ pos 1) }
 {

@@ -23,7 +23,7 @@ use isa_model::Cond;
 use reg_state::{Domain, Scalar};
 use stack_state::{Fact, State};
 
-/// What is left of a state on one edge of a conditional jump.
+/// Says what is left of a state on one edge of a conditional jump.
 #[derive(Drop)]
 pub enum Branch {
     /// No member takes this edge.
@@ -31,7 +31,7 @@ pub enum Branch {
     Goes(State),
 }
 
-/// What is left of a state where the test comes out as `taken` says.
+/// Returns what is left of a state where the test comes out as `taken` says.
 pub fn refine(cond: Cond, taken: bool, state: &State) -> Branch
     ensures { IsRefined cond taken state.now result }
 {
@@ -44,7 +44,7 @@ pub fn refine(cond: Cond, taken: bool, state: &State) -> Branch
     Branch::Goes(narrow)
 }
 
-/// What the test shows of a state where it comes out as `taken` says.
+/// Returns what the test shows of a state where it comes out as `taken` says.
 pub fn outcome_of(cond: Cond, taken: bool, state: &State) -> BranchOutcome
     ensures refines { Refines cond taken state.now (goes result) (left_in cond state.now result) }
     ensures put { MayBePut cond result }

@@ -8,8 +8,8 @@ use isa_model::Cond;
 use reg_state::{Kind, Scalar};
 use stack_state::{Fact, State};
 
-/// What a conditional jump shows of a state on one of its two edges: where its test is true, or
-/// where it is false.
+/// Says what a conditional jump shows of a state on one of its two edges: where its test is true,
+/// or where it is false.
 #[derive(Clone, Copy)]
 pub enum BranchOutcome {
     /// No member takes this edge.
@@ -23,7 +23,7 @@ pub enum BranchOutcome {
 }
 
 impl BranchOutcome {
-    /// Whether some member may take this edge.
+    /// Returns whether some member may take this edge.
     pub fn goes(&self) -> bool
         ensures { result ≡ goes self.now }
     {

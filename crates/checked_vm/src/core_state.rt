@@ -15,7 +15,7 @@ use std::alloc::{AllocError, Global};
 /// The state of a run, without the packet.
 #[derive(Drop)]
 pub struct Core {
-    /// Where the next instruction begins.
+    /// Says where the next instruction begins.
     pub slot: usize,
     /// r0 to r10.
     pub regs: [Value; 11],
@@ -26,7 +26,7 @@ pub struct Core {
     pub queue: u32,
     /// The maps, and the serials of map values and call frames. None is used twice in a run.
     pub maps: LiveMaps,
-    /// How often the run asked the clock.
+    /// Says how often the run asked the clock.
     pub clock_calls: u64,
 }
 
@@ -96,7 +96,7 @@ impl Core {
         self.clock_calls = 0;
     }
 
-    /// What a register holds.
+    /// Returns what a register holds.
     pub fn value(&self, r: Reg) -> Value
         ensures { result ≡ value_at self.now.regs (reg_number r) }
     {
@@ -113,7 +113,7 @@ impl Core {
         self.regs[r.number()] = value;
     }
 
-    /// How many call frames are live.
+    /// Returns how many call frames are live.
     pub fn depth(&self) -> usize
         ensures frames { result ≡ length self.now.frames.items }
         ensures len { result ≡ vec_len self.now.frames }

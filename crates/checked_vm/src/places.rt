@@ -41,7 +41,7 @@ fn index_from(z: i128) -> Option<usize>
     if z < 0 { None } else { Some(z as usize) }
 }
 
-/// Where n cells begin, if all of them are there.
+/// Returns where n cells begin, if all of them are there.
 pub fn place_in(cells: &[Cell], index: Option<usize>, n: usize) -> Result<usize, TrapReason>
     requires { n ≤ max_value_size }
     ensures place { result ≡ place_in (Some cells.now) index n }
@@ -50,7 +50,7 @@ pub fn place_in(cells: &[Cell], index: Option<usize>, n: usize) -> Result<usize,
     place_within(cells.len(), index, n)
 }
 
-/// Where n of the cells begin, if all of them are there.
+/// Returns where n of the cells begin, if all of them are there.
 pub fn place_within(len: usize, index: Option<usize>, n: usize) -> Result<usize, TrapReason>
     requires room { len < 2 ^ 63 }
     requires few { n ≤ max_value_size }

@@ -52,7 +52,7 @@ fn read_bytes(bytes: &[u8], at: Option<usize>, n: usize) -> Result<&[u8], TrapRe
 }
 
 impl Core {
-    /// Where n cells of a live call frame are: the call frame's index and the first cell's.
+    /// Returns where n cells of a live call frame are: the call frame's index and the first cell's.
     pub fn place_in_frame(
         &self,
         serial: u64,

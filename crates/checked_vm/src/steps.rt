@@ -38,7 +38,7 @@ fn is_answer(version: Version, number: u64) -> bool
 }
 
 impl Core {
-    /// Whether there is a register, and it is unset.
+    /// Returns whether there is a register, and it is unset.
     fn is_unset(&self, register: Option<Reg>) -> bool
         ensures { result ≡ list_any (λ r. is_unset (value_at self.now.regs (reg_number r)))
             (option_to_list register) }
@@ -49,7 +49,7 @@ impl Core {
         }
     }
 
-    /// Whether a register that an instruction reads is unset.
+    /// Returns whether a register that an instruction reads is unset.
     fn is_reading_unset(&self, insn: &Insn) -> bool
         ensures { result ≡ list_any (λ r. is_unset (value_at self.now.regs (reg_number r)))
             (reads insn.now) }
@@ -61,7 +61,8 @@ impl Core {
             || self.is_unset(fourth)
     }
 
-    /// What an instruction other than EXIT and a helper's call does, once its registers are set.
+    /// Returns what an instruction other than EXIT and a helper's call does, once its registers are
+    /// set.
     #[tactic(auto, unfolding(isa_model::specs::Machine::Steps::act))]
     fn act(&mut self, insn: &Insn, slots: usize, packet: &mut [u8]) -> Result<(), TrapReason>
         requires running { IsRunning self.old }

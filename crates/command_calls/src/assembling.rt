@@ -14,8 +14,8 @@ use std::alloc::Global;
 use verdict_calls::filling::fill;
 use verdict_calls::statuses::{MEMORY, OK, REFUSED};
 
-/// How many bytes an image or the message about a refusal has, and for a refusal the line and the
-/// column, which count from 1; both are 0 for an image.
+/// Says how many bytes an image or the message about a refusal has, and for a refusal the line and
+/// the column, which count from 1; both are 0 for an image.
 #[repr(C)]
 #[derive(Clone, Copy, Drop)]
 pub struct Assembled {

@@ -21,7 +21,7 @@ pub struct MapRow {
     pub entries: u32,
 }
 
-/// What an image has: how many slots, and how many map rows, and its version, 1 or 2.
+/// Says what an image has: how many slots, and how many map rows, and its version, 1 or 2.
 #[repr(C)]
 #[derive(Clone, Copy, Drop)]
 pub struct Described {

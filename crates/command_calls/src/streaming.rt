@@ -59,7 +59,7 @@ fn streamed_of(tally: Tally, report_size: usize, sent_size: usize) -> Streamed
     }
 }
 
-/// What a run over a stream in memory writes: the report and the frames out, with its tally.
+/// Says what a run over a stream in memory writes: the report and the frames out, with its tally.
 #[derive(Drop)]
 pub struct Written {
     pub report: Vec<u8>,

@@ -15,7 +15,7 @@ use run_calls::running::Head;
 use std::alloc::Global;
 use verdict_calls::statuses::{MEMORY, OK, REFUSED, WRONG};
 
-/// How a traced run ended: `kind` is 0 at an exit, 1 at a trap and 2 at the limit. `r0` is the
+/// Says how a traced run ended: `kind` is 0 at an exit, 1 at a trap and 2 at the limit. `r0` is the
 /// answer of an exit, and `reason` the number of a trap's reason; they are 0 elsewhere.
 #[repr(C)]
 #[derive(Clone, Copy, Drop)]

@@ -15,7 +15,7 @@ use image::Image;
 use isa_model::Insn;
 use std::alloc::{AllocError, Global};
 
-/// Whether an instruction is arithmetic, a wide load of a number, a jump or an exit.
+/// Returns whether an instruction is arithmetic, a wide load of a number, a jump or an exit.
 fn is_plain(insn: &Insn) -> bool
     ensures { IsTrue result ↔ IsPlainForm insn.now }
 {
@@ -33,14 +33,14 @@ fn is_plain(insn: &Insn) -> bool
     }
 }
 
-/// Whether an instruction is one of these, and does not write r10.
+/// Returns whether an instruction is one of these, and does not write r10.
 fn is_plain_step(insn: &Insn) -> bool
     ensures { IsTrue result ↔ (IsPlainForm insn.now × (writes insn.now ≢ Some R10)) }
 {
     is_plain(insn) && !insn.writes_frame_pointer()
 }
 
-/// Whether a successor, if there is one, comes later and is marked.
+/// Returns whether a successor, if there is one, comes later and is marked.
 fn goes_on_plainly(marks: &[bool], slot: usize, to: Option<usize>) -> bool
     ensures { IsTrue result
         ↔ ((next : ℕ) → to ≡ Some next → (slot < next) × IsMarked marks.now next) }
@@ -51,7 +51,7 @@ fn goes_on_plainly(marks: &[bool], slot: usize, to: Option<usize>) -> bool
     }
 }
 
-/// Whether the successors of a slot come later and are marked.
+/// Returns whether the successors of a slot come later and are marked.
 fn leads_on_plainly(image: &Image, marks: &[bool], slot: usize) -> bool
     requires { slot < 2 ^ 63 }
     ensures { IsTrue result
@@ -61,7 +61,7 @@ fn leads_on_plainly(image: &Image, marks: &[bool], slot: usize) -> bool
         && goes_on_plainly(marks, slot, jump_target(image, slot))
 }
 
-/// Whether only plain code follows a slot, where the marks of the later slots are right.
+/// Returns whether only plain code follows a slot, where the marks of the later slots are right.
 fn ends_plainly(image: &Image, marks: &[bool], slot: usize) -> bool
     requires inside { slot < 2 ^ 63 }
     requires version { image.now.version ≡ One }

@@ -6,8 +6,8 @@ ghost use Rattle.control_flow.specs.Messages.{code_of, sentence_of};
 use std::error::Error;
 use std::fmt;
 
-/// Why the control flow is refused: the first of these that is found, in this order and for each at
-/// the lowest slot. G6 is possible at any of these tests, with slot 0.
+/// Says why the control flow is refused: the first of these that is found, in this order and for
+/// each at the lowest slot. G6 is possible at any of these tests, with slot 0.
 #[derive(Clone, Copy, PartialEq, Eq, Debug)]
 pub enum FlowError {
     /// The target of a jump or a call is outside the code.
@@ -39,7 +39,7 @@ impl FlowError {
         }
     }
 
-    /// What is wrong, in a sentence.
+    /// Returns what is wrong, in a sentence.
     pub fn sentence(self) -> &'static str
         ensures { result.now ≡ sentence_of self }
     {

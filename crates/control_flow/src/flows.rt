@@ -33,9 +33,9 @@ use std::marker::Model;
 pub struct Flow<'a> {
     image: &'a Image,
     joins: Vec<bool>,
-    /// What is live at each slot.
+    /// Says what is live at each slot.
     masks: Vec<HomeMask>,
-    /// Whether numbers may be forgotten. If not, the fields below are empty.
+    /// Says whether numbers may be forgotten. If not, the fields below are empty.
     forgets: bool,
     /// Of what the numbers are tested.
     tested: Vec<HomeMask>,
@@ -139,7 +139,7 @@ impl<'a> Flow<'a> {
         })
     }
 
-    /// Whether the slot is the target of a jump: there paths may meet.
+    /// Returns whether the slot is the target of a jump: there paths may meet.
     pub fn is_join(&self, slot: usize) -> bool
         ensures join { IsTrue result ↔ IsJoin self.now slot }
         ensures good { IsFlow self.now }
@@ -165,8 +165,9 @@ impl<'a> Flow<'a> {
         mask_of(&self.masks, slot).slots
     }
 
-    /// Whether a verifier may forget numbers that do not matter: the program takes input, and calls
-    /// no function of its own. For other programs `tested` and `ends_plainly` say nothing.
+    /// Returns whether a verifier may forget numbers that do not matter: the program takes input,
+    /// and calls no function of its own. For other programs `tested` and `ends_plainly` say
+    /// nothing.
     pub fn forgets_numbers(&self) -> bool
         ensures { IsTrue result ↔ MayForgetNumbers self.now }
     {
@@ -190,8 +191,8 @@ impl<'a> Flow<'a> {
         mask_of(&self.tested, slot).slots
     }
 
-    /// Whether only plain code follows from a slot: arithmetic, forward jumps and exits of a
-    /// program of version 1. None of it is refused if each live register is a number.
+    /// Returns whether only plain code follows from a slot: arithmetic, forward jumps and exits of
+    /// a program of version 1. None of it is refused if each live register is a number.
     pub fn ends_plainly(&self, slot: usize) -> bool
         ensures { MayForgetNumbers self.now → (IsTrue result ↔ EndsPlainly self.now slot) }
     {

@@ -39,7 +39,7 @@ impl HomeMask {
         }
     }
 
-    /// Whether one of these is one of the others.
+    /// Returns whether one of these is one of the others.
     pub fn meets(self, other: Self) -> bool
         ensures { IsTrue result ↔ ((h : Home) × HasHome self h × HasHome other h) }
     {

@@ -3,7 +3,7 @@
 ghost use Rattle.std.specs.Prelude.{◌↔◌, IsTrue};
 ghost use Rattle.control_flow.specs.Flows.{IsMarked};
 
-/// Whether a slot is marked; false outside the list.
+/// Returns whether a slot is marked; false outside the list.
 pub fn is_marked(marks: &[bool], slot: usize) -> bool
     ensures { IsTrue result ↔ IsMarked marks.now slot }
 {

@@ -21,7 +21,7 @@ impl RegisterMask {
         RegisterMask { bits: 0 }
     }
 
-    /// Whether a register is one of them.
+    /// Returns whether a register is one of them.
     pub fn has(self, register: Reg) -> bool
         ensures { IsTrue result ↔ HasRegister self register }
     {
@@ -48,7 +48,7 @@ impl RegisterMask {
         }
     }
 
-    /// Whether one of these is one of the others.
+    /// Returns whether one of these is one of the others.
     pub(crate) fn meets(self, other: Self) -> bool
         ensures { IsTrue result ↔ ((r : TheReg) × HasRegister self r × HasRegister other r) }
     {

@@ -81,7 +81,7 @@ fn testing_node(image: &Image, slot: usize, taken: bool) -> Node
     }
 }
 
-/// The nodes of all slots, for what is read.
+/// Returns the nodes of all slots, for what is read.
 pub fn reading_nodes(alloc: Global, image: &Image, taken: bool) -> Result<Vec<Node>, AllocError>
     requires { IsTrue taken ↔ FrameAddressIsTaken image.now }
     ensures { IfOk result (λ nodes. AreNodes (ShowsReads image.now) image.now nodes.items) }
@@ -93,7 +93,7 @@ pub fn reading_nodes(alloc: Global, image: &Image, taken: bool) -> Result<Vec<No
     Ok(nodes)
 }
 
-/// The same, for what is tested.
+/// Returns the nodes of all slots, for what is tested.
 pub fn testing_nodes(alloc: Global, image: &Image, taken: bool) -> Result<Vec<Node>, AllocError>
     requires { IsTrue taken ↔ FrameAddressIsTaken image.now }
     ensures { IfOk result (λ nodes. AreNodes (ShowsTests image.now) image.now nodes.items) }

@@ -17,8 +17,8 @@ use crate::targets::call_target;
 use image::Image;
 use isa_model::{AluOp, Insn, Operand, Place, Reg, Width};
 
-/// Whether the numbers that an instruction reads decide where control goes or what is refused, or
-/// move a pointer.
+/// Returns whether the numbers that an instruction reads decide where control goes or what is
+/// refused, or move a pointer.
 fn tests_numbers(image: &Image, insn: &Insn) -> bool
     ensures { IsTrue result ↔ TestsNumbers image.now insn.now }
 {
@@ -99,7 +99,7 @@ pub fn may_write(insn: &Insn, taken: bool) -> HomeMask
     }
 }
 
-/// Whether what an instruction writes into a register may differ from run to run.
+/// Returns whether what an instruction writes into a register may differ from run to run.
 fn takes_input(insn: &Insn) -> bool
     ensures { IsTrue result ↔ TakesInput insn.now }
 {
@@ -110,7 +110,7 @@ fn takes_input(insn: &Insn) -> bool
     }
 }
 
-/// Whether the instruction at a slot of the code does.
+/// Returns whether the instruction at a slot of the code does.
 fn takes_input_at(image: &Image, slot: usize) -> bool
     ensures { IsTrue result ↔ TakesInputAt image.now slot }
 {
@@ -120,7 +120,8 @@ fn takes_input_at(image: &Image, slot: usize) -> bool
     }
 }
 
-/// Whether numbers of a program may be forgotten: it takes input, and calls no function of its own.
+/// Returns whether numbers of a program may be forgotten: it takes input, and calls no function of
+/// its own.
 pub fn may_forget_numbers(image: &Image) -> bool
     ensures { IsTrue result ↔ MayForgetNumbers image.now }
 {

@@ -37,7 +37,7 @@ impl SlotMask {
         }
     }
 
-    /// Whether the set is empty.
+    /// Returns whether the set is empty.
     pub fn is_empty(self) -> bool
         ensures exact { IsTrue result ↔ (self ≡ no_slots) }
         ensures none { IsTrue result → (j : ℕ) → ¬ HasSlot self j }
@@ -45,7 +45,7 @@ impl SlotMask {
         self.bits == 0
     }
 
-    /// Whether all 64 are.
+    /// Returns whether all 64 are.
     pub fn is_full(self) -> bool
         ensures exact { IsTrue result ↔ (self ≡ all_slots) }
         ensures all { IsTrue result → (j : ℕ) → j < 64 → HasSlot self j }
@@ -53,7 +53,7 @@ impl SlotMask {
         self.bits == u64::MAX
     }
 
-    /// Whether none of eight stack slots, those of a byte of the mask, is one of them.
+    /// Returns whether none of eight stack slots, those of a byte of the mask, is one of them.
     pub fn is_empty_in(self, byte: u8) -> bool
         requires { byte < 8 }
         ensures exact { IsTrue result ↔ (bit_and (self.bits / 2 ^ (8 * byte)) 255 ≡ 0) }
@@ -63,7 +63,7 @@ impl SlotMask {
         (self.bits >> (8 * byte)) & 255 == 0
     }
 
-    /// Whether a stack slot is one of them.
+    /// Returns whether a stack slot is one of them.
     pub fn has(self, slot: u8) -> bool
         requires { 8 * slot < stack_size }
         ensures { IsTrue result ↔ HasSlot self slot }
@@ -81,7 +81,7 @@ impl SlotMask {
         }
     }
 
-    /// Whether one of these is one of the others.
+    /// Returns whether one of these is one of the others.
     pub(crate) fn meets(self, other: Self) -> bool
         ensures { IsTrue result ↔ ((j : ℕ) × (j < 64) × HasSlot self j × HasSlot other j) }
     {

@@ -77,8 +77,8 @@ fn slot_written(insn: &Insn) -> Option<u8>
     }
 }
 
-/// Whether an instruction takes the address of its frame: uses r10 other than as the base of a load
-/// or a store. `read` has the registers that it reads.
+/// Returns whether an instruction takes the address of its frame: uses r10 other than as the base
+/// of a load or a store. `read` has the registers that it reads.
 fn takes_address(insn: &Insn, read: RegisterMask) -> bool
     requires { HasRegister read TheReg.R10 ↔ IsOneOf (read_registers insn.now) TheReg.R10 }
     ensures { IsTrue result ↔ TakesFrameAddress insn.now }
@@ -90,7 +90,7 @@ fn takes_address(insn: &Insn, read: RegisterMask) -> bool
     }
 }
 
-/// Whether the instruction at a slot of the code takes the address of its frame.
+/// Returns whether the instruction at a slot of the code takes the address of its frame.
 fn takes_address_at(image: &Image, slot: usize) -> bool
     ensures { IsTrue result ↔ TakesFrameAddressAt image.now slot }
 {
@@ -100,7 +100,7 @@ fn takes_address_at(image: &Image, slot: usize) -> bool
     }
 }
 
-/// Whether a program takes the address of a call frame.
+/// Returns whether a program takes the address of a call frame.
 pub fn takes_frame_address(image: &Image) -> bool
     ensures { IsTrue result ↔ FrameAddressIsTaken image.now }
 {

@@ -33,7 +33,7 @@ fn call_distance(insn: &Insn) -> Option<i32>
     }
 }
 
-/// Whether control may go to the next instruction.
+/// Returns whether control may go to the next instruction.
 fn falls_through(insn: &Insn) -> bool
     ensures { result ≡ falls_through insn.now }
 {
@@ -45,7 +45,7 @@ fn falls_through(insn: &Insn) -> bool
     }
 }
 
-/// Where the jump at a slot leads.
+/// Returns where the jump at a slot leads.
 #[tactic(auto, unfolding(crate::specs::Graph::jump_to))]
 pub fn jump_target(image: &Image, slot: usize) -> Option<usize>
     requires { slot < 2 ^ 63 }
@@ -92,7 +92,7 @@ fn target(image: &Image, slot: usize) -> Option<usize>
     }
 }
 
-/// Whether an instruction begins at a slot.
+/// Returns whether an instruction begins at a slot.
 pub fn begins_insn(image: &Image, slot: usize) -> bool
     ensures { IsTrue result ↔ BeginsInsn image.now slot }
 {

@@ -14,7 +14,7 @@ use crate::searches::SlotSearch;
 use crate::sources::{Sources, sources_of};
 use std::alloc::{AllocError, Global};
 
-/// What is wanted at a successor, if there is one.
+/// Returns what is wanted at a successor, if there is one.
 fn mask_behind(masks: &[HomeMask], to: Option<usize>) -> HomeMask
     ensures { (h : Home) → HasHome result h ↔ HasBehind masks.now to h }
 {
@@ -24,7 +24,7 @@ fn mask_behind(masks: &[HomeMask], to: Option<usize>) -> HomeMask
     }
 }
 
-/// What is wanted before an instruction, by what is wanted after it.
+/// Returns what is wanted before an instruction, by what is wanted after it.
 fn wanted_before(node: &Node, masks: &[HomeMask]) -> HomeMask
     ensures { (h : Home) → HasHome result h ↔ IsWantedBefore masks.now node.now h }
 {

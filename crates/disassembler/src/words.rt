@@ -53,7 +53,7 @@ pub fn signed_word(size: SignedSize) -> &'static str
     }
 }
 
-/// What MOVSX extends.
+/// Returns what MOVSX extends.
 pub fn extension_word(extension: Extension) -> &'static str
     ensures text { result.now ≡ extension_text extension }
     ensures short { length result.now ≤ 3 }
@@ -65,7 +65,7 @@ pub fn extension_word(extension: Extension) -> &'static str
     }
 }
 
-/// What MOVSX extends to.
+/// Returns what MOVSX extends to.
 pub fn extension_width(extension: Extension) -> Width
     ensures { result ≡ extension_width extension }
 {
@@ -75,7 +75,7 @@ pub fn extension_width(extension: Extension) -> Width
     }
 }
 
-/// How many bits a byte swap instruction swaps.
+/// Returns how many bits a byte swap instruction swaps.
 pub fn span_word(span: SwapWidth) -> &'static str
     ensures text { result.now ≡ span_text span }
     ensures short { length result.now ≤ 2 }
@@ -99,7 +99,7 @@ pub fn order_word(order: ByteOrder) -> &'static str
     }
 }
 
-/// How many bits an atomic instruction works on.
+/// Returns how many bits an atomic instruction works on.
 pub fn width_word(width: Width) -> &'static str
     ensures text { result.now ≡ width_text width }
     ensures short { length result.now ≤ 2 }

@@ -43,7 +43,7 @@ impl<W: Write + Drop> PromptWriter<W> {
         })
     }
 
-    /// Why a write or a flush failed, if one did.
+    /// Returns why a write or a flush failed, if one did.
     pub fn failure(&self) -> Option<ErrorKind>
         ensures { result ≡ failure_of self.now }
     {

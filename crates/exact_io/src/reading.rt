@@ -3,7 +3,7 @@ ghost use Rattle.exact_io.specs.Transfers.{Fills};
 
 use std::io::Read;
 
-/// How filling a buffer ended.
+/// Says how filling a buffer ended.
 #[derive(Clone, Copy, PartialEq, Eq, Debug)]
 pub enum Filled {
     /// All of the buffer.

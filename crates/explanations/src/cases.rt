@@ -308,7 +308,7 @@ fn hint_line(refusal: StepRefusal) -> &'static str
     }
 }
 
-/// What a refused instruction needs, or what helps.
+/// Returns what a refused instruction needs, or what helps.
 pub fn case_line(
     alloc: Global,
     maps: &[MapDef],

@@ -13,14 +13,14 @@ use reg_state::Kind;
 use stack_state::{StackSlot, State};
 use std::alloc::{AllocError, Global};
 
-/// How many calls up from the innermost call frame this one is.
+/// Returns how many calls up from the innermost call frame this one is.
 fn up_words(alloc: Global, state: &State, frame: usize) -> Result<String, AllocError>
     ensures { IfOk result (λ text. string_bytes text ≡ up_words state.now frame) }
 {
     calls_up(alloc, state.callers.len().saturating_sub(frame))
 }
 
-/// What is known of a register of a frame.
+/// Returns what is known of a register of a frame.
 pub fn register_words(
     alloc: Global,
     state: &State,
@@ -38,7 +38,7 @@ pub fn register_words(
     kind_words(alloc, state.callers.len(), kind)
 }
 
-/// What is known of a stack slot of a frame.
+/// Returns what is known of a stack slot of a frame.
 pub fn stack_words(
     alloc: Global,
     state: &State,
@@ -228,7 +228,8 @@ fn stack_mismatch_lines(
     )
 }
 
-/// Why the entry with that index does not cover the nth successor of an entry with that number.
+/// Returns why the entry with that index does not cover the nth successor of an entry with that
+/// number.
 pub fn mismatch_lines(
     alloc: Global,
     number: u32,

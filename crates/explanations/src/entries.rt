@@ -19,14 +19,14 @@ use table_entries::{EntryHead, NamedEntries, Table};
 use transfer::{Ways, step_in_place};
 use walks::Refusal;
 
-/// What is known of an entry of a table that is refused.
+/// Says what is known of an entry of a table that is refused.
 #[derive(Drop)]
 pub struct EntryReason {
     /// The slot of its step.
     pub slot: usize,
     /// The instruction that begins there.
     pub insn: Insn,
-    /// What concerns that instruction, or in what the successors differ, in lines.
+    /// Says what concerns that instruction, or in what the successors differ, in lines.
     pub text: String,
 }
 
@@ -47,7 +47,7 @@ fn step_lines(
     format!(in alloc; "{registers}{answer}{stack}")
 }
 
-/// Where the step of an entry is refused.
+/// Explains where and why the step of an entry is refused.
 fn step_reason(
     alloc: Global,
     image: &Image,
@@ -69,8 +69,8 @@ fn step_reason(
     })
 }
 
-/// Why the entry that is named for the nth successor does not cover it. None: it does, or memory
-/// ran out.
+/// Returns why the entry that is named for the nth successor does not cover it. None: it does, or
+/// memory ran out.
 fn named_lines(
     alloc: Global,
     image: &Image,
@@ -94,7 +94,7 @@ fn count_line(alloc: Global, successors: usize, named_count: usize) -> Option<St
     format!(in alloc; "successors: {successors}; entries named: {named_count}\n").ok()
 }
 
-/// Why the entries that an entry names do not cover its successors.
+/// Returns why the entries that an entry names do not cover its successors.
 fn successor_lines(
     alloc: Global,
     image: &Image,
@@ -125,7 +125,7 @@ fn successor_lines(
     }
 }
 
-/// How many successors a step has.
+/// Returns how many successors a step has.
 fn ways_in(ways: Ways) -> usize
     ensures { result ≡ spec.ways_in ways }
 {
@@ -136,7 +136,7 @@ fn ways_in(ways: Ways) -> usize
     }
 }
 
-/// How many entries are named.
+/// Returns how many entries are named.
 fn named_in(named: NamedEntries) -> usize
     ensures { result ≡ length (list_of named) }
 {
@@ -147,7 +147,7 @@ fn named_in(named: NamedEntries) -> usize
     }
 }
 
-/// Where the named entries do not cover the successors of an entry.
+/// Explains where the named entries do not cover the successors of an entry.
 fn successor_reason(
     alloc: Global,
     image: &Image,
@@ -167,9 +167,9 @@ fn successor_reason(
     Some(EntryReason { slot, insn, text })
 }
 
-/// What is known of the entry for which a table is refused: for P7 what concerns its instruction,
-/// and for P8 how its successors differ from the entries that it names. None: the refusal is not of
-/// an entry's step, or memory ran out.
+/// Returns what is known of the entry for which a table is refused: for P7 what concerns its
+/// instruction, and for P8 how its successors differ from the entries that it names. None: the
+/// refusal is not of an entry's step, or memory ran out.
 pub fn entry_reason(
     alloc: Global,
     image: &Image,

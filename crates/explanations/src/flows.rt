@@ -260,7 +260,7 @@ fn unreached_line(alloc: Global, from: Option<usize>) -> Result<String, AllocErr
     }
 }
 
-/// What is said where control flow is refused, besides the sentence and the slot, of the
+/// Returns what is said where control flow is refused, besides the sentence and the slot, of the
 /// instruction at the slot.
 pub fn flow_line(
     alloc: Global,

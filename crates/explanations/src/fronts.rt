@@ -38,7 +38,7 @@ fn keep_front(frame: &mut AbstractFrame, register_count: usize, slot_count: usiz
     keep_slots(&mut frame.stack, slot_count);
 }
 
-/// How much of a frame is in a front that ends in the last one, with as much as this of it.
+/// Returns how much of a frame is in a front that ends in the last one, with as much as this of it.
 fn count_in(frame: usize, last: usize, count: usize, all: usize) -> usize
     requires { count ≤ all }
     ensures is { result ≡ count_in last count all frame }

@@ -8,7 +8,7 @@ use crate::numbers::number_words;
 use reg_state::Kind;
 use std::alloc::{AllocError, Global};
 
-/// How many calls up from the innermost call frame a call frame is.
+/// Returns how many calls up from the innermost call frame a call frame is.
 pub fn calls_up(alloc: Global, count: usize) -> Result<String, AllocError>
     ensures { IfOk result (λ text. string_bytes text ≡ calls_up count) }
 {
@@ -63,7 +63,7 @@ fn map_value_words(alloc: Global, map: u8, least: i32, greatest: i32) -> Result<
     format!(in alloc; "value of map {map} at {least}")
 }
 
-/// What is known of a value, where the innermost frame has this index.
+/// Returns what is known of a value, where the innermost frame has this index.
 pub fn kind_words(alloc: Global, innermost: usize, kind: Kind) -> Result<String, AllocError>
     ensures { IfOk result (λ text. string_bytes text ≡ kind_words innermost kind) }
 {

@@ -81,7 +81,8 @@ fn no_loop_line(alloc: Global) -> Result<String, AllocError>
 {
     String::from_str(
         alloc,
-        "this path ends in no loop, there are too many paths: let them meet with the same knowledge\n",
+        "this path ends in no loop, there are too many paths: \
+         let them meet with the same knowledge\n",
     )
 }
 

@@ -13,7 +13,7 @@ use stack_state::{AbstractFrame, FRAME_SLOTS, State};
 use state_cover::covers;
 use table_entries::Table;
 
-/// Why an entry cannot be named for a state. Call frames are counted from the outermost, 0.
+/// Says why an entry cannot be named for a state. Call frames are counted from the outermost, 0.
 #[derive(Clone, Copy)]
 pub enum Mismatch {
     /// There is no such entry.
@@ -133,8 +133,8 @@ fn difference(entry: &State, state: &State) -> Option<Mismatch>
     None
 }
 
-/// Why the entry of that index cannot be named for a state, by an entry of that number. The state
-/// of the entry of that index is read into `room`.
+/// Returns why the entry of that index cannot be named for a state, by an entry of that number. The
+/// state of the entry of that index is read into `room`.
 pub fn mismatch_of(
     image: &Image,
     table: &Table,

@@ -9,7 +9,7 @@ use ranges::Wide;
 use reg_state::Scalar;
 use std::alloc::{AllocError, Global};
 
-/// Whether the signed limits say more than the unsigned ones.
+/// Returns whether the signed limits say more than the unsigned ones.
 fn says_more(limits: Wide) -> bool
     ensures { result ≡ says_more limits }
 {
@@ -64,7 +64,7 @@ pub fn half_words(alloc: Global, numbers: Scalar) -> Result<String, AllocError>
     format!(in alloc; "{least} to {greatest}")
 }
 
-/// Whether bits and limits show more of the low half than that it has 32 bits.
+/// Returns whether bits and limits show more of the low half than that it has 32 bits.
 fn is_half_known(numbers: Scalar) -> bool
     ensures { result ≡ is_half_known numbers }
 {

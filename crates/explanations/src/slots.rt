@@ -47,7 +47,7 @@ fn written_words(alloc: Global, slot: usize, marks: u8) -> Result<String, AllocE
     Ok(text)
 }
 
-/// What is known of a stack slot, where the innermost frame has this index.
+/// Returns what is known of a stack slot, where the innermost frame has this index.
 pub fn slot_words(
     alloc: Global,
     innermost: usize,

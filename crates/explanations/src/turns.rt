@@ -18,7 +18,7 @@ fn is_same(before: &str, now: &str) -> bool
     before.as_bytes() == now.as_bytes()
 }
 
-/// What the message says of a register or a stack slot before and now, where that differs.
+/// Returns what the message says of a register or a stack slot before and now, where that differs.
 fn turn_line(alloc: Global, place: &str, before: &str, now: &str) -> Result<String, AllocError>
     ensures { IfOk result (λ text. string_bytes text ≡ turn_line place.now before.now now.now) }
 {

@@ -12,7 +12,7 @@ use crate::lines::concerned;
 use isa_model::{Insn, Reg, Region, Value};
 use std::alloc::{AllocError, Global};
 
-/// What r0 to r10 hold.
+/// Says what r0 to r10 hold.
 type RegisterValues = [Value; 11];
 
 /// Whose frame pointer it is, where r10 holds this.
@@ -53,7 +53,7 @@ fn region_words(
     }
 }
 
-/// What a register held, where r10 held this.
+/// Returns what a register held, where r10 held this.
 fn value_words(alloc: Global, own: Value, value: Value) -> Result<String, AllocError>
     ensures { IfOk result (λ text. string_bytes text ≡ value_words own value) }
 {
@@ -70,7 +70,7 @@ fn value_words(alloc: Global, own: Value, value: Value) -> Result<String, AllocE
     }
 }
 
-/// What a register held.
+/// Returns what a register held.
 fn value_of(registers: &RegisterValues, register: Reg) -> Value
     ensures { result ≡ value_at registers.now (reg_number register) }
 {
@@ -96,7 +96,7 @@ fn value_line(
     format!(in alloc; "r{number}: {words}\n")
 }
 
-/// What the registers that concern an instruction held, a line each.
+/// Returns what the registers that concern an instruction held, a line each.
 #[tactic(auto, using(crate::proofs::Texts::flat_map_four), unfolding(crate::specs::Values::value_lines))]
 pub fn value_lines(
     alloc: Global,

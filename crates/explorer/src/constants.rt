@@ -17,7 +17,7 @@ pub fn constant_part(number: u8, value: u64) -> Part
     Part::InRegister(number, Kind::Number(Scalar::constant(value)))
 }
 
-/// Whether each limit is the number, or its low half.
+/// Returns whether each limit is the number, or its low half.
 #[inline(always)]
 fn has_limits(numbers: &Scalar, value: u64) -> bool
     ensures { IsTrue result → R.IsConstant numbers.now.range value }

@@ -104,8 +104,8 @@ impl KeptParts {
         }
     }
 
-    /// How many words the parts that are in no group take. A constant that is kept by itself counts
-    /// as the part that it is: so how it is kept changes no verdict.
+    /// Returns how many words the parts that are in no group take. A constant that is kept by
+    /// itself counts as the part that it is: so how it is kept changes no verdict.
     pub fn few_words(&self) -> usize {
         let constant = match self {
             KeptParts::AfterConstant(..) => PART_WORDS,
@@ -126,8 +126,8 @@ impl KeptParts {
         write_all(frame, self.others());
     }
 
-    /// Whether what is known of the parts that are in no group may cover what a frame knows of
-    /// them: false means that it does not.
+    /// Returns whether what is known of the parts that are in no group may cover what a frame knows
+    /// of them: false means that it does not.
     #[inline(always)]
     pub fn may_cover_few(&self, frame: &AbstractFrame) -> bool
         ensures { All (IsPartOf frame.now) (few_of self.now) → IsTrue result }
@@ -194,7 +194,7 @@ impl<'a> Rest<'a> {
         }
     }
 
-    /// Whether there are no parts; a wrong false is possible.
+    /// Returns whether there are no parts; a wrong false is possible.
     pub fn is_empty(&self) -> bool
         ensures { IsTrue result → self.now ≡ [] }
     {
@@ -255,8 +255,8 @@ pub fn write_all(frame: &mut AbstractFrame, parts: &[Part])
     }
 }
 
-/// Whether what is known of parts may cover what a frame knows of them: false means that it does
-/// not.
+/// Returns whether what is known of parts may cover what a frame knows of them: false means that it
+/// does not.
 pub fn may_cover_all(parts: &[Part], frame: &AbstractFrame) -> bool
     ensures { All (IsPartOf frame.now) parts.now → IsTrue result }
 {

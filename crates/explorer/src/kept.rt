@@ -14,10 +14,10 @@ use std::alloc::{AllocError, Global};
 use std::marker::Model;
 use std::rc::Rc;
 
-/// How many places a call frame has: its registers and its stack slots.
+/// Says how many places a call frame has: its registers and its stack slots.
 pub const PLACES: usize = 10 + STACK_SIZE / 8;
 
-/// How many words a state takes besides its call frames.
+/// Says how many words a state takes besides its call frames.
 const STATE_WORDS: u32 = 16;
 
 /// Two other states, with which a state may share what is the same.
@@ -92,7 +92,7 @@ fn keep_callers(
     }
 }
 
-/// How many words a state takes that no other one shares.
+/// Returns how many words a state takes that no other one shares.
 fn own_words(innermost: &KeptFrame, callers: &Rc<Vec<KeptFrame>>) -> u32 {
     let mut words = innermost.own_words().saturating_add(STATE_WORDS);
     if Rc::strong_count(callers) == 1 {
@@ -110,9 +110,9 @@ fn own_words(innermost: &KeptFrame, callers: &Rc<Vec<KeptFrame>>) -> u32 {
 #[derive(Drop)]
 pub struct Kept {
     slot: u32,
-    /// How many words it took that it did not share when it was kept.
+    /// Says how many words it took that it did not share when it was kept.
     words: u32,
-    /// What is proved besides, of two identities.
+    /// Says what is proved besides, of two identities.
     proved: ProvedBytes,
     also_proved: ProvedBytes,
     callers: Rc<Vec<KeptFrame>>,
@@ -157,8 +157,8 @@ impl Kept {
         Kept::of_parts(alloc, state, parts, Others::one(other))
     }
 
-    /// The same for a state whose innermost call frame has only these stack slots about which
-    /// something may be known. It is scratch space afterwards.
+    /// Keeps a state whose innermost call frame has only these stack slots about which something
+    /// may be known. The state is scratch space afterwards.
     pub(crate) fn of_forgotten(
         alloc: Global,
         state: &mut State,
@@ -180,7 +180,7 @@ impl Kept {
         Kept::of_parts(alloc, state, parts, others)
     }
 
-    /// The same, where this is proved of its pointers besides.
+    /// Keeps a state of whose pointers this is proved besides.
     #[inline(never)]
     fn beside(
         alloc: Global,
@@ -210,7 +210,8 @@ impl Kept {
         Kept::of_rest(alloc, state, parts, others, (NOTHING, NOTHING))
     }
 
-    /// The same, where this is proved of its pointers besides, of two identities.
+    /// Keeps a state whose innermost frame has these parts, and of whose pointers this is proved
+    /// besides, of two identities.
     fn of_rest(
         alloc: Global,
         state: &State,
@@ -245,12 +246,12 @@ impl Kept {
         })
     }
 
-    /// How many words it took that it did not share when it was kept.
+    /// Returns how many words it took that it did not share when it was kept.
     pub(crate) fn words(&self) -> u32 {
         self.words
     }
 
-    /// Whether its parts say all that is known.
+    /// Returns whether its parts say all that is known.
     fn has_all_parts(&self) -> bool {
         self.proved.bytes == 0 && self.also_proved.bytes == 0
     }
@@ -287,8 +288,8 @@ impl Kept {
         self.innermost.put_limits(limits, frame_index)
     }
 
-    /// How many parts are compared at most when the state is compared with another one: those of
-    /// all frames, and once more for each identity that it uses.
+    /// Returns how many parts are compared at most when the state is compared with another one:
+    /// those of all frames, and once more for each identity that it uses.
     pub(crate) fn part_count(&self) -> usize {
         let mut named = self.innermost.named();
         for frame in self.callers.as_ref().as_slice() {

@@ -20,7 +20,7 @@ use std::marker::Model;
 #[derive(Drop)]
 pub struct KeptFrame {
     return_slot: usize,
-    /// How many of its parts name an identity.
+    /// Says how many of its parts name an identity.
     named: u16,
     parts: KeptParts,
 }
@@ -74,8 +74,8 @@ impl KeptFrame {
         })
     }
 
-    /// Whether this is the frame; a wrong false is possible, and certain where a constant is kept
-    /// by itself.
+    /// Returns whether this is the frame; a wrong false is possible, and certain where a constant
+    /// is kept by itself.
     pub fn is_frame(&self, frame: &AbstractFrame) -> bool
         ensures { IsTrue result → self.now ≡ frame.now }
     {
@@ -163,7 +163,7 @@ impl KeptFrame {
         Ok(())
     }
 
-    /// How many words it takes that no other state shares.
+    /// Returns how many words it takes that no other state shares.
     pub fn own_words(&self) -> u32 {
         let mut words = self.parts.few_words();
         for group in self.parts.groups() {
@@ -172,7 +172,7 @@ impl KeptFrame {
         u32::try_from(words).unwrap_or(u32::MAX)
     }
 
-    /// How many of its parts name an identity.
+    /// Returns how many of its parts name an identity.
     pub fn named(&self) -> usize {
         usize::from(self.named)
     }
@@ -204,7 +204,7 @@ fn are_slots(rest: &mut Rest<'_>, slots: &[StackSlot; FRAME_SLOTS]) -> bool
     true
 }
 
-/// Whether the frames are the kept ones; a wrong false is possible.
+/// Returns whether the frames are the kept ones; a wrong false is possible.
 pub fn are_frames(kept: &[KeptFrame], frames: &[AbstractFrame]) -> bool
     ensures { IsTrue result → kept.now ≡ frames.now }
 {
@@ -261,7 +261,7 @@ pub fn restore_all(kept: &[KeptFrame], frames: &mut ArrayVec<AbstractFrame, MAX_
     }
 }
 
-/// How many of the parts name an identity.
+/// Returns how many of the parts name an identity.
 fn named_in(parts: &[Part]) -> usize {
     let mut count: usize = 0;
     for part in parts {

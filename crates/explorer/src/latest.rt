@@ -8,7 +8,7 @@ use std::alloc::{AllocError, Global};
 pub struct LatestPending {
     /// Of each slot the index of that state, and 1 more; 0 if none is pending there.
     at: Vec<u32>,
-    /// The same of the slot of each pending state, as it was before.
+    /// Of each pending state the entry that its slot had in `at` before.
     before: Vec<u32>,
 }
 

@@ -54,8 +54,8 @@ pub struct Searched<S> {
     pub result: Result<u32, Halt<S>>,
     /// The states that were stored, by the indexes that the listener was given.
     pub stored: Vec<StoredState>,
-    /// Whether the limit of look-ups or of stored states was reached: from then on states were not
-    /// compared, and each was explored as a new one.
+    /// Says whether the limit of look-ups or of stored states was reached: from then on states were
+    /// not compared, and each was explored as a new one.
     pub is_cut_off: bool,
 }
 
@@ -112,8 +112,8 @@ pub fn verify_with<L: Listener>(
     }
 }
 
-/// How many words of 8 bytes a stored state took that it did not share with another one when it
-/// was kept.
+/// Returns how many words of 8 bytes a stored state took that it did not share with another one
+/// when it was kept.
 pub fn own_words(kept: &Kept) -> u32 {
     kept.words()
 }

@@ -17,7 +17,7 @@ use walks::Refusal;
 ///
 /// The states of the path are those that arrived, but for those that are covered or have a number.
 pub trait Listener {
-    /// Why it stopped a search.
+    /// Says why it stopped a search.
     type Stop: Drop;
 
     // The calls so far describe a path with these states, the last one first, and this state
@@ -98,8 +98,8 @@ pub fn tell<L: Listener>(
     }
 }
 
-/// Why a search stops with a refusal at this state; the listener is called first for a state to
-/// which the path comes back.
+/// Returns why a search stops with a refusal at this state; the listener is called first for a
+/// state to which the path comes back.
 #[inline(always)]
 pub fn halt<L: Listener>(listener: &mut L, state: &State, refused: Refused) -> Halt<L::Stop>
     ensures same { IfRefused result (λ e slot. (e ≡ refused.0) × (slot ≡ refused.1)) }

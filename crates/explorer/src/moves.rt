@@ -21,14 +21,14 @@ pub enum Move {
     Finished(u32),
 }
 
-/// What comes next: the current state is to be explored, or the start has its number.
+/// Says what comes next: the current state is to be explored, or the start has its number.
 #[derive(Clone, Copy, Drop)]
 pub enum NextMove {
     Explore(Option<usize>),
     Done(u32),
 }
 
-/// Why a search finds no number.
+/// Says why a search finds no number.
 #[derive(Drop)]
 pub enum Halt<S> {
     /// The program gets this refusal, at this slot.

@@ -8,10 +8,10 @@ ghost use Rattle.explorer.specs.ProvedBytes.{with_proved};
 use reg_state::Kind;
 use stack_state::{AbstractFrame, FRAME_SLOTS, Fact, StackSlot, StackState, State};
 
-/// How many pointers of an identity there are at least where what is proved is kept once.
+/// Says how many pointers of an identity there are at least where what is proved is kept once.
 const MANY: usize = 8;
 
-/// So many bytes after the variable part of an identity are in the packet; 0 says nothing.
+/// A number of bytes after the variable part of an identity that are in the packet; 0 says nothing.
 #[derive(Clone, Copy, Drop)]
 pub struct ProvedBytes {
     pub identity: u16,
@@ -26,7 +26,7 @@ pub const NOTHING: ProvedBytes = ProvedBytes {
 
 // ---- whether it is known already
 
-/// Whether it is known of a value.
+/// Returns whether it is known of a value.
 #[inline(always)]
 fn is_known_of(proved: ProvedBytes, kind: &Kind) -> bool
     ensures { IsTrue result → proved_kind proved.identity proved.bytes kind.now ≡ kind.now }
@@ -94,7 +94,7 @@ fn is_known_of_frames(proved: ProvedBytes, frames: &[AbstractFrame]) -> bool
     true
 }
 
-/// Whether it is known of all values of a state.
+/// Returns whether it is known of all values of a state.
 fn is_known_in(proved: ProvedBytes, state: &State) -> bool
     ensures { IsTrue result
         → map_kinds (proved_kind proved.identity proved.bytes) state.now ≡ state.now }
@@ -231,7 +231,7 @@ fn cast_votes(found: &mut Vote, other: ProvedBytes, frame: &AbstractFrame) {
     }
 }
 
-/// How many pointers an identity has, and the least that is proved of one.
+/// Says how many pointers an identity has, and the least that is proved of one.
 #[derive(Drop)]
 struct Pointers {
     identity: u32,
@@ -266,8 +266,8 @@ fn count_in(found: &mut Pointers, frame: &AbstractFrame) {
     }
 }
 
-/// What is proved of all pointers of an identity that has many, and is not the other one; nothing
-/// if there is none.
+/// Returns what is proved of all pointers of an identity that has many, and is not the other one;
+/// nothing if there is none.
 fn proved_of_many(state: &State, other: ProvedBytes) -> ProvedBytes {
     let mut voted = Vote {
         identity: 0,
@@ -299,7 +299,7 @@ fn proved_of_many(state: &State, other: ProvedBytes) -> ProvedBytes {
     }
 }
 
-/// Whether a state may have many pointers.
+/// Returns whether a state may have many pointers.
 pub fn may_have_many(state: &State) -> bool {
     !state.callers.is_empty() || state.innermost.stack.known_from() <= FRAME_SLOTS - MANY
 }

@@ -33,7 +33,7 @@ use walks::{Refusal, forget, kept_slots};
 pub struct Search {
     pub states: StoredStates,
     pub path: Trail,
-    /// How many instructions are finished: their states have their numbers.
+    /// Says how many instructions are finished: their states have their numbers.
     pub finished: u32,
     pub current: State,
     /// Scratch space for a state.

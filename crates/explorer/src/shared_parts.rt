@@ -7,17 +7,17 @@ use std::alloc::{AllocError, Global};
 use std::marker::Model;
 use std::rc::Rc;
 
-/// How many registers or stack slots a group has at most.
+/// Says how many registers or stack slots a group has at most.
 const GROUP_REGISTERS: u8 = 3;
 
 const GROUP_SLOTS: u8 = 8;
 
-/// How many words of 8 bytes a part takes, and a group besides its parts.
+/// Says how many words of 8 bytes a part takes, and a group besides its parts.
 pub const PART_WORDS: usize = 10;
 
 const GROUP_WORDS: usize = 9;
 
-/// How many words parts take.
+/// Returns how many words parts take.
 pub fn words_of(parts: &[Part]) -> usize {
     parts.len().saturating_mul(PART_WORDS)
 }
@@ -51,7 +51,7 @@ impl SharedParts {
         }
     }
 
-    /// The same group once more.
+    /// Returns the group once more, sharing its parts.
     fn share(&self) -> Result<Self, AllocError>
         ensures { IfOk result (λ group. group ≡ self.now) }
     {
@@ -59,7 +59,7 @@ impl SharedParts {
         Ok(SharedParts { parts })
     }
 
-    /// How many words it takes in a state that has it: one, where another state shares it.
+    /// Returns how many words it takes in a state that has it: one, where another state shares it.
     pub fn own_words(&self) -> usize {
         match Rc::strong_count(&self.parts) {
             1 => GROUP_WORDS.saturating_add(words_of(self.parts())),
@@ -75,7 +75,7 @@ impl SharedParts {
     }
 }
 
-/// Which group a part belongs to: a number that it shares with the parts of its group only.
+/// Returns which group a part belongs to: a number that it shares with the parts of its group only.
 fn group_of(part: &Part) -> u8 {
     match part {
         Part::InRegister(number, _) => *number / GROUP_REGISTERS,
@@ -83,7 +83,7 @@ fn group_of(part: &Part) -> u8 {
     }
 }
 
-/// How many of the parts, from the first one on, are of one group.
+/// Returns how many of the parts, from the first one on, are of one group.
 fn first_group(parts: &[Part]) -> usize {
     let mut count: usize = 0;
     let mut first = 0;
@@ -106,7 +106,7 @@ pub struct OtherGroups<'a> {
     pub second: &'a [SharedParts],
 }
 
-/// Which group parts are, if there are any.
+/// Returns which group parts are, if there are any.
 #[inline(always)]
 fn group_in(parts: &[Part]) -> u8 {
     match parts {

@@ -4,7 +4,7 @@ use crate::stored_states::StoredState;
 use state_index::{PartLimits, Rows, Spread, Tree};
 use std::alloc::{AllocError, Global};
 
-/// How far the limits of these states lie apart.
+/// Returns how far the limits of these states lie apart.
 fn spread_of(
     alloc: Global,
     states: &[StoredState],

@@ -21,14 +21,14 @@ pub struct StoredState {
     pub number: u32,
 }
 
-/// How many finished states in which this is known were scanned.
+/// Says how many finished states in which this is known were scanned.
 #[derive(Clone, Copy, Drop)]
 struct Scan {
     known: u64,
     count: usize,
 }
 
-/// What a look-up found.
+/// Says what a look-up found.
 #[derive(Clone, Copy, Drop)]
 struct Found {
     /// The first finished state that covers the one that is looked up: its index and its number.
@@ -39,17 +39,17 @@ struct Found {
     own: Option<OwnShape>,
 }
 
-/// How many words of 8 bytes the stored states may take, shared ones not counted.
+/// Says how many words of 8 bytes the stored states may take, shared ones not counted.
 const MOST_WORDS: u64 = 15_000_000;
 
-/// How many words a state takes in a tree.
+/// Says how many words a state takes in a tree.
 const TREE_WORDS: u32 = 43;
 
 /// After how many finished states of a slot more are likely to come.
 const SETTLED: u8 = 2;
 
-/// How often the parts of callers are read where a path arrives at a state: they are looked up,
-/// compared with those that were kept last, twice if a jump leads there, and restored.
+/// Says how often the parts of callers are read where a path arrives at a state: they are looked
+/// up, compared with those that were kept last, twice if a jump leads there, and restored.
 const CALLER_READINGS: usize = 4;
 
 /// The stored states, in the order in which they were met.
@@ -63,15 +63,16 @@ pub struct StoredStates {
     longest: Scan,
     /// The shape of the state that was looked for last, if it was met.
     own: Option<OwnShape>,
-    /// What looking up has cost.
+    /// Says what looking up has cost.
     effort: Effort,
-    /// Whether the limit of that cost is reached: then no state is looked up or stored any more.
+    /// Says whether the limit of that cost is reached: then no state is looked up or stored any
+    /// more.
     pub is_over: bool,
-    /// How many words the states take.
+    /// Says how many words the states take.
     words: u64,
-    /// Whether the limit of these words is reached: then no other state is stored.
+    /// Says whether the limit of these words is reached: then no other state is stored.
     pub is_full: bool,
-    /// How many states of each slot are finished, up to `SETTLED`.
+    /// Says how many states of each slot are finished, up to `SETTLED`.
     finished_at: Vec<u8>,
 }
 
@@ -105,7 +106,7 @@ impl StoredStates {
         })
     }
 
-    /// Whether so many states of a slot are finished that others are likely to come.
+    /// Returns whether so many states of a slot are finished that others are likely to come.
     pub fn is_settled(&self, slot: usize) -> bool {
         match self.finished_at.get(slot) {
             Some(count) => *count == SETTLED,
@@ -113,7 +114,7 @@ impl StoredStates {
         }
     }
 
-    /// Whether some states are no longer looked up, or no longer stored.
+    /// Returns whether some states are no longer looked up, or no longer stored.
     pub fn is_cut_off(&self) -> bool {
         self.is_over || self.is_full
     }
@@ -279,7 +280,7 @@ impl StoredStates {
         found.first
     }
 
-    /// Whether a stored state is unfinished and equal to the state.
+    /// Returns whether a stored state is unfinished and equal to the state.
     fn is_equal(
         &self,
         index: usize,
@@ -304,7 +305,7 @@ impl StoredStates {
         covers(state, scratch)
     }
 
-    /// Whether an unfinished state is equal to this one: each covers the other.
+    /// Returns whether an unfinished state is equal to this one: each covers the other.
     pub fn repeats(&mut self, state: &State, scratch: &mut State) -> bool
         ensures repeated { IsTrue result → IsRepeated self.old.states.items state.now }
         ensures same { self.new.states.items ≡ self.old.states.items }
@@ -316,7 +317,8 @@ impl StoredStates {
         repeats
     }
 
-    /// The same, as long as looking up may cost more.
+    /// Returns whether an unfinished state is equal to this one, as long as looking up may cost
+    /// more.
     fn is_repeated(&self, state: &State, scratch: &mut State, effort: &mut Effort) -> bool
         ensures { IsTrue result → IsRepeated self.now.states.items state.now }
     {

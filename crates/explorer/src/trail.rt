@@ -24,7 +24,7 @@ pub struct Visit {
 struct KeptVisit {
     best: u32,
     stored: Option<u32>,
-    /// Whether there is a pending state.
+    /// Says whether there is a pending state.
     waits: bool,
 }
 
@@ -125,8 +125,9 @@ impl Trail {
         self.pending.last()
     }
 
-    /// The states with which a state that becomes pending at the slot may share: the last pending
-    /// one; and the last one of that slot, or the stored one where that is the same or there is none.
+    /// Returns the states with which a state that becomes pending at the slot may share: the last
+    /// pending one; and the last one of that slot, or the stored one where that is the same or there
+    /// is none.
     #[inline(always)]
     pub fn others_at<'a>(&'a self, slot: usize, stored: Option<&'a Kept>) -> Others<'a> {
         let second = match self.latest.index_at(slot) {

@@ -16,7 +16,7 @@ use std::alloc::Global;
 use std::io::{ErrorKind, Write};
 use task_outcomes::{STANDARD_OUTPUT, TaskOutcome};
 
-/// How messages name the outputs of a run.
+/// Says how messages name the outputs of a run.
 #[derive(Clone, Copy)]
 pub struct Names<'a> {
     pub report: &'a str,

@@ -27,14 +27,14 @@ pub struct Named<'a, W: Write + Drop> {
 #[derive(Drop)]
 pub struct Opened<'a, S, W: Write + Drop> {
     pub source: S,
-    /// What the frames are by their first bytes.
+    /// The form of the frames' file by its first bytes.
     pub form: FileForm,
     pub sent: PromptWriter<W>,
     pub report: Option<Named<'a, W>>,
     pub maps_out: Option<Named<'a, W>>,
 }
 
-/// Whether a path stands for standard input or standard output.
+/// Returns whether a path stands for standard input or standard output.
 pub fn is_dash(path: &str) -> bool
     ensures { result ≡ bytes_eq path.now (codes "-") }
 {
@@ -48,7 +48,7 @@ fn frames_path(path: &str) -> &str
     if is_dash(path) { "/dev/stdin" } else { path }
 }
 
-/// How messages name the output of the frames out.
+/// Returns how messages name the output of the frames out.
 pub fn output_name<'a>(path: &'a str) -> &'a str
     ensures { result.now ≡ output_name path.now }
 {

@@ -9,7 +9,7 @@ use std::alloc::Global;
 use std::io;
 use std::io::{BufRead, BufReader, ErrorKind, Read};
 
-/// How many bytes can be read ahead.
+/// Says how many bytes can be read ahead.
 pub const FRONT: usize = 4;
 
 /// A buffer in front of a reader. A read that the buffer can serve takes few instructions.

@@ -28,7 +28,7 @@ pub fn decode_head(version: Version, bytes: &[u8]) -> (FrameHead, u32, u32)
     }
 }
 
-/// Whether these bytes begin with all bytes of a record, by the length in its head.
+/// Returns whether these bytes begin with all bytes of a record, by the length in its head.
 pub fn holds_record(version: Version, bytes: &[u8]) -> bool
     ensures { result ≡ true → head_size version + length_field bytes.now ≤ length bytes.now }
 {

@@ -12,7 +12,7 @@ use exact_io::Filled;
 use isa_model::{Fault, Finish, FrameHead, MAX_PACKET, Version};
 use std::marker::Model;
 
-/// What a call of `FrameReader::next` found.
+/// Says what a call of `FrameReader::next` found.
 #[derive(Clone, Copy, PartialEq, Eq, Debug)]
 pub enum Next {
     /// A record: its head, the length of its body, which is at the front of the buffer, and its
@@ -20,7 +20,7 @@ pub enum Next {
     Frame(FrameHead, usize, u32),
     /// The end of the stream.
     End,
-    /// What is wrong, and the offset in bytes of the record in which it was found (0 while the
+    /// The fault, and the offset in bytes of the record in which it was found (0 while the
     /// magic is read).
     Fault(Fault, u64),
 }
@@ -108,8 +108,8 @@ impl<R: Source> FrameReader<R> {
         }
     }
 
-    /// Whether the next record may have to be waited for, since the bytes that its source holds do
-    /// not have all of it. This is advice: no proof relies on it.
+    /// Returns whether the next record may have to be waited for, since the bytes that its source
+    /// holds do not have all of it. This is advice: no proof relies on it.
     #[inline(always)]
     pub fn may_wait(&self) -> bool {
         match (self.stage, self.source.held()) {

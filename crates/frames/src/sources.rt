@@ -11,7 +11,7 @@ pub trait Source {
     /// The bytes that reads will return from here on, where they are known.
     ghost remaining: { Self → Option (List ℕ) };
 
-    /// Whether a read may fail.
+    /// Says whether a read may fail.
     ghost may_fail: { Bool };
 
     /// Reads bytes to the front of the buffer, and returns how many; none only at the end, or if

@@ -70,8 +70,8 @@ pub fn open_image(alloc: Global, image: &[u8], session: &mut Session) -> u32
     }
 }
 
-/// The same by a proof table, whoever made it, in place of a search: the session has the bound that
-/// the table shows.
+/// Opens a session on the program of an image that a proof table shows to be safe, whoever made the
+/// table: the session has the bound that the table shows.
 pub fn open_with_table(alloc: Global, image: &[u8], table: &[u8], session: &mut Session) -> u32
     ensures opened { result ≡ 0 → OpensByTable image.now table.now session.new.held }
     ensures wrong { (result ≡ 1) ↔ (session.old.held ≢ None) }

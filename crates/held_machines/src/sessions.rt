@@ -12,7 +12,7 @@ use std::marker::Model;
 use std::mem::replace;
 use std::ptr::null_mut;
 
-/// What a session's pointer points to: nothing that C may read.
+/// Says what a session's pointer points to: nothing that C may read.
 #[repr(C)]
 pub struct Opaque {
     unused: u8,

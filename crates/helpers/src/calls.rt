@@ -6,8 +6,8 @@ ghost use Rattle.helpers.specs.Calls.{FitsMaps, AnswersRequest, clock_calls};
 use isa_model::{Clock, Helper};
 use maps::Maps;
 
-/// What a program asks of a helper. A map is named by its index, and a key and a value have the
-/// sizes of its row. Arguments that the helper does not take are ignored.
+/// Says what a program asks of a helper. A map is named by its index, and a key and a value have
+/// the sizes of its row. Arguments that the helper does not take are ignored.
 #[derive(Clone, Copy)]
 pub struct Request<'a> {
     pub helper: Helper,
@@ -17,7 +17,7 @@ pub struct Request<'a> {
     pub flags: u64,
 }
 
-/// What a helper answers.
+/// Says what a helper answers.
 #[derive(Clone, Copy)]
 pub enum Answer {
     Number(u64),

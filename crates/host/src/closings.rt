@@ -15,7 +15,7 @@ use super::traced::Traced;
 use isa_model::Finish;
 use maps::Maps;
 
-/// What the last line shows.
+/// Returns what the last line shows.
 pub fn tally_of(ended: StreamEnded) -> Tally
     ensures { result ≡ tally_of ended.frames ended.finish }
 {

@@ -8,10 +8,10 @@ use super::reasons::reason_of;
 use arrayvec::ArrayVec;
 use isa_model::{Action, End, Version};
 
-/// How many reasons are counted by themselves at most: the first that are met.
+/// Says how many reasons are counted by themselves at most: the first that are met.
 pub const MOST_REASONS: usize = 64;
 
-/// How many frames were not forwarded for a reason.
+/// Says how many frames were not forwarded for a reason.
 #[derive(Clone, Copy, PartialEq, Eq, Debug)]
 pub struct ReasonCount {
     pub reason: u32,
@@ -27,7 +27,7 @@ impl Default for ReasonCount {
     }
 }
 
-/// How many frames ended in each way. No memory is taken.
+/// Says how many frames ended in each way. No memory is taken.
 #[derive(Drop)]
 pub struct FrameCounts {
     /// The frames whose runs exited, by the action of the answer.

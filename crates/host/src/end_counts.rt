@@ -4,7 +4,7 @@ ghost use Rattle.host.specs.EndCounts.{no_actions, count_of_action, with_action,
 
 use isa_model::{Action, TrapReason};
 
-/// How many frames' runs ended by each action.
+/// Says how many frames' runs ended by each action.
 #[derive(Clone, Copy, PartialEq, Eq, Debug)]
 pub struct ActionCounts {
     pub aborted: u32,
@@ -30,7 +30,7 @@ impl ActionCounts {
         }
     }
 
-    /// How many ended by this action.
+    /// Returns how many ended by this action.
     pub fn of(&self, action: Action) -> u32
         ensures { result ≡ count_of_action self.now action }
     {
@@ -60,7 +60,7 @@ impl ActionCounts {
     }
 }
 
-/// How many frames' runs ended by a trap of each reason.
+/// Says how many frames' runs ended by a trap of each reason.
 #[derive(Clone, Copy, PartialEq, Eq, Debug)]
 pub struct TrapCounts {
     pub no_code: u32,
@@ -96,7 +96,7 @@ impl TrapCounts {
         }
     }
 
-    /// How many ended by a trap of this reason.
+    /// Returns how many ended by a trap of this reason.
     pub fn of(&self, reason: TrapReason) -> u32
         ensures { result ≡ count_of_trap self.now reason }
     {

@@ -2,7 +2,7 @@
 
 use isa_model::Finish;
 
-/// How many packet frames were found in a stream, and how it ended.
+/// Says how many packet frames were found in a stream, and how it ended.
 #[derive(Clone, Copy)]
 pub struct StreamEnded {
     pub frames: u32,

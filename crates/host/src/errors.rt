@@ -6,14 +6,14 @@ ghost use Rattle.host.specs.Messages.{code_of, sentence_of};
 use std::error::Error;
 use std::fmt;
 
-/// Why a run over a stream stopped before its last line.
+/// Says why a run over a stream stopped before its last line.
 #[derive(Clone, Copy, PartialEq, Eq, Debug)]
 pub enum HostError {
     /// Out of memory, before any byte was written.
     Memory,
     /// The report's writer returned an error, or took none of the bytes.
     Report,
-    /// The same of the writer of the frames out.
+    /// The frames out's writer returned an error, or took none of the bytes.
     Frames,
 }
 
@@ -29,7 +29,7 @@ impl HostError {
         }
     }
 
-    /// What is wrong, in a sentence.
+    /// Returns what is wrong, in a sentence.
     pub fn sentence(self) -> &'static str
         ensures { result.now ≡ sentence_of self }
     {

@@ -4,7 +4,8 @@ ghost use Rattle.isa_model.specs.Reporting.Reports.{is_sent, reason_of, end_reas
 
 use isa_model::{Action, End, Version};
 
-/// Whether a frame is written out: after an exit, in `XPF1` by its action and in `XPF2` always.
+/// Returns whether a frame is written out: after an exit, in `XPF1` by its action and in `XPF2`
+/// always.
 pub fn is_written(stream: Version, end: End) -> bool
     ensures { result ≡ is_sent stream end }
 {

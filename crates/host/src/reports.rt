@@ -15,11 +15,11 @@ use map_texts::write_maps;
 use maps::Maps;
 use std::io::Write;
 
-/// Where the lines of a report go: to any writer, or nowhere.
+/// Takes the lines of a report: any writer does, or nothing.
 ///
 /// Where a line is written, nothing is tried again after a failure.
 pub trait Report {
-    /// What was written, where contracts know it.
+    /// The bytes that were written, where contracts know them.
     ghost written: { Self → Option (List ℕ) };
 
     /// Puts the line of a frame that was run, by its number and length.

@@ -9,7 +9,7 @@ use isa_model::{End, FrameHead};
 
 /// A machine with a program and its maps.
 pub trait Runner {
-    /// What is noted of frames.
+    /// The type of what is noted of frames.
     ghost Notes: { Type 0 };
 
     /// The program, and the most steps of a run.
@@ -18,10 +18,10 @@ pub trait Runner {
     /// The maps' contents.
     ghost contents: { Self → List KeyValues };
 
-    /// What is noted of the frames so far.
+    /// The notes of the frames so far.
     ghost noted: { Self → Notes };
 
-    /// What is noted of one more frame.
+    /// The notes with one more frame.
     ghost notes: { Self → Noting Notes };
 
     /// Runs a frame with this number, and leaves in `body` its bytes after the run.

@@ -7,7 +7,7 @@ use arrayvec::ArrayVec;
 use checked_vm::RunEnd;
 use isa_model::{Action, End, Value};
 
-/// How many frames are kept at most: the first ones.
+/// Says how many frames are kept at most: the first ones.
 pub const MOST_STOPS: usize = 20;
 
 /// A frame by its number, and where its run stopped.
@@ -37,7 +37,7 @@ impl Default for FrameStop {
 pub struct Stops {
     /// The first ones.
     pub first: ArrayVec<FrameStop, 20>,
-    /// How many there are.
+    /// Says how many there are.
     pub count: u32,
 }
 

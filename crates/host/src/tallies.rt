@@ -2,10 +2,10 @@
 
 use isa_model::Fault;
 
-/// What a report's last line shows.
+/// Says what a report's last line shows.
 #[derive(Clone, Copy, PartialEq, Eq, Debug)]
 pub struct Tally {
-    /// How many packet frames were found; those that were not run count too.
+    /// Says how many packet frames were found; those that were not run count too.
     pub frames: u32,
     /// The fault that ended the stream, and the offset in bytes of the record in which it was
     /// found; `None` at the stream's end.

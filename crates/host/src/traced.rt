@@ -9,8 +9,9 @@ use super::stops::Stops;
 use super::tallies::Tally;
 use maps::Maps;
 
-/// What the report's last line shows, the packet frames whose runs ended without an action, and the
-/// maps as the last frame left them. Of a run over a stream without checks no frames are noted.
+/// Says what the report's last line shows, the packet frames whose runs ended without an action,
+/// and the maps as the last frame left them. Of a run over a stream without checks no frames are
+/// noted.
 #[derive(Drop)]
 pub struct Traced {
     pub tally: Tally,
@@ -18,7 +19,7 @@ pub struct Traced {
     pub maps: Maps,
 }
 
-/// What a run over a stream shows, and how many of its packet frames ended in each way.
+/// Says what a run over a stream shows, and how many of its packet frames ended in each way.
 #[derive(Drop)]
 pub struct Counted {
     pub traced: Traced,

@@ -8,9 +8,9 @@ use std::alloc::{AllocError, AllocFailed};
 use std::error::Error;
 use std::fmt;
 
-/// Why the bytes are no image: the first of these that is found, in the order I2, I1, I4, I6 for
-/// the 8 bytes of the head, I2, I3 for the whole length, I5 row by row, I7, and then slot by slot
-/// I8, I10, I11. I9 is possible at any of these tests.
+/// Says why the bytes are no image: the first of these that is found, in the order I2, I1, I4, I6
+/// for the 8 bytes of the head, I2, I3 for the whole length, I5 row by row, I7, and then slot by
+/// slot I8, I10, I11. I9 is possible at any of these tests.
 #[derive(Clone, Copy, Debug)]
 pub enum ImageError {
     /// Another magic than `XBP1` and `XBP2`.
@@ -59,7 +59,7 @@ impl ImageError {
         }
     }
 
-    /// What is wrong, in a sentence.
+    /// Returns what is wrong, in a sentence.
     pub fn sentence(self) -> &'static str
         ensures { result.now ≡ sentence_of self }
     {

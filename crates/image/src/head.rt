@@ -58,7 +58,7 @@ pub fn map_count(bytes: &[u8]) -> usize
     usize::from(LittleEndian::read_u16(&bytes[4..]))
 }
 
-/// Why an image may not have this number of slots.
+/// Returns why an image may not have this number of slots.
 pub fn count_refusal(slots: usize) -> Option<ImageError>
     ensures { result ≡ count_refusal slots }
 {

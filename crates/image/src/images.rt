@@ -190,7 +190,7 @@ impl Image {
         &self.maps
     }
 
-    /// How many slots the code has.
+    /// Returns how many slots the code has.
     pub fn slots(&self) -> usize
         ensures count { result ≡ length self.now.insns }
         ensures fits { IsImage self.now }

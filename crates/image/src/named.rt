@@ -13,8 +13,8 @@ fn holds_offset(offset: u32, row: &MapDef) -> bool
     matches!(row.kind, MapType::Array) && row.entries == 1 && offset < row.value_size
 }
 
-/// What is wrong with the map that the instruction at a slot names: that it has no row, or that a
-/// pointer to its value may not be loaded.
+/// Returns what is wrong with the map that the instruction at a slot names: that it has no row, or
+/// that a pointer to its value may not be loaded.
 pub fn map_refusal(maps: &[MapDef], slot: usize, insn: &Insn) -> Option<ImageError>
     ensures { result ≡ map_refusal maps.now slot insn.now }
 {

@@ -27,8 +27,8 @@ fn key_fits(kind: MapType, size: u16) -> bool
     }
 }
 
-/// Whether a map row is within its limits: key sizes from 1 to 64 and for arrays 4, value sizes
-/// from 1 to 4,096, and 1 to 65,536 keys.
+/// Returns whether a map row is within its limits: key sizes from 1 to 64 and for arrays 4, value
+/// sizes from 1 to 4,096, and 1 to 65,536 keys.
 pub fn row_fits(row: &MapDef) -> bool
     ensures { result ≡ row_fits row.now }
 {
@@ -37,7 +37,7 @@ pub fn row_fits(row: &MapDef) -> bool
         && (1 <= row.entries && row.entries <= MAX_MAP_ENTRIES)
 }
 
-/// How many bytes of keys and values a map has room for.
+/// Returns how many bytes of keys and values a map has room for.
 pub fn room_of(row: &MapDef) -> u64
     requires { row_fits row.now ≡ true }
     ensures { result ≡ room_of row.now }

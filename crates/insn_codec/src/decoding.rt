@@ -59,7 +59,7 @@ fn extension_selected(width: Width, offset: u16) -> Option<Extension>
     }
 }
 
-/// How many bits are swapped.
+/// Returns how many bits are swapped.
 fn span_selected(imm: u32) -> Option<SwapWidth>
     ensures { result ≡ span_selected imm }
 {

@@ -6,7 +6,7 @@ ghost use Rattle.insn_codec.specs.Messages.{code_of, hint_of, sentence_of};
 use std::error::Error;
 use std::fmt;
 
-/// Why no front of the bytes spells an instruction: the first of these tests that fails.
+/// Says why no front of the bytes spells an instruction: the first of these tests that fails.
 #[derive(Clone, Copy, PartialEq, Eq, Debug)]
 pub enum CodecError {
     /// Fewer than 8 bytes.
@@ -39,7 +39,7 @@ impl CodecError {
         }
     }
 
-    /// What is wrong, in a sentence.
+    /// Returns what is wrong, in a sentence.
     pub fn sentence(self) -> &'static str
         ensures { result.now ≡ sentence_of self }
     {
@@ -49,8 +49,8 @@ impl CodecError {
             CodecError::UnknownRegister => "a register number is over 10",
             CodecError::UnusedField => "a field that the instruction does not use is not 0",
             CodecError::UnknownSelector => "the selector is unknown",
-            CodecError::SecondSlot =>
-                "the second slot of the wide load is missing, or a field that it does not use is not 0",
+            CodecError::SecondSlot => "the second slot of the wide load is missing, \
+                 or a field that it does not use is not 0",
         }
     }
 
@@ -68,8 +68,8 @@ impl CodecError {
                 "set each field to 0 that the form does not use, as src_reg beside a constant",
             CodecError::UnknownSelector =>
                 "no form has this offset, imm or src_reg; a call has src_reg 0 or 1",
-            CodecError::SecondSlot =>
-                "a wide load has a second slot: 4 bytes 0, then the upper half, 0 for a map, or the offset",
+            CodecError::SecondSlot => "a wide load has a second slot: 4 bytes 0, \
+                 then the upper half, 0 for a map, or the offset",
         }
     }
 }

@@ -18,7 +18,7 @@ pub struct Fields {
 }
 
 impl Uses {
-    /// Whether the fields that are not used are zero.
+    /// Returns whether the fields that are not used are zero.
     pub fn leave_zero(self, fields: Fields) -> bool
         ensures { result ≡ zero_unused self fields }
     {

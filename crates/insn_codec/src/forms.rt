@@ -45,7 +45,7 @@ pub enum Form {
     Exit,
 }
 
-/// Which fields a form uses, as operands or as selectors.
+/// Says which fields a form uses, as operands or as selectors.
 #[derive(Clone, Copy)]
 pub struct Uses {
     pub dst: bool,
@@ -76,7 +76,7 @@ impl AluCode {
         }
     }
 
-    /// Whether `offset` selects between an unsigned and a signed division or modulo.
+    /// Returns whether `offset` selects between an unsigned and a signed division or modulo.
     fn has_selector(self) -> bool
         ensures { result ≡ has_selector self }
     {
@@ -225,7 +225,7 @@ impl Form {
         }
     }
 
-    /// Which fields it uses.
+    /// Returns which fields it uses.
     pub fn uses(self) -> Uses
         ensures { result ≡ uses self }
     {

@@ -3,7 +3,7 @@
 ghost use Rattle.std.specs.Prelude.{◌≡◌, ◌≤◌, length};
 ghost use Rattle.isa_model.specs.Reporting.Reports.{trap_reason_name};
 
-/// Why a step is not defined. A trap changes nothing.
+/// Says why a step is not defined. A trap changes nothing.
 #[derive(Clone, Copy, PartialEq, Eq, Debug)]
 pub enum TrapReason {
     /// No instruction begins at the slot.
@@ -52,7 +52,7 @@ impl TrapReason {
     }
 }
 
-/// How a run within a limit of steps ended.
+/// Says how a run within a limit of steps ended.
 #[derive(Clone, Copy, PartialEq, Eq, Debug)]
 pub enum End {
     /// r0 at the last exit, and the steps done, the exit included.

@@ -4,8 +4,8 @@ ghost use Rattle.std.specs.Prelude.{◌≡◌, ◌≤◌, length};
 ghost use Rattle.isa_model.specs.Reporting.Frames.{action_of};
 ghost use Rattle.isa_model.specs.Reporting.Reports.{action_name, is_forwarded};
 
-/// What a frame's record says beside the body: a time in nanoseconds, and the interface and queue
-/// that it came in by.
+/// Says what a frame's record says beside the body: a time in nanoseconds, and the interface and
+/// queue that it came in by.
 #[derive(Clone, Copy, PartialEq, Eq, Debug)]
 pub struct FrameHead {
     pub time: u64,
@@ -13,7 +13,7 @@ pub struct FrameHead {
     pub queue: u32,
 }
 
-/// What is done with a frame. Linux, `enum xdp_action`; `Invalid` is for every other answer.
+/// Says what is done with a frame. Linux, `enum xdp_action`; `Invalid` is for every other answer.
 #[derive(Clone, Copy)]
 pub enum Action {
     Aborted,
@@ -54,7 +54,7 @@ impl Action {
         }
     }
 
-    /// Whether a frame with this action is written out.
+    /// Returns whether a frame with this action is written out.
     pub fn is_forwarded(self) -> bool
         ensures { result ≡ is_forwarded self }
     {

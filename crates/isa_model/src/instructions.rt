@@ -81,7 +81,7 @@ pub struct Place {
     pub offset: i16,
 }
 
-/// What an atomic instruction does to memory.
+/// Says what an atomic instruction does to memory.
 #[derive(Clone, Copy)]
 pub enum AtomicOp {
     Add,
@@ -137,7 +137,7 @@ pub enum Insn {
 }
 
 impl Insn {
-    /// How many 8-byte slots it fills: 2 for a wide load, else 1.
+    /// Returns how many 8-byte slots it fills: 2 for a wide load, else 1.
     pub fn slots(&self) -> usize
         ensures { result ≡ slots_filled self.now }
     {
@@ -202,7 +202,7 @@ impl Insn {
         }
     }
 
-    /// Whether it writes r10, which no instruction may.
+    /// Returns whether it writes r10, which no instruction may.
     pub fn writes_frame_pointer(&self) -> bool
         ensures { result ≡ is_frame_pointer (writes self.now) }
     {

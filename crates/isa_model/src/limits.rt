@@ -19,7 +19,7 @@ pub const MAX_MAP_ENTRIES: u32 = 65_536;
 /// The most bytes of all keys and values together, each map with as many keys as it can have.
 pub const MAX_MAP_ROOM: u64 = 16_777_216;
 
-/// How many bytes of stack a call frame has. Linux, `MAX_BPF_STACK`.
+/// Says how many bytes of stack a call frame has. Linux, `MAX_BPF_STACK`.
 pub const STACK_SIZE: usize = 512;
 
 /// The most live call frames. Linux, `MAX_CALL_FRAMES`.

@@ -155,7 +155,7 @@ pub fn as_signed(width: Width, a: u64) -> i64
     }
 }
 
-/// Whether the comparison holds of the numbers in two registers, at the width.
+/// Returns whether the comparison holds of the numbers in two registers, at the width.
 #[tactic(auto, unfolding(crate::specs::Code::Numbers::holds))]
 pub fn compare(comparison: Comparison, width: Width, a: u64, b: u64) -> bool
     ensures { result ≡ holds comparison width a b }

@@ -21,7 +21,7 @@ pub enum Reg {
 }
 
 impl Reg {
-    /// How many registers there are.
+    /// Says how many registers there are.
     pub const COUNT: usize = 11;
 
     /// Its number in an encoding, and its index in a list of all registers.

@@ -22,7 +22,7 @@ impl Width {
         }
     }
 
-    /// What an atomic instruction of this width reads and writes.
+    /// Returns what an atomic instruction of this width reads and writes.
     pub fn size(self) -> Size
         ensures { result ≡ width_size self }
     {
@@ -33,7 +33,7 @@ impl Width {
     }
 }
 
-/// How many bytes a load reads or a store writes: 1, 2, 4 or 8.
+/// Says how many bytes a load reads or a store writes: 1, 2, 4 or 8.
 #[derive(Clone, Copy)]
 pub enum Size {
     U8,
@@ -75,7 +75,7 @@ pub enum Extension {
     Full32,
 }
 
-/// How many of the low bits a byte swap instruction (END) takes.
+/// Says how many of the low bits a byte swap instruction (END) takes.
 #[derive(Clone, Copy)]
 pub enum SwapWidth {
     B16,
@@ -83,9 +83,9 @@ pub enum SwapWidth {
     B64,
 }
 
-/// What a byte swap instruction does with the low bytes: `le` keeps their order, `be` and `bswap`
-/// reverse it. On a little-endian machine `be` and `bswap` give the same number; they are spelled
-/// apart.
+/// Says what a byte swap instruction does with the low bytes: `le` keeps their order, `be` and
+/// `bswap` reverse it. On a little-endian machine `be` and `bswap` give the same number; they are
+/// spelled apart.
 #[derive(Clone, Copy)]
 pub enum ByteOrder {
     Little,

@@ -6,7 +6,7 @@ ghost use Rattle.isa_model.specs.Reporting.Messages.{code_of, sentence_of};
 use std::error::Error;
 use std::fmt;
 
-/// What is wrong with a frame stream.
+/// Says what is wrong with a frame stream.
 #[derive(Clone, Copy, PartialEq, Eq, Debug)]
 pub enum Fault {
     /// Fewer than 4 bytes, or another magic than `XPF1` and `XPF2`.
@@ -39,7 +39,7 @@ impl Fault {
         }
     }
 
-    /// What is wrong, in a sentence.
+    /// Returns what is wrong, in a sentence.
     pub fn sentence(self) -> &'static str
         ensures { result.now ≡ sentence_of self }
     {
@@ -65,8 +65,8 @@ impl fmt::Display for Fault {
 
 impl Error for Fault {}
 
-/// How a stream ends: at its end, or by a fault in the record that begins at an offset in bytes (0
-/// while the magic is read).
+/// Says how a stream ends: at its end, or by a fault in the record that begins at an offset in
+/// bytes (0 while the magic is read).
 #[derive(Clone, Copy)]
 pub enum Finish {
     End,

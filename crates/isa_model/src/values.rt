@@ -2,8 +2,8 @@
 
 use crate::limits::STACK_SIZE;
 
-/// What a pointer points into. The serials of call frames and of map values are never used again,
-/// so a pointer to one that has ended is dead for ever.
+/// Says what a pointer points into. The serials of call frames and of map values are never used
+/// again, so a pointer to one that has ended is dead for ever.
 #[derive(Clone, Copy)]
 pub enum Region {
     /// The context, `struct xdp_md`.
@@ -20,7 +20,7 @@ pub enum Region {
     MapValue(u32, u64),
 }
 
-/// What a register holds.
+/// Says what a register holds.
 #[derive(Clone, Copy)]
 pub enum Value {
     Unset,
@@ -29,7 +29,7 @@ pub enum Value {
     Ptr(Region, i64),
 }
 
-/// What a byte of a call frame holds. A pointer lies there as its eight pieces, 0 to 7.
+/// Says what a byte of a call frame holds. A pointer lies there as its eight pieces, 0 to 7.
 #[derive(Clone, Copy)]
 pub enum Cell {
     Unwritten,

@@ -25,7 +25,7 @@ impl Version {
         }
     }
 
-    /// How many bytes come before a record's body in a stream of this version.
+    /// Returns how many bytes come before a record's body in a stream of this version.
     pub fn head_size(self) -> usize
         ensures size { result ≡ head_size self }
         ensures short { result ≤ 24 }

@@ -71,7 +71,7 @@ impl Bits {
         })
     }
 
-    /// Whether each member of `other` is a member of this.
+    /// Returns whether each member of `other` is a member of this.
     pub fn covers(self, other: Self) -> bool
         ensures inclusion { IsTrue result ↔ ((x : ℕ) → Has other x → Has self x) }
         ensures equal { self ≡ other → IsTrue result }

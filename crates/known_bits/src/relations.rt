@@ -9,8 +9,8 @@ use crate::bits::Bits;
 impl Bits {
     ghost use Rattle.known_bits.specs.Bits.{Has, SomePair};
 
-    /// What is left of both where a number of this is below one of the other. `None`: there are no
-    /// such numbers.
+    /// Returns what is left of both where a number of this is below one of the other. `None`: there
+    /// are no such numbers.
     pub fn below(self, other: Self) -> Option<(Self, Self)>
         ensures common { (x y : ℕ) → Has self x → Has other y → x < y
             → IsSomeAnd result (λ p. Has p.0 x × Has p.1 y) }
@@ -28,7 +28,7 @@ impl Bits {
         Some((left, right))
     }
 
-    /// What is left of both where a number of this is at most one of the other.
+    /// Returns what is left of both where a number of this is at most one of the other.
     pub fn at_most(self, other: Self) -> Option<(Self, Self)>
         ensures common { (x y : ℕ) → Has self x → Has other y → x ≤ y
             → IsSomeAnd result (λ p. Has p.0 x × Has p.1 y) }
@@ -46,7 +46,7 @@ impl Bits {
         Some((left, right))
     }
 
-    /// The same as `below`, of signed numbers.
+    /// Does what `below` does, for signed numbers.
     pub fn signed_below(self, other: Self) -> Option<(Self, Self)>
         ensures common { (x y : ℕ) → Has self x → Has other y
             → cast_signed w64 x <ℤ cast_signed w64 y
@@ -63,7 +63,7 @@ impl Bits {
         }
     }
 
-    /// The same as `at_most`, of signed numbers.
+    /// Does what `at_most` does, for signed numbers.
     pub fn signed_at_most(self, other: Self) -> Option<(Self, Self)>
         ensures common { (x y : ℕ) → Has self x → Has other y
             → cast_signed w64 x ≤ℤ cast_signed w64 y
@@ -80,7 +80,7 @@ impl Bits {
         }
     }
 
-    /// What is left of both where a number of this differs from one of the other.
+    /// Returns what is left of both where a number of this differs from one of the other.
     pub fn unequal(self, other: Self) -> Option<(Self, Self)>
         ensures common { (x y : ℕ) → Has self x → Has other y → x ≢ y
             → IsSomeAnd result (λ p. Has p.0 x × Has p.1 y) }
@@ -95,7 +95,8 @@ impl Bits {
         }
     }
 
-    /// What is left of both where a number of this has no bit in common with one of the other.
+    /// Returns what is left of both where a number of this has no bit in common with one of the
+    /// other.
     pub fn disjoint(self, other: Self) -> Option<(Self, Self)>
         ensures common { (x y : ℕ) → Has self x → Has other y → bit_and x y ≡ 0
             → IsSomeAnd result (λ p. Has p.0 x × Has p.1 y) }
@@ -110,7 +111,8 @@ impl Bits {
         Some((left, right))
     }
 
-    /// What is left of both where a number of this has a bit in common with one of the other.
+    /// Returns what is left of both where a number of this has a bit in common with one of the
+    /// other.
     pub fn overlapping(self, other: Self) -> Option<(Self, Self)>
         ensures common { (x y : ℕ) → Has self x → Has other y → bit_and x y ≢ 0
             → IsSomeAnd result (λ p. Has p.0 x × Has p.1 y) }

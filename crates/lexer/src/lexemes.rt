@@ -46,8 +46,8 @@ fn word_or_sign(text: &[u8], b: u8) -> Option<(Lexeme, usize)>
     word_at(text)
 }
 
-/// What the text begins with, and its length: the longest token that fits, and a sign that begins
-/// with `s` rather than a word. Otherwise the offset of the first byte that begins no token.
+/// Returns what the text begins with, and its length: the longest token that fits, and a sign that
+/// begins with `s` rather than a word. Otherwise the offset of the first byte that begins no token.
 pub fn lexeme_at(text: &[u8]) -> Result<(Lexeme, usize), usize>
     ensures found { result_ok result ≡ lexeme_at text.now }
     ensures unknown { IfErr result (λ at. at ≡ unknown_at text.now) }

@@ -20,14 +20,14 @@ fn digit_value(c: u8) -> u8
     }
 }
 
-/// Whether the byte is a digit of that base.
+/// Returns whether the byte is a digit of that base.
 pub fn is_digit(c: u8, base: u8) -> bool
     ensures { result ≡ is_digit c base }
 {
     digit_value(c) < base
 }
 
-/// Whether the byte can be part of a word: a letter, a digit or `_`.
+/// Returns whether the byte can be part of a word: a letter, a digit or `_`.
 pub fn is_word_byte(c: u8) -> bool
     ensures { result ≡ is_word_byte c }
 {
@@ -53,7 +53,7 @@ fn digits_len(text: &[u8], base: u8) -> usize
     text.len()
 }
 
-/// How many bytes the text's first word has.
+/// Returns how many bytes the text's first word has.
 pub fn word_len(text: &[u8]) -> usize
     ensures value { result ≡ prefix_len is_word_byte text.now }
     ensures most { result ≤ length text.now }
@@ -66,7 +66,7 @@ pub fn word_len(text: &[u8]) -> usize
     text.len()
 }
 
-/// How many bytes come before the first line feed.
+/// Returns how many bytes come before the first line feed.
 pub fn line_len(text: &[u8]) -> usize
     ensures value { result ≡ prefix_len is_line_byte text.now }
     ensures most { result ≤ length text.now }

@@ -2,7 +2,7 @@
 
 use isa_model::{AtomicOp, ByteOrder, MapType, Reg, SignedSize, Size, SwapWidth, Width};
 
-/// What a word stands for in a statement. In a label or a name only its bytes count.
+/// Says what a word stands for in a statement. In a label or a name only its bytes count.
 #[derive(Clone, Copy)]
 pub enum Word {
     /// `r0` to `r10`, `w0` to `w10`.
@@ -88,7 +88,7 @@ pub enum Token {
     Signed(Sign),
 }
 
-/// What a text begins with: a token, or what is between two of them.
+/// Says what a text begins with: a token, or what is between two of them.
 #[derive(Clone, Copy)]
 pub enum Lexeme {
     /// A blank or a comment.

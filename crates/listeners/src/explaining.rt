@@ -73,7 +73,7 @@ impl<'a> Follower<'a> {
         }
     }
 
-    /// The path leaves its last state.
+    /// Leaves the last state of the path: then all that is kept is of the path before it.
     fn go_back(&mut self)
         ensures { (p : Program) (s : TheState) (path : List TheState) (last : TheState)
             → HasFollowed self.old.image.now self.old.slots.items self.old.slot self.old.turns
@@ -85,8 +85,8 @@ impl<'a> Follower<'a> {
         self.turns.leave(self.slots.len());
     }
 
-    /// What is known at the end of the path, which is at this slot, and whether states were no
-    /// longer compared. None: another path was asked for.
+    /// Returns what is known at the end of the path, which is at this slot, and whether states were
+    /// no longer compared. None: another path was asked for.
     fn into_explanation(self, slot: usize, is_cut_off: bool) -> Option<Explanation>
         ensures { IfSome result (λ x. (p : Program) (before : List TheState) (s : TheState)
             → HasFollowed self.entry.image.now self.entry.slots.items self.entry.slot
@@ -141,7 +141,7 @@ impl Listener for Follower<'_> {
     }
 }
 
-/// Whether two refusals are the same. The derived `==` has no clause that says so.
+/// Returns whether two refusals are the same. The derived `==` has no clause that says so.
 fn are_one(one: Refusal, other: Refusal) -> bool
     ensures { IsTrue result → one ≡ other }
 {
@@ -155,8 +155,8 @@ fn are_one(one: Refusal, other: Refusal) -> bool
     }
 }
 
-/// Whether a search may stop with the refusal: it is none of control flow, and memory did not run
-/// out.
+/// Returns whether a search may stop with the refusal: it is none of control flow, and memory did
+/// not run out.
 fn is_found_by_search(refusal: Refusal) -> bool
     ensures { IsTrue result → ¬ IsOutsideSearch refusal }
 {
@@ -173,7 +173,8 @@ fn refusal_in(ended: Result<u32, Halt<AllocError>>) -> Option<(Refusal, usize)>
     }
 }
 
-/// What is known where a program gets this refusal, at this slot: a second search looks for it.
+/// Returns what is known where a program gets this refusal, at this slot: a second search looks for
+/// it.
 ///
 /// None: the refusal is one of control flow, memory ran out, or this is not what the program is
 /// refused for.

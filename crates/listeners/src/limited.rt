@@ -18,7 +18,7 @@ use stack_state::State;
 use std::alloc::Global;
 use walks::Refusal;
 
-/// Why a search up to a limit has no bound.
+/// Says why a search up to a limit has no bound.
 #[derive(Clone, Copy)]
 pub enum NoBound {
     /// The program gets this refusal, at this slot.

@@ -48,7 +48,7 @@ impl Model for Explored {
 }
 
 impl Explored {
-    /// How many there are.
+    /// Returns how many there are.
     pub fn len(&self) -> usize
         ensures { result ≡ length self.now }
     {

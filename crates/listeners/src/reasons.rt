@@ -11,8 +11,8 @@ use isa_model::MAX_SLOTS;
 use std::alloc::Global;
 use walks::Refusal;
 
-/// What is known where a program gets this refusal, at this slot: the registers and the stack
-/// slots that concern its instruction, what it needs, the loop that is not explored to its
+/// Returns what is known where a program gets this refusal, at this slot: the registers and the
+/// stack slots that concern its instruction, what it needs, the loop that is not explored to its
 /// end, with how often it was taken and what differs from turn to turn, the low half of an answer
 /// that has to name an action, the last jumps on the path there, and whether states were no longer
 /// compared. If control flow is refused: where a jump leads, and what helps. None: memory ran out.

@@ -84,7 +84,7 @@ impl LiveMaps {
         })
     }
 
-    /// How many maps there are. Their contents fit the rows.
+    /// Returns how many maps there are. Their contents fit the rows.
     pub fn count(&self) -> usize
         ensures count { result ≡ length self.now.rows }
         ensures fit { FitRows self.now.rows (map key_values_of self.now.contents) }

@@ -29,7 +29,7 @@ use word_machine::loaded::Loaded;
 use word_machine::memory::Memory;
 use word_machine::run::run;
 
-/// How a run ended: the number in r0, and how many steps it took.
+/// Says how a run ended: the number in r0, and how many steps it took.
 #[derive(Clone, Copy)]
 pub struct Exit {
     pub r0: u64,
@@ -131,7 +131,7 @@ impl Machine {
         self.version
     }
 
-    /// How many maps the program has.
+    /// Returns how many maps the program has.
     pub fn map_count(&self) -> usize
         ensures { result ≡ length self.now.program.maps }
     {

@@ -32,8 +32,8 @@ fn sort_by_key(indexes: &mut [usize])
     indexes.sort_unstable_by(|a, b| key_of(*a).cmp(&key_of(*b)));
 }
 
-/// Which place each key of an array has: its index, which is the key as a number, the lowest byte
-/// first.
+/// Says which place each key of an array has: its index, which is the key as a number, the lowest
+/// byte first.
 #[derive(Drop)]
 pub struct ArrayIndex {
     entries: u32,
@@ -70,7 +70,7 @@ impl ArrayIndex {
         sort_by_key(list.as_mut_slice());
     }
 
-    /// How many keys the array has.
+    /// Returns how many keys the array has.
     pub fn entries(&self) -> u32
         ensures { result ≡ self.now.entries }
     {

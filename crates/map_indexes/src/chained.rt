@@ -28,7 +28,7 @@ fn all_places(alloc: Global, count: u32) -> Result<Vec<u32>, AllocError>
     Ok(places)
 }
 
-/// Which place each key of a hash map has: a link of the key's chain names it. The place of a
+/// Says which place each key of a hash map has: a link of the key's chain names it. The place of a
 /// removed key is the next to be given.
 #[derive(Drop)]
 pub struct ChainIndex {

@@ -68,7 +68,7 @@ impl Chains {
         })
     }
 
-    /// How many chains there are.
+    /// Returns how many chains there are.
     pub fn count(&self) -> u32
         ensures { result ≡ self.now.count }
     {

@@ -6,8 +6,8 @@ ghost use Rattle.isa_model.specs.declared.map_defs.MapType.{MapType};
 ghost use Rattle.isa_model.specs.declared.map_defs.MapType.TheVariants.{Hash, Array};
 ghost use Rattle.map_indexes.specs.PlaceKeys.{Places, TakesPlace};
 
-/// Which place each key of a map has. The places are the numbers below `room`, and a key keeps its
-/// place until it is removed.
+/// Says which place each key of a map has. The places are the numbers below `room`, and a key keeps
+/// its place until it is removed.
 pub trait Index: Drop {
     ghost places: { Self → Places };
 
@@ -22,7 +22,7 @@ pub trait Index: Drop {
         requires { length key.now ≡ key_size self.now }
         ensures { result ≡ map.get (places self.now) key.now };
 
-    /// Whether there are as many keys as places.
+    /// Returns whether there are as many keys as places.
     fn is_full(&self) -> bool
         ensures { result ≡ nat_le (room self.now) (map.len (places self.now)) };
 

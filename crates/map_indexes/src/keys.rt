@@ -27,7 +27,7 @@ fn are_bytes(bytes: &[u8])
     ensures { EachByte bytes.now }
 {}
 
-/// Whether two keys of one size are the same. Keys of 4 or 8 bytes are compared as numbers.
+/// Returns whether two keys of one size are the same. Keys of 4 or 8 bytes are compared as numbers.
 #[inline(always)]
 pub fn are_same(a: &[u8], b: &[u8]) -> bool
     requires { length a.now ≡ length b.now }
@@ -44,7 +44,7 @@ pub fn are_same(a: &[u8], b: &[u8]) -> bool
     a == b
 }
 
-/// Which key each place has, if it has one. Contracts see the keys by place.
+/// Says which key each place has, if it has one. Contracts see the keys by place.
 #[derive(Drop)]
 pub struct Keys {
     size: usize,
@@ -82,14 +82,14 @@ impl Keys {
         Ok(Keys { size, block, used })
     }
 
-    /// How many places there are.
+    /// Returns how many places there are.
     pub fn places(&self) -> usize
         ensures { result ≡ length self.now.by_place }
     {
         self.used.len()
     }
 
-    /// Whether a place has a key.
+    /// Returns whether a place has a key.
     pub fn is_used(&self, place: usize) -> bool
         requires { place < length self.now.by_place }
         ensures { result ≡ is_some (key_in self.now.by_place place) }

@@ -8,7 +8,8 @@ use crate::index::Index;
 use crate::keys::Keys;
 use std::alloc::{AllocError, Global};
 
-/// Which place each key of a hash map has: a scan of all places. It is there to be compared with.
+/// Says which place each key of a hash map has: a scan of all places. It is there to be compared
+/// with.
 #[derive(Drop)]
 pub struct ScanIndex {
     keys: Keys,

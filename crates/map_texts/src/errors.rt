@@ -6,7 +6,7 @@ ghost use Rattle.map_texts.specs.Messages.{code_of, hint_of, sentence_of};
 use std::error::Error;
 use std::fmt;
 
-/// What is wrong with a text.
+/// Says what is wrong with a text.
 #[derive(Clone, Copy, PartialEq, Eq, Debug)]
 pub enum MapTextErrorKind {
     /// No line of a map's key and value, and none that is passed over.
@@ -41,7 +41,7 @@ impl MapTextErrorKind {
         }
     }
 
-    /// What is wrong, in a sentence.
+    /// Returns what is wrong, in a sentence.
     pub fn sentence(self) -> &'static str
         ensures { result.now ≡ sentence_of self }
     {
@@ -86,7 +86,7 @@ impl fmt::Display for MapTextErrorKind {
 
 impl Error for MapTextErrorKind {}
 
-/// Why a text does not fill maps, and where: lines and columns count from 1, columns in bytes.
+/// Says why a text does not fill maps, and where: lines and columns count from 1, columns in bytes.
 #[derive(Clone, Copy, PartialEq, Eq, Debug)]
 pub struct MapTextError {
     pub kind: MapTextErrorKind,

@@ -21,7 +21,7 @@ fn is_hex_digit(byte: u8) -> bool
     matches!(byte, b'0'..=b'9' | b'a'..=b'f' | b'A'..=b'F')
 }
 
-/// How many decimal digits a text begins with.
+/// Returns how many decimal digits a text begins with.
 pub fn digits_len(text: &[u8]) -> usize
     ensures value { result ≡ prefix_len is_digit text.now }
     ensures most { result ≤ length text.now }
@@ -34,7 +34,7 @@ pub fn digits_len(text: &[u8]) -> usize
     text.len()
 }
 
-/// How many hexadecimal digits a text begins with.
+/// Returns how many hexadecimal digits a text begins with.
 pub fn hex_digits_len(text: &[u8]) -> usize
     ensures value { result ≡ prefix_len is_hex_digit text.now }
     ensures most { result ≤ length text.now }

@@ -24,7 +24,7 @@ const MOST_READS: u64 = 1 << 48;
 // As many bytes of a line as say whether it is passed over.
 const FRONT_SIZE: usize = 5;
 
-/// Where the first line begins that is not whole yet, and its number.
+/// Says where the first line begins that is not whole yet, and its number.
 #[derive(Clone, Copy)]
 pub struct Taken {
     pub start: usize,

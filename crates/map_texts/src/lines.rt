@@ -32,7 +32,7 @@ impl LineRoom {
     }
 }
 
-/// Where a line stands, and its fields in it.
+/// Says where a line stands, and its fields in it.
 #[derive(Clone, Copy)]
 pub struct LinePlace {
     pub number: usize,
@@ -40,7 +40,8 @@ pub struct LinePlace {
     pub value_column: usize,
 }
 
-/// Whether a line is passed over, as empty lines, comments and the other lines of a report are.
+/// Returns whether a line is passed over, as empty lines, comments and the other lines of a report
+/// are.
 pub fn is_passed(line: &[u8]) -> bool
     ensures { result ≡ is_passed line.now }
 {

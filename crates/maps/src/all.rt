@@ -100,7 +100,7 @@ impl Maps {
         })
     }
 
-    /// How many maps there are.
+    /// Returns how many maps there are.
     pub fn count(&self) -> usize
         ensures count { result ≡ length self.now }
         ensures maps { All IsMap self.now }

@@ -12,7 +12,7 @@ use isa_model::{MapDef, MapType};
 use map_indexes::{ArrayIndex, ChainIndex, Index, put_bytes};
 use std::alloc::{AllocError, Global};
 
-/// Which place each key has: the keys of an array, or those of a hash map by chains.
+/// Says which place each key has: the keys of an array, or those of a hash map by chains.
 #[derive(Drop)]
 pub enum EitherIndex {
     Array(ArrayIndex),

@@ -7,7 +7,7 @@ use std::alloc::{AllocError, AllocFailed};
 use std::error::Error;
 use std::fmt;
 
-/// Why maps, or a machine on maps, were not made. It has no code.
+/// Says why maps, or a machine on maps, were not made. It has no code.
 #[derive(Clone, Copy, PartialEq, Eq, Debug)]
 pub enum MapError {
     /// Out of memory.
@@ -15,7 +15,7 @@ pub enum MapError {
 }
 
 impl MapError {
-    /// What is wrong, in a sentence.
+    /// Returns what is wrong, in a sentence.
     pub fn sentence(self) -> &'static str
         ensures { result.now ≡ sentence_of self }
     {

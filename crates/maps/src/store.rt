@@ -37,7 +37,7 @@ pub trait MapStore {
         requires { length key.now ≡ (row_of self.now).key_size }
         ensures { result ≡ map.get (places self.now) key.now };
 
-    /// Whether the map has as many keys as it may have.
+    /// Returns whether the map has as many keys as it may have.
     fn is_full(&self) -> bool
         ensures { result ≡ nat_le (row_of self.now).entries (map.len (places self.now)) };
 

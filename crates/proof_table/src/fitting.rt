@@ -167,7 +167,7 @@ fn callers_fit(rows: usize, callers: &[AbstractFrame]) -> bool
     true
 }
 
-/// Whether a table can spell the entry.
+/// Returns whether a table can spell the entry.
 pub fn entry_fits(image: &Image, number: u32, state: &State, successors: &[u32]) -> bool
     ensures { IsTrue result ↔ EntryFits image.now (entry_said (record {
       number = number;

@@ -216,7 +216,7 @@ impl Low {
         }
     }
 
-    /// Whether the limits show that each low half of `other` is one of this.
+    /// Returns whether the limits show that each low half of `other` is one of this.
     pub fn covers(self, other: Self) -> bool
         ensures { IsTrue result ↔ Encloses self other }
     {

@@ -11,7 +11,7 @@ use crate::range::Range;
 impl Range {
     ghost use Rattle.ranges.specs.Ranges.{Has, IsTight, Encloses};
 
-    /// What is left of both where a low half of this is one of the other.
+    /// Returns what is left of both where a low half of this is one of the other.
     pub fn low_equal(self, other: Self) -> Option<(Self, Self)>
         ensures common { (x y : ℕ) → Has self x → Has other y → x % 2 ^ 32 ≡ y % 2 ^ 32
             → IsSomeAnd result (λ p. Has p.0 x × Has p.1 y) }
@@ -26,7 +26,7 @@ impl Range {
         self.both_low_limited(other, other.low, self.low)
     }
 
-    /// What is left of both where a low half of this is below one of the other.
+    /// Returns what is left of both where a low half of this is below one of the other.
     pub fn low_below(self, other: Self) -> Option<(Self, Self)>
         ensures common { (x y : ℕ) → Has self x → Has other y → x % 2 ^ 32 < y % 2 ^ 32
             → IsSomeAnd result (λ p. Has p.0 x × Has p.1 y) }
@@ -46,7 +46,7 @@ impl Range {
         self.both_low_limited(other, left, right)
     }
 
-    /// What is left of both where a low half of this is at most one of the other.
+    /// Returns what is left of both where a low half of this is at most one of the other.
     pub fn low_at_most(self, other: Self) -> Option<(Self, Self)>
         ensures common { (x y : ℕ) → Has self x → Has other y → x % 2 ^ 32 ≤ y % 2 ^ 32
             → IsSomeAnd result (λ p. Has p.0 x × Has p.1 y) }
@@ -63,7 +63,7 @@ impl Range {
         self.both_low_limited(other, left, right)
     }
 
-    /// The same as `low_below`, of low halves read as signed numbers.
+    /// Does what `low_below` does, for low halves read as signed numbers.
     pub fn low_signed_below(self, other: Self) -> Option<(Self, Self)>
         ensures common { (x y : ℕ) → Has self x → Has other y
             → cast_signed w32 (x % 2 ^ 32) <ℤ cast_signed w32 (y % 2 ^ 32)
@@ -84,7 +84,7 @@ impl Range {
         self.both_low_limited(other, left, right)
     }
 
-    /// The same as `low_at_most`, of low halves read as signed numbers.
+    /// Does what `low_at_most` does, for low halves read as signed numbers.
     pub fn low_signed_at_most(self, other: Self) -> Option<(Self, Self)>
         ensures common { (x y : ℕ) → Has self x → Has other y
             → cast_signed w32 (x % 2 ^ 32) ≤ℤ cast_signed w32 (y % 2 ^ 32)
@@ -102,7 +102,7 @@ impl Range {
         self.both_low_limited(other, left, right)
     }
 
-    /// What is left of both where a low half of this differs from one of the other.
+    /// Returns what is left of both where a low half of this differs from one of the other.
     pub fn low_unequal(self, other: Self) -> Option<(Self, Self)>
         ensures common { (x y : ℕ) → Has self x → Has other y → x % 2 ^ 32 ≢ y % 2 ^ 32
             → IsSomeAnd result (λ p. Has p.0 x × Has p.1 y) }
@@ -120,8 +120,8 @@ impl Range {
         Some((left, right))
     }
 
-    /// What is left of both where a low half of this has no bit in common with one of the other.
-    /// Limits show something only where each range has one low half.
+    /// Returns what is left of both where a low half of this has no bit in common with one of the
+    /// other. Limits show something only where each range has one low half.
     pub fn low_disjoint(self, other: Self) -> Option<(Self, Self)>
         ensures common { (x y : ℕ) → Has self x → Has other y
             → bit_and (x % 2 ^ 32) (y % 2 ^ 32) ≡ 0
@@ -138,8 +138,8 @@ impl Range {
         }
     }
 
-    /// What is left of both where a low half of this has a bit in common with one of the other:
-    /// neither is 0.
+    /// Returns what is left of both where a low half of this has a bit in common with one of the
+    /// other: neither is 0.
     pub fn low_overlapping(self, other: Self) -> Option<(Self, Self)>
         ensures common { (x y : ℕ) → Has self x → Has other y
             → bit_and (x % 2 ^ 32) (y % 2 ^ 32) ≢ 0

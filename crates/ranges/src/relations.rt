@@ -11,8 +11,8 @@ use crate::wide::Wide;
 impl Range {
     ghost use Rattle.ranges.specs.Ranges.{Has, IsConstant, IsLimit, IsTight, LeavesOnly, Encloses};
 
-    /// What is left of both where a number of this is below one of the other. `None`: there are no
-    /// such numbers.
+    /// Returns what is left of both where a number of this is below one of the other. `None`: there
+    /// are no such numbers.
     pub fn below(self, other: Self) -> Option<(Self, Self)>
         ensures common { (x y : ℕ) → Has self x → Has other y → x < y
             → IsSomeAnd result (λ p. Has p.0 x × Has p.1 y) }
@@ -30,7 +30,7 @@ impl Range {
         self.both_limited(other, left, right)
     }
 
-    /// What is left of both where a number of this is at most one of the other.
+    /// Returns what is left of both where a number of this is at most one of the other.
     pub fn at_most(self, other: Self) -> Option<(Self, Self)>
         ensures common { (x y : ℕ) → Has self x → Has other y → x ≤ y
             → IsSomeAnd result (λ p. Has p.0 x × Has p.1 y) }
@@ -45,7 +45,7 @@ impl Range {
         self.both_limited(other, left, right)
     }
 
-    /// The same as `below`, of signed numbers.
+    /// Does what `below` does, for signed numbers.
     pub fn signed_below(self, other: Self) -> Option<(Self, Self)>
         ensures common { (x y : ℕ) → Has self x → Has other y
             → cast_signed w64 x <ℤ cast_signed w64 y
@@ -66,7 +66,7 @@ impl Range {
         self.both_limited(other, left, right)
     }
 
-    /// The same as `at_most`, of signed numbers.
+    /// Does what `at_most` does, for signed numbers.
     pub fn signed_at_most(self, other: Self) -> Option<(Self, Self)>
         ensures common { (x y : ℕ) → Has self x → Has other y
             → cast_signed w64 x ≤ℤ cast_signed w64 y
@@ -84,7 +84,7 @@ impl Range {
         self.both_limited(other, left, right)
     }
 
-    /// What is left of both where a number of this differs from one of the other.
+    /// Returns what is left of both where a number of this differs from one of the other.
     pub fn unequal(self, other: Self) -> Option<(Self, Self)>
         ensures common { (x y : ℕ) → Has self x → Has other y → x ≢ y
             → IsSomeAnd result (λ p. Has p.0 x × Has p.1 y) }
@@ -102,8 +102,8 @@ impl Range {
         Some((left, right))
     }
 
-    /// What is left of both where a number of this has no bit in common with one of the other.
-    /// Limits show something only of two constants.
+    /// Returns what is left of both where a number of this has no bit in common with one of the
+    /// other. Limits show something only of two constants.
     pub fn disjoint(self, other: Self) -> Option<(Self, Self)>
         ensures common { (x y : ℕ) → Has self x → Has other y → bit_and x y ≡ 0
             → IsSomeAnd result (λ p. Has p.0 x × Has p.1 y) }
@@ -118,8 +118,8 @@ impl Range {
         }
     }
 
-    /// What is left of both where a number of this has a bit in common with one of the other:
-    /// neither is 0.
+    /// Returns what is left of both where a number of this has a bit in common with one of the
+    /// other: neither is 0.
     pub fn overlapping(self, other: Self) -> Option<(Self, Self)>
         ensures common { (x y : ℕ) → Has self x → Has other y → bit_and x y ≢ 0
             → IsSomeAnd result (λ p. Has p.0 x × Has p.1 y) }

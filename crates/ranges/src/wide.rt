@@ -172,7 +172,7 @@ impl Wide {
         }
     }
 
-    /// Whether the limits show that each member of `other` is one of this.
+    /// Returns whether the limits show that each member of `other` is one of this.
     pub fn covers(self, other: Self) -> bool
         ensures limits { IsTrue result ↔ Encloses self other }
         ensures yes { IsTrue result → (x : ℕ) → Has other x → Has self x }

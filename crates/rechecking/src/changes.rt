@@ -7,7 +7,7 @@ ghost use Rattle.rechecking.specs.Changes.{AreKindsUnchanged, AreSlotsUnchanged,
 use reg_state::Kind;
 use stack_state::{AbstractFrame, StackSlot};
 
-/// What a step changes in all call frames.
+/// Says what a step changes in all call frames.
 #[derive(Clone, Copy)]
 pub enum KindChange {
     /// This many bytes after the variable part of a packet identity are proved.
@@ -50,7 +50,7 @@ fn is_value_kept(kind: &Kind, name: u8) -> bool
     }
 }
 
-/// Whether the kind stays as it is.
+/// Returns whether the kind stays as it is.
 #[inline(always)]
 fn is_kind_kept(change: KindChange, kind: &Kind) -> bool
     ensures { result ≡ change_defs.is_kind_kept change kind.now }
@@ -83,7 +83,7 @@ fn are_kinds_kept(change: KindChange, kinds: &[Kind]) -> bool
     true
 }
 
-/// Whether all stack slots stay as they are.
+/// Returns whether all stack slots stay as they are.
 pub fn are_slots_kept(change: KindChange, slots: &[StackSlot]) -> bool
     ensures { IsTrue result → AreSlotsUnchanged change slots.now }
 {
@@ -101,7 +101,7 @@ fn is_frame_kept(change: KindChange, frame: &AbstractFrame) -> bool
     are_kinds_kept(change, &frame.registers) && are_slots_kept(change, frame.stack.slots())
 }
 
-/// How many frames come before the first one that does not stay as it is.
+/// Returns how many frames come before the first one that does not stay as it is.
 pub fn frames_kept(change: KindChange, frames: &[AbstractFrame]) -> usize
     ensures { FirstHave (IsFrameUnchanged change) result frames.now }
 {

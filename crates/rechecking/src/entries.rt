@@ -29,7 +29,7 @@ pub enum Known {
     Second(usize, EntryHead),
 }
 
-/// The same entry, after `state` and `room` were swapped.
+/// Returns the entry after `state` and `room` were swapped.
 fn swapped(known: Known) -> Known
     ensures known { (p : Program) (t : EntryAt) (a b : State) → IsKnownEntry p t a b known
         → IsKnownEntry p t b a result }
@@ -43,7 +43,7 @@ fn swapped(known: Known) -> Known
     }
 }
 
-/// Whether the number of the entry of that index is below this one. Its state is not read.
+/// Returns whether the number of the entry of that index is below this one. Its state is not read.
 fn is_smaller(table: &Table, index: usize, number: u32) -> bool
     ensures yes { IsTrue result → (p : Program) (e : Entry) → entry_at p table.now index ≡ Some e
         → e.number < number }
@@ -79,9 +79,9 @@ fn read_covering(
     }
 }
 
-/// Whether the entry of that index, which is placed, covers a state, and its number is smaller,
-/// tested first. Where its bytes spell the state, or that without what they say nothing of in the
-/// innermost frame, the state becomes the entry's; else that is read into `room`.
+/// Returns whether the entry of that index, which is placed, covers a state, and its number is
+/// smaller, tested first. Where its bytes spell the state, or that without what they say nothing of
+/// in the innermost frame, the state becomes the entry's; else that is read into `room`.
 fn enters_placed<'a>(
     image: &Image,
     table: &Table<'a>,
@@ -147,8 +147,8 @@ fn take_next<'a>(
     }
 }
 
-/// Whether the entry of that index covers a state, and its number is smaller; it is placed if it is
-/// not yet. The state becomes the entry's, or that is read into `room`.
+/// Returns whether the entry of that index covers a state, and its number is smaller; it is placed
+/// if it is not yet. The state becomes the entry's, or that is read into `room`.
 fn enters<'a>(
     image: &Image,
     growing: &mut Growing<'a>,
@@ -177,8 +177,8 @@ fn enters<'a>(
     enters_placed(image, growing.placed(), number, index, state, room, bytes)
 }
 
-/// Whether an entry names as many entries as it has successors, and each covers its successor. The
-/// first successor's entry is then the known one.
+/// Returns whether an entry names as many entries as it has successors, and each covers its
+/// successor. The first successor's entry is then the known one.
 fn follows<'a>(
     image: &Image,
     growing: &mut Growing<'a>,
@@ -219,8 +219,13 @@ fn follows<'a>(
     }
 }
 
-/// Tests an entry whose state was read into `state`: P7 and P8. The bytes spell parts of the state,
-/// and then of the known entry's.
+/// Tests the entry of that index, whose state was read into `state`: P7 and P8.
+///
+/// `head` is what the entry says besides. The step of `state` leaves its successors in `state` and
+/// `other`. `growing` is the table with the entries that were placed; the ones that are named here
+/// are placed too. The result names an entry that is known afterwards: the state of the first is
+/// then in `state`, that of the second in `room`. `bytes` spell parts of the state, and then of the
+/// known entry's.
 fn test_read_entry<'a>(
     image: &Image,
     growing: &mut Growing<'a>,

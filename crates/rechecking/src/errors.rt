@@ -9,7 +9,7 @@ use std::fmt;
 use table_entries::TableRefusal;
 use transfer::Refusal;
 
-/// Why a table is refused. An entry is named by its index.
+/// Says why a table is refused. An entry is named by its index.
 #[derive(Clone, Copy, Debug, Drop)]
 pub enum TableError {
     /// G1 to G6: the program's control flow is not good, at this slot.
@@ -64,7 +64,7 @@ impl TableError {
         }
     }
 
-    /// What is wrong, in a sentence.
+    /// Returns what is wrong, in a sentence.
     pub fn sentence(self) -> &'static str
         ensures { result.now ≡ sentence_of self }
     {

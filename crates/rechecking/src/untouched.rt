@@ -16,7 +16,8 @@ use reg_state::Kind;
 use stack_state::State;
 use transfer::Ways;
 
-/// How many outer call frames, the outermost first, and whether the stack slots of the innermost.
+/// Says how many outer call frames, the outermost first, and whether the stack slots of the
+/// innermost.
 #[derive(Clone, Copy, Drop)]
 pub struct UntouchedParts {
     pub frames: usize,
@@ -42,8 +43,8 @@ fn outer_kept(state: &State, slots: bool) -> UntouchedParts
     }
 }
 
-/// What a write through a pointer of that kind leaves: all but the frame that it points into, and
-/// the outer ones after that.
+/// Returns what a write through a pointer of that kind leaves: all but the frame that it points
+/// into, and the outer ones after that.
 fn kept_by_write(state: &State, base: Kind) -> UntouchedParts
     ensures { result ≡ untouched_defs.kept_by_write state.now base }
 {
@@ -63,8 +64,8 @@ fn kept_by_write(state: &State, base: Kind) -> UntouchedParts
     }
 }
 
-/// What a change of kinds leaves: the first outer frames, up to one that it changes, and the slots
-/// if it changes none.
+/// Returns what a change of kinds leaves: the first outer frames, up to one that it changes, and
+/// the slots if it changes none.
 fn left_by(change: KindChange, state: &State) -> UntouchedParts
     ensures { LeavesParts change state.now result }
 {
@@ -74,7 +75,7 @@ fn left_by(change: KindChange, state: &State) -> UntouchedParts
     }
 }
 
-/// What a conditional jump leaves.
+/// Returns what a conditional jump leaves.
 fn kept_by_test(state: &State, compared: Compared) -> UntouchedParts
     ensures { KeptByTest state.now compared result }
 {
@@ -90,7 +91,7 @@ fn kept_by_test(state: &State, compared: Compared) -> UntouchedParts
     }
 }
 
-/// What a delete in that map leaves.
+/// Returns what a delete in that map leaves.
 fn kept_by_delete(state: &State, map: Kind) -> UntouchedParts
     ensures { KeptByDelete state.now map result }
 {
@@ -100,7 +101,7 @@ fn kept_by_delete(state: &State, map: Kind) -> UntouchedParts
     }
 }
 
-/// What the call of a helper leaves.
+/// Returns what the call of a helper leaves.
 fn kept_by_helper(state: &State, helper: Option<Helper>) -> UntouchedParts
     ensures { KeptByHelper state.now helper result }
 {
@@ -110,7 +111,7 @@ fn kept_by_helper(state: &State, helper: Option<Helper>) -> UntouchedParts
     }
 }
 
-/// What the step of an instruction leaves.
+/// Returns what the step of an instruction leaves.
 fn kept_by(state: &State, insn: &Insn) -> UntouchedParts
     ensures { KeptBy state.now insn.now result }
 {
@@ -141,7 +142,7 @@ fn kept_by(state: &State, insn: &Insn) -> UntouchedParts
     }
 }
 
-/// What the step of a state leaves.
+/// Returns what the step of a state leaves.
 pub fn parts_kept(image: &Image, state: &State) -> UntouchedParts
     ensures { (i : TheInsn) → fetch image.now state.now.slot ≡ Some i
         → KeptBy state.now i result }
@@ -152,7 +153,7 @@ pub fn parts_kept(image: &Image, state: &State) -> UntouchedParts
     }
 }
 
-/// The same, if the step has a successor.
+/// Returns what of these parts the step leaves: none, if it has no successor.
 pub fn kept_after(ways: Ways, parts: UntouchedParts) -> UntouchedParts
     ensures { result ≡ untouched_defs.kept_after ways parts }
 {

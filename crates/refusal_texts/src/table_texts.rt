@@ -113,8 +113,8 @@ fn found_of(
     }
 }
 
-/// Why a table of an image's program is refused, at which entry, and where that is asked for, what
-/// is known there. None: memory ran out.
+/// Returns why a table of an image's program is refused, at which entry, and where that is asked
+/// for, what is known there. None: memory ran out.
 pub fn table_text(
     alloc: Global,
     image: &Image,

@@ -17,7 +17,7 @@ use std::alloc::{AllocError, Global};
 use std::io;
 use walks::Refusal;
 
-/// A code and the sentence, a line each.
+/// Returns a code and the sentence, a line each.
 pub fn refused(alloc: Global, code: &str, why: &str) -> Result<String, AllocError>
     ensures { IfOk result (λ text. string_bytes text
         ≡ codes "refused " ++ (code.now ++ (codes "\n" ++ (why.now ++ codes "\n")))) }
@@ -25,7 +25,8 @@ pub fn refused(alloc: Global, code: &str, why: &str) -> Result<String, AllocErro
     format!(in alloc; "refused {code}\n{why}\n")
 }
 
-/// The same with a position: what is counted, such as `slot` with a space, and its index.
+/// Returns a code, the sentence and a position, a line each. The position is what is counted, such
+/// as `slot` with a space, and its index.
 pub fn refused_by_index(
     alloc: Global,
     code: &str,
@@ -41,7 +42,8 @@ pub fn refused_by_index(
     format!(in alloc; "refused {code} {unit}{index}\n{why}\n{unit}{index}\n")
 }
 
-/// The same with a position that is written already, and a second code.
+/// Returns a code with a position that is written already and a second code, the sentence and the
+/// position.
 pub fn refused_within(
     alloc: Global,
     code: &str,
@@ -89,7 +91,7 @@ fn with_line(alloc: Global, text: &str, line: &str) -> Result<String, AllocError
     format!(in alloc; "{text}{line}\n")
 }
 
-/// Why bytes are no image, where, and the hint; another magic and memory have none.
+/// Returns why bytes are no image, where, and the hint; another magic and memory have none.
 pub fn image_text(alloc: Global, error: ImageError) -> Result<String, AllocError>
     ensures { IfOk result (λ text. string_bytes text ≡ image_text error) }
 {
@@ -116,7 +118,7 @@ pub fn source_text(alloc: Global, error: AsmError) -> Result<String, AllocError>
     format!(in alloc; "refused {code} {position}{why}\n{position}")
 }
 
-/// Why a program is refused, and at which slot.
+/// Returns why a program is refused, and at which slot.
 pub fn program_front(alloc: Global, refusal: Refusal, slot: usize) -> Result<String, AllocError>
     ensures { IfOk result (λ text. string_bytes text ≡ program_front refusal slot) }
 {

@@ -10,8 +10,8 @@ ghost use Rattle.reg_state.specs.Shown.{DomainShows, ShowsAt, ShowsWhole, AreRea
 use crate::domains::Domain;
 use isa_model::{Comparison, Width, numbers};
 
-/// What is left of two sets where the comparison of a member of each has this outcome. `None`: it
-/// never has.
+/// Returns what is left of two sets where the comparison of a member of each has this outcome.
+/// `None`: it never has.
 pub fn refine<D: Domain>(
     comparison: Comparison,
     width: Width,

@@ -86,13 +86,14 @@ pub trait Domain: Copy {
         ensures left { IfSome result (λ m. (x : ℕ) → has m x → has self x) }
         ensures right { IfSome result (λ m. (x : ℕ) → has m x → has other x) };
 
-    /// Whether each member of `other` is seen to be a member of this.
+    /// Returns whether each member of `other` is seen to be a member of this.
     fn covers(self, other: Self) -> bool
         ensures exact { IsTrue result ↔ encloses self other }
         ensures yes { IsTrue result → (x : ℕ) → has other x → has self x }
         ensures equal { self ≡ other → IsTrue result };
 
-    /// What is left of both where a member of this is one of the other, as the width reads them.
+    /// Returns what is left of both where a member of this is one of the other, as the width reads
+    /// them.
     /// `None`: there are no such members.
     fn equal(self, width: Width, other: Self) -> Option<(Self, Self)>
         ensures common { (x y : ℕ) → has self x → has other y → low width x ≡ low width y
@@ -104,8 +105,8 @@ pub trait Domain: Copy {
         ensures right_allowed { IfSome result (λ p. (y : ℕ) → has p.1 y
             → allows width self (low width y)) };
 
-    /// What is left of both where a member of this is below one of the other, as the width reads
-    /// them.
+    /// Returns what is left of both where a member of this is below one of the other, as the width
+    /// reads them.
     fn below(self, width: Width, other: Self) -> Option<(Self, Self)>
         ensures common { (x y : ℕ) → has self x → has other y → low width x < low width y
             → IsSomeAnd result (λ p. has p.0 x × has p.1 y) }
@@ -116,7 +117,7 @@ pub trait Domain: Copy {
         ensures right_limit { IfSome result (λ p. (y : ℕ) → has p.1 y
             → (limits width self).least <ℤ pos (low width y)) };
 
-    /// What is left of both where a member of this is at most one of the other.
+    /// Returns what is left of both where a member of this is at most one of the other.
     fn at_most(self, width: Width, other: Self) -> Option<(Self, Self)>
         ensures common { (x y : ℕ) → has self x → has other y → low width x ≤ low width y
             → IsSomeAnd result (λ p. has p.0 x × has p.1 y) }
@@ -127,7 +128,7 @@ pub trait Domain: Copy {
         ensures right_limit { IfSome result (λ p. (y : ℕ) → has p.1 y
             → (limits width self).least ≤ℤ pos (low width y)) };
 
-    /// The same as `below`, of signed numbers.
+    /// Does what `below` does, for signed numbers.
     fn signed_below(self, width: Width, other: Self) -> Option<(Self, Self)>
         ensures common { (x y : ℕ) → has self x → has other y
             → signed width (low width x) <ℤ signed width (low width y)
@@ -139,7 +140,7 @@ pub trait Domain: Copy {
         ensures right_limit { IfSome result (λ p. (y : ℕ) → has p.1 y
             → (limits width self).signed_least <ℤ signed width (low width y)) };
 
-    /// The same as `at_most`, of signed numbers.
+    /// Does what `at_most` does, for signed numbers.
     fn signed_at_most(self, width: Width, other: Self) -> Option<(Self, Self)>
         ensures common { (x y : ℕ) → has self x → has other y
             → signed width (low width x) ≤ℤ signed width (low width y)
@@ -151,7 +152,7 @@ pub trait Domain: Copy {
         ensures right_limit { IfSome result (λ p. (y : ℕ) → has p.1 y
             → (limits width self).signed_least ≤ℤ signed width (low width y)) };
 
-    /// What is left of both where a member of this differs from one of the other.
+    /// Returns what is left of both where a member of this differs from one of the other.
     fn unequal(self, width: Width, other: Self) -> Option<(Self, Self)>
         ensures common { (x y : ℕ) → has self x → has other y → low width x ≢ low width y
             → IsSomeAnd result (λ p. has p.0 x × has p.1 y) }
@@ -164,7 +165,8 @@ pub trait Domain: Copy {
             → IsAlone (limits width self) n → IsLimit width (limits width other) n
             → low width y ≢ n) };
 
-    /// What is left of both where a member of this has no bit in common with one of the other.
+    /// Returns what is left of both where a member of this has no bit in common with one of the
+    /// other.
     fn disjoint(self, width: Width, other: Self) -> Option<(Self, Self)>
         ensures common { (x y : ℕ) → has self x → has other y
             → bit_and (low width x) (low width y) ≡ 0
@@ -176,7 +178,8 @@ pub trait Domain: Copy {
         ensures right_only { width ≡ Full64 → IfSome result (λ p. (y : ℕ) → has p.1 y
             → bit_and y (ones self) ≡ 0) };
 
-    /// What is left of both where a member of this has a bit in common with one of the other.
+    /// Returns what is left of both where a member of this has a bit in common with one of the
+    /// other.
     fn overlapping(self, width: Width, other: Self) -> Option<(Self, Self)>
         ensures common { (x y : ℕ) → has self x → has other y
             → bit_and (low width x) (low width y) ≢ 0

@@ -5,7 +5,7 @@ ghost use Rattle.std.specs.Prelude.{◌≡◌, ℕ, IsSome, IsTrue};
 use crate::domains::Domain;
 use crate::scalars::Scalar;
 
-/// What is known of the value of a register or of a stack slot. Offsets are in bytes.
+/// Says what is known of the value of a register or of a stack slot. Offsets are in bytes.
 ///
 /// An identity is shared by values that were copied from one another: what a test shows of one of
 /// them holds of all. Identity 0 of a packet pointer stands for none: its variable part is 0.
@@ -75,8 +75,9 @@ impl Kind {
         }
     }
 
-    /// Whether it allows what `other` does, where `counterpart` is what `other`'s state calls the
-    /// identity that it names. `packet` and `null` rename identities to those of `other`'s state.
+    /// Returns whether it allows what `other` does, where `counterpart` is what `other`'s state
+    /// calls the identity that it names. `packet` and `null` rename identities to those of
+    /// `other`'s state.
     pub fn covers(self, other: Kind, counterpart: u32) -> bool
         ensures yes { IsTrue result → (packet null : ℕ → ℕ) → IsCalled packet null self counterpart
             → KindCovers packet null self other }

@@ -16,8 +16,8 @@ use std::alloc::Global;
 use verdict_calls::judging::verified_of;
 use verdict_calls::statuses::{MEMORY, NotAccepted, OK, REFUSED, WRONG};
 
-/// What comes with a packet: a time in nanoseconds, which helper 5 answers, and the interface and
-/// queue that it came in by.
+/// Says what comes with a packet: a time in nanoseconds, which helper 5 answers, and the interface
+/// and queue that it came in by.
 #[repr(C)]
 #[derive(Clone, Copy, Drop)]
 pub struct Head {
@@ -26,7 +26,7 @@ pub struct Head {
     pub queue: u32,
 }
 
-/// How a run ended: the number in r0, and how many steps it took.
+/// Says how a run ended: the number in r0, and how many steps it took.
 #[repr(C)]
 #[derive(Clone, Copy, Drop)]
 pub struct Ended {

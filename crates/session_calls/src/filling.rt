@@ -12,8 +12,8 @@ use map_texts::{MapTextError, MapTextErrorKind};
 use std::alloc::Global;
 use verdict_calls::statuses::{OK, REFUSED, WRONG};
 
-/// Why a text of maps is refused: the number of the code, 3 for M3, and the line and the column,
-/// which count from 1. All are 0 where no line is refused.
+/// Says why a text of maps is refused: the number of the code, 3 for M3, and the line and the
+/// column, which count from 1. All are 0 where no line is refused.
 #[repr(C)]
 #[derive(Clone, Copy, Drop)]
 pub struct MapRefusal {

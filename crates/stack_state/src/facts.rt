@@ -11,7 +11,7 @@ use crate::stacks::{FRAME_SLOTS, StackState};
 use crate::states::{AbstractFrame, State};
 use reg_state::{Kind, Scalar};
 
-/// What a test shows of an identity, or what an exit leaves of the frame that ends.
+/// Says what a test shows of an identity, or what an exit leaves of the frame that ends.
 #[derive(Clone, Copy)]
 pub enum Fact {
     /// `bytes` bytes after its variable part are in the packet.
@@ -19,8 +19,8 @@ pub enum Fact {
         identity: u32,
         bytes: u32,
     },
-    /// What was looked up is null, or a pointer to a live map value; `zero` is what null is then
-    /// known as: the number 0.
+    /// The answer of a look-up is null, or a pointer to a live map value; `zero` is what null is
+    /// then known as: the number 0.
     Tested {
         identity: u32,
         null: bool,
@@ -32,7 +32,7 @@ pub enum Fact {
     },
 }
 
-/// What is known of a value once the bytes are proved.
+/// Returns what is known of a value once the bytes are proved.
 fn proved_kind(kind: Kind, identity: u32, bytes: u32) -> Kind
     ensures { result ≡ proved_kind identity bytes kind }
 {
@@ -60,7 +60,7 @@ fn proved_kind(kind: Kind, identity: u32, bytes: u32) -> Kind
     }
 }
 
-/// What is known of a value once it is known whether values of its identity are null.
+/// Returns what is known of a value once it is known whether values of its identity are null.
 fn tested_kind(kind: Kind, identity: u32, null: bool, zero: Scalar) -> Kind
     ensures { result ≡ tested_kind identity null zero kind }
 {
@@ -85,7 +85,7 @@ fn tested_kind(kind: Kind, identity: u32, null: bool, zero: Scalar) -> Kind
     }
 }
 
-/// What is known of a value once the frame has ended.
+/// Returns what is known of a value once the frame has ended.
 fn without_frame(kind: Kind, frame: u8) -> Kind
     ensures { result ≡ without_frame frame kind }
 {
@@ -109,7 +109,7 @@ fn learned_kind(fact: Fact, kind: Kind) -> Kind
     }
 }
 
-/// Whether no fact is about a value. Most values are like that, and are not written again.
+/// Returns whether no fact is about a value. Most values are like that, and are not written again.
 #[inline(always)]
 fn is_plain(kind: &Kind) -> bool
     ensures { result ≡ is_plain kind.now }

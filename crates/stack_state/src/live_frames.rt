@@ -52,8 +52,8 @@ pub fn stack_place(offset: i32, by: i16, size: Size) -> Option<usize>
 }
 
 impl State {
-    /// What is known of the bytes of a live frame, counted from the outermost, 0. `None`: there is
-    /// no such frame.
+    /// Returns what is known of the bytes of a live frame, counted from the outermost, 0. `None`:
+    /// there is no such frame.
     pub fn stack_of(&self, frame: u8) -> Option<&StackState>
         ensures { MatchOption result (depth self.now ≤ frame)
             (λ stack. (frame < depth self.now)

@@ -40,14 +40,14 @@ fn whole(slot: StackSlot) -> Scalar
     }
 }
 
-/// Whether each number that the bytes may spell is one of the numbers.
+/// Returns whether each number that the bytes may spell is one of the numbers.
 fn have_all(size: Size, numbers: Scalar) -> bool
     ensures { IsTrue result → HaveAll size numbers }
 {
     numbers.covers(all(size))
 }
 
-/// Whether nothing is known of a slot, nor of what is written into it.
+/// Returns whether nothing is known of a slot, nor of what is written into it.
 fn is_blank(slot: StackSlot, size: Size, numbers: Scalar) -> bool
     ensures { IsTrue result → IsBlank slot size numbers }
 {

@@ -8,7 +8,7 @@ ghost use Rattle.stack_state.specs.Slots.{marks_of, kind_in, mask_of, IsAny, Are
 use isa_model::{Size, Width};
 use reg_state::{Domain, Kind, Scalar};
 
-/// What is known of eight bytes of a call frame.
+/// Says what is known of eight bytes of a call frame.
 #[derive(Clone, Copy, PartialEq, Eq)]
 pub enum StackSlot {
     /// Bit i says that byte i is a written number byte. Nothing is known of the other bytes.
@@ -114,14 +114,14 @@ pub(crate) fn numbers(slot: StackSlot, from: usize, size: Size) -> Scalar
     }
 }
 
-/// Whether nothing is known of a number.
+/// Returns whether nothing is known of a number.
 fn is_any(numbers: Scalar) -> bool
     ensures { IsTrue result ↔ IsAny numbers }
 {
     numbers.covers(Scalar::any(Width::Full64))
 }
 
-/// What a spill of the kind leaves.
+/// Returns what a spill of the kind leaves.
 pub(crate) fn spilled(kind: Kind) -> StackSlot
     ensures { IsSpill kind result }
 {

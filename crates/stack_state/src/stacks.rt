@@ -14,12 +14,12 @@ use isa_model::{STACK_SIZE, Size};
 use reg_state::{Kind, Scalar};
 use std::marker::Model;
 
-/// How many slots of 8 bytes a call frame has.
+/// Says how many slots of 8 bytes a call frame has.
 pub const FRAME_SLOTS: usize = STACK_SIZE / 8;
 
-/// What is known of the bytes of a call frame: slot 0 is its first, the farthest from the frame's
-/// end. Programs use the last slots first, and most often nothing is known of the others, which are
-/// neither copied nor cleared.
+/// Says what is known of the bytes of a call frame: slot 0 is its first, the farthest from the
+/// frame's end. Programs use the last slots first, and most often nothing is known of the others,
+/// which are neither copied nor cleared.
 ///
 /// Contracts see the slots.
 #[derive(Drop)]
@@ -186,7 +186,7 @@ impl StackState {
         filled(self.slots[slot])
     }
 
-    /// Whether the byte is a written number byte.
+    /// Returns whether the byte is a written number byte.
     fn is_byte(&self, at: usize) -> bool
         requires { at < stack_size }
         ensures { IsTrue result ↔ IsNumberByte self.now.slots at }
@@ -194,7 +194,7 @@ impl StackState {
         (self.slots[at / 8].marks() >> (at % 8)) & 1 == 1
     }
 
-    /// Whether the bytes are all written number bytes.
+    /// Returns whether the bytes are all written number bytes.
     pub fn is_bytes(&self, from: usize, count: usize) -> bool
         requires { from + count ≤ stack_size }
         ensures exact { IsTrue result ↔ AreMarked self.now.slots from (from + count) }

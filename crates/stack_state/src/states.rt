@@ -13,7 +13,7 @@ use reg_state::Kind;
 /// The most call frames beside the innermost.
 pub const MAX_CALLERS: usize = MAX_CALL_FRAMES - 1;
 
-/// What is known of a call frame.
+/// Says what is known of a call frame.
 #[derive(Default, Drop)]
 pub struct AbstractFrame {
     /// The slot of the code to which its exit leads; 0 in the first frame.
@@ -55,7 +55,7 @@ fn drop_others(frames: &mut ArrayVec<AbstractFrame, MAX_CALLERS>, count: usize)
     frames.truncate(count);
 }
 
-/// The same, where there may be no more.
+/// Keeps as many call frames, or all if there are no more.
 fn keep_first(frames: &mut ArrayVec<AbstractFrame, MAX_CALLERS>, count: usize)
     ensures { frames.new.items ≡ take count frames.old.items }
 {
@@ -64,7 +64,7 @@ fn keep_first(frames: &mut ArrayVec<AbstractFrame, MAX_CALLERS>, count: usize)
     }
 }
 
-/// What is known of a run when it reaches an instruction.
+/// Says what is known of a run when it reaches an instruction.
 #[derive(Drop)]
 pub struct State {
     /// The slot of the code at which the instruction is.
@@ -88,7 +88,7 @@ fn index_of(register: Reg) -> usize
 }
 
 impl State {
-    /// Where every run begins.
+    /// Returns the state in which every run begins.
     #[tactic(auto, unfolding(crate::specs::Starts::start))]
     pub fn start() -> Self
         ensures { result ≡ start }
@@ -142,7 +142,7 @@ impl State {
         }
     }
 
-    /// What is known of a register.
+    /// Returns what is known of a register.
     pub fn kind_of(&self, register: Reg) -> Kind
         ensures { result ≡ kind_of self.now register }
     {

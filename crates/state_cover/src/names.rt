@@ -131,7 +131,7 @@ impl NameSort {
     }
 }
 
-/// What b calls the identity that a kind of a names; any identity, if it names none.
+/// Returns what b calls the identity that a kind of a names; any identity, if it names none.
 pub(crate) fn name_in(kind: Kind, a: &State, b: &State) -> u32
     requires { length a.now.callers.items ≡ length b.now.callers.items }
     ensures { IsCalled (packet_name a.now b.now) (null_name a.now b.now) kind result }

@@ -3,7 +3,7 @@
 /// A link to nothing. No list has so many elements that this is the index of one.
 pub const NO_LINK: u32 = u32::MAX;
 
-/// Where a stored state is found.
+/// Says where a stored state is found.
 #[derive(Clone, Copy, Drop)]
 pub enum Stage {
     /// In a bucket of unfinished ones.

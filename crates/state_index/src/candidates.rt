@@ -61,7 +61,7 @@ impl<'a> Iterator for UnfinishedCandidates<'a> {
 #[derive(Drop)]
 pub struct FinishedCandidates<'a> {
     pub links: &'a [StateLink],
-    /// What is known of the state, as `StateLink::known` says it.
+    /// Says what is known of the state, as `StateLink::known` says it.
     pub known: u64,
     pub limits: &'a [PartLimits],
     pub trees: &'a [Tree],
@@ -70,7 +70,7 @@ pub struct FinishedCandidates<'a> {
     pub sought: Option<Sought>,
     /// The stored state to look at after the trees: of a bucket, or of those that are in no tree.
     pub next: u32,
-    /// Whether the states of the bucket are in the order in which they were stored.
+    /// Says whether the states of the bucket are in the order in which they were stored.
     pub is_ordered: bool,
 }
 

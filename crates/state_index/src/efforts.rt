@@ -1,18 +1,20 @@
 //! How much looking up stored states may cost.
 
-/// How many parts may be compared in one verification. Past that nothing is looked up any more.
+/// Says how many parts may be compared in one verification. Past that nothing is looked up any
+/// more.
 const MOST: u64 = 250_000_000;
 
-/// How many comparisons of parts a test of a row or of a link counts as, however many it makes.
+/// Says how many comparisons of parts a test of a row or of a link counts as, however many it
+/// makes.
 const TEST: usize = 8;
 
-/// How many it takes to put a stored state into a tree, and how many for each of its parts.
+/// Says how many it takes to put a stored state into a tree, and how many for each of its parts.
 const TREE: usize = 256;
 
 const TREE_PART: usize = 16;
 
-/// What looking up has cost, as a count of comparisons of parts. It does not depend on time, so
-/// that the same program always has the same verdict.
+/// Says what looking up has cost, as a count of comparisons of parts. It does not depend on time,
+/// so that the same program always has the same verdict.
 #[derive(Clone, Copy, Drop)]
 pub struct Effort {
     spent: u64,
@@ -24,7 +26,7 @@ impl Effort {
         Effort { spent: 0 }
     }
 
-    /// Whether nothing is to be compared any more.
+    /// Returns whether nothing is to be compared any more.
     pub fn is_over(&self) -> bool {
         self.spent >= MOST
     }

@@ -140,7 +140,7 @@ fn is_same(part: &Part, other: &Part) -> bool
     }
 }
 
-/// Whether parts are the same as others, one by one.
+/// Returns whether parts are the same as others, one by one.
 pub fn are_same(parts: &[Part], others: &[Part]) -> bool
     ensures { IsTrue result → parts.now ≡ others.now }
 {

@@ -17,11 +17,11 @@ use crate::tree_sets::TreeSets;
 use crate::trees::Tree;
 use std::alloc::{AllocError, Global};
 
-/// How many buckets there are at first, for the finished states and for the unfinished ones:
+/// Says how many buckets there are at first, for the finished states and for the unfinished ones:
 /// always a power of two, and at least half as many as the states in them.
 const BUCKETS: usize = 64;
 
-/// How many shapes a slot has at most, but for the last one, which knows nothing.
+/// Says how many shapes a slot has at most, but for the last one, which knows nothing.
 const SHAPES: usize = 256;
 
 /// An index of stored states, which are known by their indexes: 0, 1, .. in the order in which they
@@ -70,7 +70,7 @@ impl StateIndex {
         }
     }
 
-    /// What is known of a state in a shape, if that is all that the shape knows.
+    /// Returns what is known of a state in a shape, if that is all that the shape knows.
     pub fn known_in(&self, shape: usize, key: &Key, effort: &mut Effort) -> Option<KnownIn> {
         effort.spend_look_up(key.parts.len());
         let link = self.shapes.get(shape)?;
@@ -101,7 +101,7 @@ impl StateIndex {
         }
     }
 
-    /// Whether there are states that are found by their limits.
+    /// Returns whether there are states that are found by their limits.
     pub fn has_trees(&self) -> bool {
         !self.tree_sets.is_empty()
     }
@@ -175,7 +175,7 @@ impl StateIndex {
         }
     }
 
-    /// Whether a stored state has the fingerprint.
+    /// Returns whether a stored state has the fingerprint.
     pub fn has_fingerprint(&self, index: usize, fingerprint: u64) -> bool {
         match self.links.get(index) {
             Some(link) => link.fingerprint == fingerprint,

@@ -10,7 +10,7 @@ use control_flow::SlotMask;
 use stack_state::{FRAME_SLOTS, State};
 use std::alloc::{AllocError, Global};
 
-/// How many parts a call frame has at most: one for each register and each stack slot.
+/// Says how many parts a call frame has at most: one for each register and each stack slot.
 const PARTS: usize = 10 + FRAME_SLOTS;
 
 /// The parts of a state's innermost frame, fingerprints of all its frames, and their limits if
@@ -20,9 +20,9 @@ pub struct Key {
     pub parts: Vec<Part>,
     pub fingerprints: Fingerprints,
     pub limits: Vec<PartLimits>,
-    /// Whether the limits are wanted.
+    /// Says whether the limits are wanted.
     pub has_limits: bool,
-    /// Whether states are looked up by the key; else only the parts are wanted.
+    /// Says whether states are looked up by the key; else only the parts are wanted.
     pub is_sought: bool,
 }
 

@@ -9,10 +9,10 @@ use reg_state::{Kind, Scalar};
 use stack_state::StackSlot;
 use std::alloc::AllocError;
 
-/// How many measures a part has.
+/// Says how many measures a part has.
 pub const MEASURES: usize = 9;
 
-/// Which variant of what is known a part has.
+/// The kind of knowledge that there is of a part.
 #[derive(Clone, Copy, Drop)]
 enum Variant {
     Number,
@@ -29,22 +29,22 @@ enum Variant {
 /// Monotone measures of a part: if a covers b, each measure of a is at least that of b.
 #[derive(Clone, Copy, Drop)]
 pub struct PartLimits {
-    /// Which part it is: frames come one after another, and in each of them registers before stack
-    /// slots.
+    /// The index of the part: frames come one after another, and in each of them registers before
+    /// stack slots.
     pub part_index: u32,
     variant: Variant,
     measures: [u64; MEASURES],
 }
 
-/// Which measure of which part.
+/// Names a measure of a part.
 #[derive(Clone, Copy, Drop)]
 pub struct Measure {
     pub part_index: u32,
     pub index: usize,
 }
 
-/// What is known of a part in some states: limits that enclose those of each state, and the least
-/// of each measure.
+/// Says what is known of a part in some states: limits that enclose those of each state, and the
+/// least of each measure.
 #[derive(Clone, Copy, Drop)]
 pub struct PartSpan {
     pub limits: PartLimits,
@@ -154,7 +154,7 @@ fn of_marks(part_index: u32, marks: u8) -> PartLimits {
     }
 }
 
-/// How many indexes there are for the parts of a frame.
+/// Says how many indexes there are for the parts of a frame.
 const FRAME_INDEXES: u32 = 1 << 9;
 
 impl PartLimits {
@@ -174,8 +174,8 @@ impl PartLimits {
         }
     }
 
-    /// Whether a state with this part may cover one with the other part: `false` says that it does
-    /// not.
+    /// Returns whether a state with this part may cover one with the other part: `false` says that
+    /// it does not.
     fn may_enclose(&self, other: &PartLimits) -> bool {
         if self.variant as u8 != other.variant as u8 {
             return matches!(self.variant, Variant::Written);
@@ -212,7 +212,7 @@ impl PartSpan {
         !matches!(variant, Variant::Written) || self.limits.measures != [1; MEASURES]
     }
 
-    /// Whether the states differ in a measure.
+    /// Returns whether the states differ in a measure.
     pub fn differs(&self, index: usize) -> bool {
         self.least.get(index) != self.limits.measures.get(index)
     }
@@ -244,8 +244,8 @@ pub fn from_part(limits: &[PartLimits], part_index: u32) -> &[PartLimits] {
     rest
 }
 
-/// Whether one of the states of the spans may cover one with the others as its limits: `false` says
-/// that none does.
+/// Returns whether one of the states of the spans may cover one with the others as its limits:
+/// `false` says that none does.
 pub fn may_enclose(spans: &[PartSpan], others: &[PartLimits]) -> bool {
     let mut rest = others;
     for span in spans {

@@ -3,10 +3,10 @@
 use crate::trees::FAN;
 use std::alloc::{AllocError, Global};
 
-/// How many rows are looked at to see whether they differ in a column.
+/// Says how many rows are looked at to see whether they differ in a column.
 const SAMPLE: usize = 16;
 
-/// How often a size is halved at most: once for each bit of a number of 64 bits.
+/// Says how often a size is halved at most: once for each bit of a number of 64 bits.
 const BITS: usize = 64;
 
 /// A row by its index, and its word by which it is put into order.
@@ -28,7 +28,7 @@ fn word_at(rows: &[u64], width: usize, row_index: usize, column: usize) -> u64 {
     rows.get(index).copied().unwrap_or(0)
 }
 
-/// Whether a sample of the rows differs in a column.
+/// Returns whether a sample of the rows differs in a column.
 fn differ(order: &[OrderedRow], rows: &[u64], width: usize, column: usize) -> bool {
     let Some(first) = order.first() else {
         return false;
@@ -42,8 +42,8 @@ fn differ(order: &[OrderedRow], rows: &[u64], width: usize, column: usize) -> bo
     false
 }
 
-/// How many columns there are in which the rows differ, up to the one after this many of them, and
-/// that one.
+/// Returns how many columns there are in which the rows differ, up to the one after this many of
+/// them, and that one.
 fn differing(
     order: &[OrderedRow],
     rows: &[u64],

@@ -9,7 +9,7 @@ use reg_state::{Domain, Kind};
 use stack_state::{AbstractFrame, FRAME_SLOTS, StackSlot, StackState};
 use std::alloc::AllocError;
 
-/// What is known of one part of a call frame.
+/// Says what is known of one part of a call frame.
 #[derive(Clone, Copy, Drop)]
 pub enum Part {
     /// Of a register, by its number.
@@ -58,8 +58,8 @@ fn push_registers(parts: &mut Vec<Part>, registers: &[Kind; 10]) -> Result<(), A
     Ok(())
 }
 
-/// Whether nothing is known of eight stack slots, those of a byte of `kept`. Nothing is known of a
-/// stack slot that is not in `kept`.
+/// Returns whether nothing is known of eight stack slots, those of a byte of `kept`. Nothing is
+/// known of a stack slot that is not in `kept`.
 #[inline(always)]
 fn are_blank(slots: &[StackSlot; FRAME_SLOTS], kept: SlotMask, byte: usize) -> bool
     requires inside { byte < 8 }
@@ -159,7 +159,7 @@ pub fn write(frame: &mut AbstractFrame, part: &Part)
 
 // ---- a quick test
 
-/// Whether a kind may allow all that the other one does. `false` says that it does not.
+/// Returns whether a kind may allow all that the other one does. `false` says that it does not.
 fn may_allow(kind: &Kind, other: &Kind) -> bool
     ensures { kind.now ≡ other.now → IsTrue result }
 {
@@ -173,7 +173,8 @@ fn may_allow(kind: &Kind, other: &Kind) -> bool
     }
 }
 
-/// The same of a stack slot and what may be there.
+/// Returns whether a stack slot may hold all that the other one does. `false` says that it does
+/// not.
 fn may_hold(slot: &StackSlot, other: &StackSlot) -> bool
     ensures { slot.now ≡ other.now → IsTrue result }
 {
@@ -186,8 +187,8 @@ fn may_hold(slot: &StackSlot, other: &StackSlot) -> bool
     }
 }
 
-/// Whether what is known of a part may cover what is known of it in a frame. `false` says that it
-/// does not.
+/// Returns whether what is known of a part may cover what is known of it in a frame. `false` says
+/// that it does not.
 pub fn may_cover_part(part: &Part, frame: &AbstractFrame) -> bool
     ensures { IsPartOf frame.now part.now → IsTrue result }
 {

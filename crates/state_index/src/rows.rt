@@ -3,14 +3,14 @@
 use crate::limits::{MEASURES, Measure, PartLimits, PartSpan, from_part, measured, widen};
 use std::alloc::{AllocError, Global};
 
-/// How many words a row has at most.
+/// Says how many words a row has at most.
 pub const WIDTH: usize = 32;
 
-/// What is known of each part in the states that are put into a tree, all states together.
+/// Says what is known of each part in the states that are put into a tree, all states together.
 #[derive(Drop)]
 pub struct Spread {
     spans: Vec<PartSpan>,
-    /// How many states there are.
+    /// Says how many states there are.
     count: usize,
 }
 
@@ -18,7 +18,7 @@ pub struct Spread {
 /// where it was stored earlier, and one for each measure in which states differ.
 #[derive(Drop)]
 pub struct Rows {
-    /// What is known of each part in all states together.
+    /// Says what is known of each part in all states together.
     pub common: Vec<PartSpan>,
     /// The measures in which states differ, in the order of their parts.
     pub measures: Vec<Measure>,
@@ -61,7 +61,7 @@ impl Spread {
         count
     }
 
-    /// How many measures of each part have room in rows.
+    /// Returns how many measures of each part have room in rows.
     fn most_measures(&self) -> usize {
         for most in 1..MEASURES {
             if self.differing(most.saturating_add(1)) >= WIDTH {

@@ -14,7 +14,7 @@ use std::alloc::{AllocError, Global};
 /// A register or a stack slot that is known to hold a number.
 #[derive(Clone, Copy, Drop)]
 struct KnownNumber {
-    /// Which part it is: registers come first, then stack slots.
+    /// The index of the part: registers come first, then stack slots.
     part_index: u64,
     /// The bits that are not known.
     unknown: u64,
@@ -32,7 +32,7 @@ pub struct Shape {
     known_numbers: Vec<KnownNumber>,
 }
 
-/// What a part is known to hold, if that is known to be a number, and its known bits.
+/// Returns what a part is known to hold, if that is known to be a number, and its known bits.
 fn number_in(part: &Part) -> Option<(KnownNumber, u64)> {
     let (part_index, kind) = match part {
         Part::InRegister(number, kind) => (u64::from(*number), kind),
@@ -59,13 +59,13 @@ pub struct ShapeLink {
     pub next: u32,
 }
 
-/// What a state knows in a shape.
+/// Says what a state knows in a shape.
 #[derive(Clone, Copy, Drop)]
 pub struct KnownIn {
     /// A fingerprint of the shape, of its known bits as they are in the state, and of the slots of
     /// the code to which the state's frames return.
     pub print: u64,
-    /// Whether the shape is that of the state, which knows no other bits.
+    /// Says whether the shape is that of the state, which knows no other bits.
     pub is_own: bool,
 }
 
@@ -74,7 +74,7 @@ pub struct KnownIn {
 pub struct OwnShape {
     /// A fingerprint of what the state knows in it.
     pub known: u64,
-    /// How many look-ups it takes to find it again, and what is known in it.
+    /// Says how many look-ups it takes to find it again, and what is known in it.
     pub tried: usize,
 }
 
@@ -106,7 +106,7 @@ impl Shape {
         Ok(Shape { known_numbers })
     }
 
-    /// Whether it is the shape of a state.
+    /// Returns whether it is the shape of a state.
     pub fn is_of(&self, key: &Key) -> bool {
         let mut rest = self.known_numbers.as_slice();
         for part in &key.parts {
@@ -120,8 +120,8 @@ impl Shape {
         rest.is_empty()
     }
 
-    /// What a state knows in the shape, which has this index. None if it does not know all bits
-    /// that the shape knows.
+    /// Returns what a state knows in the shape, which has this index. None if it does not know all
+    /// bits that the shape knows.
     pub fn known_of(&self, index: usize, key: &Key) -> Option<KnownIn> {
         let mut rest = self.known_numbers.as_slice();
         let mut print = key.fingerprints.returns;

@@ -10,10 +10,10 @@ use std::alloc::{AllocError, Global};
 /// Stored states scanned one by one before they are put into a tree.
 pub const LONG_SCAN: usize = 32;
 
-/// How often the states without a tree are scanned before they are put into one.
+/// Says how often the states without a tree are scanned before they are put into one.
 const SCANS: usize = 16;
 
-/// How many buckets of sets there are at first.
+/// Says how many buckets of sets there are at first.
 const BUCKETS: usize = 16;
 
 /// The trees of the finished states of a shape in which the same is known.
@@ -27,7 +27,7 @@ struct TreeSet {
     /// The states that are in no tree yet, once there is one, and how many they are.
     unplaced: u32,
     unplaced_count: usize,
-    /// How many states were scanned since the last tree was made.
+    /// Says how many states were scanned since the last tree was made.
     scanned: usize,
 }
 
@@ -60,7 +60,7 @@ impl TreeSets {
         }
     }
 
-    /// Whether there are no sets.
+    /// Returns whether there are no sets.
     pub fn is_empty(&self) -> bool {
         self.sets.is_empty()
     }

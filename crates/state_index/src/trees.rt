@@ -8,13 +8,13 @@ use crate::orders::RowOrder;
 use crate::rows::{Rows, WIDTH, put_measured};
 use std::alloc::{AllocError, Global};
 
-/// How many rows of a level one row of the next level summarizes: 2 to the power `FAN_BITS`.
+/// Says how many rows of a level one row of the next level summarizes: 2 to the power `FAN_BITS`.
 pub const FAN: usize = 4;
 
 const FAN_BITS: u32 = 2;
 
-/// What is sought for a state: for each word of a row, the least that a stored state has there if
-/// it may cover the state.
+/// Says what is sought for a state: for each word of a row, the least that a stored state has there
+/// if it may cover the state.
 pub type Sought = [u64; WIDTH];
 
 /// Stored states, those with like limits beside one another.
@@ -24,7 +24,7 @@ pub type Sought = [u64; WIDTH];
 /// of its words is at least as great as the state's.
 #[derive(Drop)]
 pub struct Tree {
-    /// What is known of each part in all states together.
+    /// Says what is known of each part in all states together.
     common: Vec<PartSpan>,
     measures: Vec<Measure>,
     indexes: Vec<u32>,
@@ -33,7 +33,7 @@ pub struct Tree {
     levels: Vec<Vec<u64>>,
 }
 
-/// How many words a row has.
+/// Returns how many words a row has.
 fn width(measures: &[Measure]) -> usize {
     measures.len().saturating_add(1)
 }
@@ -167,7 +167,8 @@ impl Tree {
         None
     }
 
-    /// Whether each word of a row of a level is at least as great as the one that is sought.
+    /// Returns whether each word of a row of a level is at least as great as the one that is
+    /// sought.
     fn reaches(&self, level: usize, row_index: usize, sought: &Sought) -> bool {
         let Some(level) = self.levels.get(level) else {
             return true;

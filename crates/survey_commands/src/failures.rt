@@ -11,7 +11,7 @@ use words::WordsError;
 
 const USAGE: &str = "usage: xdpvm_survey IMAGE|FOLDER .. | log IMAGE | dis IMAGE\n";
 
-/// Why the program ends early.
+/// Says why the program ends early.
 #[derive(Drop)]
 pub enum SurveyError {
     /// No command was given in full. The text says what is wrong, or is the help.

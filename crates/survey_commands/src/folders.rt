@@ -8,7 +8,7 @@ use std::{fs, io};
 // The end of an image's name.
 const ENDING: &str = ".image";
 
-/// Why a folder has a row of its own.
+/// Says why a folder has a row of its own.
 #[derive(Clone, Copy, Drop)]
 pub enum FolderFailure {
     /// It cannot be read.
@@ -21,9 +21,9 @@ pub enum FolderFailure {
 #[derive(Drop)]
 pub struct NamedPath {
     pub path: String,
-    /// Whether it is an image that was found in a folder.
+    /// Says whether it is an image that was found in a folder.
     pub is_in_folder: bool,
-    /// Why the folder cannot be read, or only in part, if it is one.
+    /// Says why the folder cannot be read, or only in part, if it is one.
     pub failure: Option<FolderFailure>,
 }
 
@@ -62,9 +62,10 @@ pub fn add_folder(
 #[derive(Drop)]
 pub struct FoundImages {
     pub paths: Vec<String>,
-    /// Whether the path is that of a folder.
+    /// Says whether the path is that of a folder.
     pub is_folder: bool,
-    /// Whether the folder has names that are not UTF-8. They name no file that can be opened here.
+    /// Says whether the folder has names that are not UTF-8. They name no file that can be opened
+    /// here.
     pub has_unnamed: bool,
 }
 

@@ -15,10 +15,10 @@ use std::io::Write;
 use std::rt::Files;
 use surveys::{LookError, write_graph, write_listing, write_log};
 
-/// What is shown of an image.
+/// Says what is shown of an image.
 #[derive(Clone, Copy, Drop)]
 pub enum Look {
-    /// What the search explores, all or at one slot.
+    /// The instructions that the search explores, all or at one slot.
     Log(Option<usize>),
     Listing,
     Graph,

@@ -4,17 +4,17 @@ use exact_io::write_bytes;
 use std::alloc::{AllocError, Global};
 use std::io::Write;
 
-/// What is written before other lines, so that the progress line is erased.
+/// Erases the progress line, when written before other lines.
 const CLEARED: &str = "\r\x1b[K";
 
 /// The progress of a survey.
 #[derive(Clone, Copy, Drop)]
 pub struct SurveyProgress {
-    /// Whether it is shown.
+    /// Says whether it is shown.
     is_shown: bool,
-    /// How many images there are.
+    /// Says how many images there are.
     total: usize,
-    /// How many of them are judged.
+    /// Says how many of them are judged.
     done: usize,
     /// The hundredths that were shown last.
     shown: usize,

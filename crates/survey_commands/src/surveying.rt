@@ -70,8 +70,8 @@ fn row_of_folder<W: Write>(
     }
 }
 
-/// How an image is judged. If it is accepted and has not got the table that is wanted, memory ran
-/// out.
+/// Returns how an image is judged. If it is accepted and has not got the table that is wanted,
+/// memory ran out.
 fn verdict_of(judged: &Judged, wants_table: bool) -> Judgement {
     match judged.verdict {
         Judgement::Accepted if wants_table && judged.table.is_none() => Judgement::NoMemory,

@@ -17,7 +17,7 @@ use survey_words::{Format, Survey};
 /// Of how many images differences are written at a time.
 const PART: usize = 1024;
 
-/// What is asked for, and how rows are laid out for it.
+/// Says what is asked for, and how rows are laid out for it.
 #[derive(Drop)]
 pub struct Sheet<'a> {
     pub survey: &'a Survey<'a>,
@@ -25,7 +25,7 @@ pub struct Sheet<'a> {
 }
 
 impl Sheet<'_> {
-    /// Whether a row has to wait for the others, since rows are sorted or compared.
+    /// Returns whether a row has to wait for the others, since rows are sorted or compared.
     pub fn has_to_wait(&self) -> bool {
         self.survey.sort.is_some() || self.survey.earlier.is_some()
     }
@@ -43,8 +43,8 @@ fn columns_of(alloc: Global, survey: &Survey<'_>) -> Result<Vec<Column>, AllocEr
     Ok(columns)
 }
 
-/// How many characters the longest path of a file has, but at least as many as the name of its
-/// column.
+/// Returns how many characters the longest path of a file has, but at least as many as the name of
+/// its column.
 fn longest_of(named: &[NamedPath]) -> usize {
     let mut longest = Column::File.width();
     for named_path in named {
@@ -53,7 +53,7 @@ fn longest_of(named: &[NamedPath]) -> usize {
     longest
 }
 
-/// How the rows of these images are laid out.
+/// Returns how the rows of these images are laid out.
 pub fn sheet_of<'a>(
     alloc: Global,
     survey: &'a Survey<'a>,
@@ -130,7 +130,7 @@ pub fn write_row<W: Write>(
     write_grid(alloc, sheet, false, &grid, out)
 }
 
-/// Why there is no comparison with the earlier survey in a file.
+/// Returns why there is no comparison with the earlier survey in a file.
 fn failure_of(alloc: Global, path: &str, error: EarlierError) -> Result<SurveyError, AllocError> {
     Ok(match error {
         EarlierError::Unread(kind) => {

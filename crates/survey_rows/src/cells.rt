@@ -2,7 +2,7 @@
 
 use std::alloc::{AllocError, Global};
 
-/// What a row has in a column.
+/// Says what a row has in a column.
 #[derive(Drop)]
 pub enum RowCell {
     Text(String),
@@ -16,7 +16,7 @@ pub enum RowCell {
 #[derive(Clone, Copy, Drop)]
 pub struct ColumnHead {
     pub name: &'static str,
-    /// Whether its cells are aligned at the left in the text for people, as texts are.
+    /// Says whether its cells are aligned at the left in the text for people, as texts are.
     pub is_left: bool,
     /// The least width of its cells in the text for people, in characters.
     pub width: usize,

@@ -89,11 +89,11 @@ fn change_row(
 #[derive(Drop)]
 struct Change {
     column: Column,
-    /// What the earlier survey has there.
+    /// Says what the earlier survey has there.
     old: String,
 }
 
-/// What is known of a row of the earlier survey.
+/// Says what is known of a row of the earlier survey.
 #[derive(Drop)]
 struct OldRow {
     file: String,
@@ -103,7 +103,7 @@ struct OldRow {
 /// A row of the earlier survey for an image that was surveyed.
 #[derive(Drop)]
 struct Found {
-    /// Whether it has the same path, and not only the same name in another folder.
+    /// Says whether it has the same path, and not only the same name in another folder.
     is_same_path: bool,
     row: OldRow,
     changes: Vec<Change>,
@@ -114,7 +114,8 @@ struct Found {
 pub struct Changes<'a> {
     surveyed: &'a [Row],
     matching: Matching<'a>,
-    /// What the earlier survey has of each image that was surveyed, at the first row of its path.
+    /// Says what the earlier survey has of each image that was surveyed, at the first row of its
+    /// path.
     found: Vec<Option<Found>>,
     /// The images that are gone.
     gone: Vec<OldRow>,
@@ -125,7 +126,7 @@ fn row_text(alloc: Global, row: &Row, column: Column) -> Result<String, AllocErr
     cell_text(alloc, &row.cell(alloc, column)?)
 }
 
-/// What changed for an image, in all columns but its file and the times.
+/// Returns what changed for an image, in all columns but its file and the times.
 fn changes_of<S: Read + Drop>(
     alloc: Global,
     earlier: &Earlier<S>,
@@ -224,7 +225,7 @@ impl<'a> Changes<'a> {
         Ok(())
     }
 
-    /// How many images there are, surveyed or gone.
+    /// Returns how many images there are, surveyed or gone.
     pub fn len(&self) -> usize {
         self.surveyed.len().saturating_add(self.gone.len())
     }

@@ -12,27 +12,27 @@ pub enum Column {
     Verdict,
     /// The slot at which the image is refused.
     Slot,
-    /// How many slots the code has.
+    /// Says how many slots the code has.
     Slots,
-    /// How many map rows the image has.
+    /// Says how many map rows the image has.
     Maps,
     /// The most steps of any run.
     Bound,
-    /// How many instructions were explored.
+    /// Says how many instructions were explored.
     Explored,
-    /// How many abstract states were stored.
+    /// Says how many abstract states were stored.
     Stored,
-    /// How many instructions the longest path of the search has.
+    /// Says how many instructions the longest path of the search has.
     Deepest,
-    /// How many bytes the stored states take, without those that they share.
+    /// Says how many bytes the stored states take, without those that they share.
     StoredBytes,
-    /// How long `verify` took.
+    /// Says how long `verify` took.
     Milliseconds,
     /// The length of the proof table.
     TableBytes,
-    /// How long it took to make the proof table.
+    /// Says how long it took to make the proof table.
     ProveMilliseconds,
-    /// How long `recheck` took.
+    /// Says how long `recheck` took.
     RecheckMilliseconds,
 }
 
@@ -89,7 +89,7 @@ impl Column {
         None
     }
 
-    /// Whether it is a time, which a second survey need not repeat.
+    /// Returns whether it is a time, which a second survey need not repeat.
     pub fn is_time(self) -> bool {
         matches!(
             self,
@@ -97,7 +97,7 @@ impl Column {
         )
     }
 
-    /// Whether only a survey that writes proof tables has it.
+    /// Returns whether only a survey that writes proof tables has it.
     pub fn is_of_proof_tables(self) -> bool {
         matches!(
             self,

@@ -9,7 +9,7 @@ use std::io::{ErrorKind, Read};
 /// More bytes than a row of a survey has, of which the longest field is a path.
 const PAST_ANY_ROW: usize = 1 << 20;
 
-/// Why a survey cannot be compared with an earlier one.
+/// Says why a survey cannot be compared with an earlier one.
 #[derive(Clone, Copy, Drop)]
 pub enum EarlierError {
     /// It is not CSV, or has no column `file`.
@@ -34,11 +34,11 @@ impl From<AllocError> for EarlierError {
 #[derive(Drop)]
 struct RowSource<S> {
     source: S,
-    /// How many bytes came after the last end of a line.
+    /// Says how many bytes came after the last end of a line.
     length: usize,
 }
 
-/// How many bytes come after the last end of a line, if `length` of them came before these.
+/// Returns how many bytes come after the last end of a line, if `length` of them came before these.
 fn length_after(length: usize, bytes: &[u8]) -> usize {
     match bytes
         .iter()

@@ -23,12 +23,12 @@ pub fn shown(alloc: Global, text: &str) -> Result<String, AllocError> {
     Ok(shown)
 }
 
-/// How many characters a text has.
+/// Returns how many characters a text has.
 fn width_of(text: &str) -> usize {
     text.chars().count()
 }
 
-/// How many characters a text has as it is shown.
+/// Returns how many characters a text has as it is shown.
 pub fn shown_width(text: &str) -> usize {
     text.chars().fold(0, |width: usize, character| {
         width.saturating_add(if character.is_control() { 4 } else { 1 })

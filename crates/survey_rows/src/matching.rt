@@ -9,7 +9,7 @@ use std::alloc::{AllocError, Global};
 pub struct Match {
     /// The index of its row.
     pub index: usize,
-    /// Whether it has this path, and not only the same name in another folder.
+    /// Says whether it has this path, and not only the same name in another folder.
     pub is_same_path: bool,
 }
 
@@ -21,7 +21,7 @@ pub struct Matching<'a> {
     by_name: IndexMap<&'a [u8], Option<usize>>,
 }
 
-/// What comes after the last slash of a path.
+/// Returns what comes after the last slash of a path.
 fn name_of(path: &[u8]) -> &[u8] {
     match path.iter().rposition(|byte| *byte == b'/') {
         Some(at) => &path[at + 1..],

@@ -6,7 +6,7 @@ use crate::cells::{ColumnHead, Grid, RowCell};
 use crate::columns::Column;
 use std::alloc::{AllocError, Global};
 
-/// How an image was judged.
+/// Says how an image was judged.
 #[derive(Clone, Copy, Drop)]
 pub enum Judgement {
     Accepted,
@@ -29,13 +29,13 @@ impl Judgement {
         }
     }
 
-    /// Whether the image is refused.
+    /// Returns whether the image is refused.
     pub fn is_refused(self) -> bool {
         matches!(self, Judgement::Refused(_))
     }
 }
 
-/// What was counted and measured of an image, and the slot at which it is refused.
+/// Says what was counted and measured of an image, and the slot at which it is refused.
 #[derive(Clone, Copy, Default, Drop)]
 pub struct Counts {
     pub slot: Option<u64>,
@@ -56,7 +56,7 @@ pub struct Counts {
 #[derive(Drop)]
 pub struct Row {
     pub file: String,
-    /// Whether the image was found in a folder that was given, and not given itself.
+    /// Says whether the image was found in a folder that was given, and not given itself.
     pub is_in_folder: bool,
     pub verdict: Judgement,
     pub counts: Counts,
@@ -127,12 +127,12 @@ fn heads_of(
     Ok(heads)
 }
 
-/// How rows are chosen and laid out.
+/// Says how rows are chosen and laid out.
 #[derive(Drop)]
 pub struct RowLayout {
     pub columns: Vec<Column>,
-    /// How many characters the longest path of a file has, but at least as many as the name of its
-    /// column.
+    /// Says how many characters the longest path of a file has, but at least as many as the name of
+    /// its column.
     pub longest: usize,
     pub only_refused: bool,
 }

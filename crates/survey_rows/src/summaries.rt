@@ -5,7 +5,7 @@ ghost use Rattle.survey_rows.specs.Summaries.{status_of, with_image};
 
 use crate::rows::Judgement;
 
-/// How many images got which verdict. A folder that has a row counts as one.
+/// Says how many images got which verdict. A folder that has a row counts as one.
 #[derive(Clone, Copy, Default, Drop)]
 pub struct Summary {
     pub accepted: u64,

@@ -2,7 +2,7 @@
 
 use survey_rows::Column;
 
-/// How rows are written.
+/// Says how rows are written.
 #[derive(Clone, Copy, PartialEq, Eq, Debug, Drop)]
 pub enum Format {
     Table,
@@ -25,11 +25,11 @@ pub struct Survey<'a> {
     pub tables: Option<&'a str>,
 }
 
-/// What is asked for.
+/// Says what is asked for.
 #[derive(Drop)]
 pub enum Asked<'a> {
     Survey(Survey<'a>),
-    /// What the search explores of an image, all or at one slot.
+    /// The instructions that the search explores of an image, all or at one slot.
     Log(&'a str, Option<usize>),
     /// The listing of an image.
     Listing(&'a str),

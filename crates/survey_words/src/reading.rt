@@ -115,7 +115,7 @@ fn words_error_of(alloc: Global, error: &clap::Error) -> WordsError {
     }
 }
 
-/// What the arguments ask for. The first word is the program's name.
+/// Returns what the arguments ask for. The first word is the program's name.
 pub fn read_words<'a>(alloc: Global, words: &'a [String]) -> Result<Asked<'a>, WordsError> {
     let matches = match program(alloc)?.try_get_matches_from(words) {
         Ok(matches) => matches,

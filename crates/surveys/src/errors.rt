@@ -5,7 +5,7 @@ use std::alloc::AllocError;
 use std::io;
 use std::io::ErrorKind;
 
-/// Why a log, a listing or a graph of a program ends early.
+/// Says why a log, a listing or a graph of a program ends early.
 #[derive(Clone, Copy, Drop)]
 pub enum LookError {
     /// The program is refused, at a slot.

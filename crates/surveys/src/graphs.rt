@@ -9,7 +9,7 @@ use isa_model::Insn;
 use std::alloc::{AllocError, Global};
 use std::io::Write;
 
-/// Whether a basic block ends with the instruction at a slot.
+/// Returns whether a basic block ends with the instruction at a slot.
 fn is_end(image: &Image, slot: usize) -> bool {
     matches!(
         image.at(slot),
@@ -17,7 +17,7 @@ fn is_end(image: &Image, slot: usize) -> bool {
     )
 }
 
-/// Whether control may go to the next instruction.
+/// Returns whether control may go to the next instruction.
 fn falls_through(image: &Image, slot: usize) -> bool {
     !matches!(
         image.at(slot),
@@ -25,7 +25,7 @@ fn falls_through(image: &Image, slot: usize) -> bool {
     )
 }
 
-/// Whether a jump or a call goes to a slot.
+/// Returns whether a jump or a call goes to a slot.
 fn is_target(labels: &[SlotLabel], slot: usize) -> bool {
     labels.get(slot).copied().unwrap_or(SlotLabel::Nothing) != SlotLabel::Nothing
 }
@@ -109,7 +109,7 @@ struct Graph {
     edges: String,
 }
 
-/// How an instruction's text begins: as its block, if it is the first one.
+/// Returns how an instruction's text begins: as its block, if it is the first one.
 fn block_opening(alloc: Global, block: usize, slot: usize) -> Result<String, AllocError> {
     if block != slot {
         return Ok(String::new(alloc));

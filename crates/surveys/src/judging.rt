@@ -22,7 +22,7 @@ use std::alloc::Global;
 use std::time::{Clock, Instant};
 use survey_rows::{Counts, Judgement};
 
-/// How an image was judged, and what was counted and measured.
+/// Says how an image was judged, and what was counted and measured.
 #[derive(Drop)]
 pub struct Judged {
     pub verdict: Judgement,
@@ -81,7 +81,7 @@ fn malformed(error: ImageError) -> Judged
     }
 }
 
-/// How many slots and map rows an image has.
+/// Returns how many slots and map rows an image has.
 fn sizes_of(image: &Image) -> Counts
     ensures sizes { HasSizes image.now result }
     ensures no_slot { result.slot ≡ None }

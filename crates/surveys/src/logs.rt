@@ -30,7 +30,7 @@ struct Log<'a, W: Write + Drop> {
     stored_log_numbers: Vec<u64>,
 }
 
-/// Where a state comes from, if not from the instruction before it in the log.
+/// Returns where a state comes from, if not from the instruction before it in the log.
 fn from_text(alloc: Global, path: &[u64], explored: u64) -> Result<String, AllocError> {
     match path.last().copied() {
         Some(last) if last.saturating_add(1) != explored => format!(in alloc; " from #{last}"),

@@ -34,7 +34,7 @@ fn put_registers(alloc: Global, state: &State, text: &mut String) -> Result<(), 
     Ok(())
 }
 
-/// Whether something is known about a stack slot.
+/// Returns whether something is known about a stack slot.
 fn is_known(state: &State, frame: u8, stack_slot: usize) -> bool {
     match state.stack_of(frame) {
         Some(stack) => match stack.slots().get(stack_slot) {

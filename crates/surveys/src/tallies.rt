@@ -8,26 +8,26 @@ use stack_state::State;
 use std::convert::Infallible;
 use transfer::Ways;
 
-/// How many bytes a word of a stored state takes.
+/// Says how many bytes a word of a stored state takes.
 const WORD: u64 = 8;
 
-/// What is counted in a search. A count that would overflow stays at the greatest number.
+/// Says what is counted in a search. A count that would overflow stays at the greatest number.
 #[derive(Clone, Copy, Default, Drop)]
 pub struct SearchTally {
-    /// How many instructions were explored.
+    /// Says how many instructions were explored.
     pub explored: u64,
-    /// How many of their states were stored, at joins.
+    /// Says how many of their states were stored, at joins.
     pub stored: u64,
-    /// How many bytes the stored states take, without those that they share. No stored state is
-    /// dropped, so this is their peak, too.
+    /// Says how many bytes the stored states take, without those that they share. No stored state
+    /// is dropped, so this is their peak, too.
     pub stored_bytes: u64,
-    /// How many instructions the path has.
+    /// Says how many instructions the path has.
     pub depth: u64,
-    /// How many it had at most.
+    /// Says how many it had at most.
     pub deepest: u64,
 }
 
-/// How many bytes a stored state takes, without those that it shares.
+/// Returns how many bytes a stored state takes, without those that it shares.
 fn own_bytes(kept: &Kept) -> u64
     ensures { AreWords result }
 {

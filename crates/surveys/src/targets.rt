@@ -31,9 +31,9 @@ pub fn target_of(image: &Image, slot: usize) -> Option<usize> {
 pub enum SlotLabel {
     /// It has none: no jump and no call leads to it.
     Nothing,
-    /// That of a jump's target.
+    /// The label of a jump's target.
     Target,
-    /// That of a function.
+    /// The label of a function.
     Function,
 }
 

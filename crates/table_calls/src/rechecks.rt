@@ -18,8 +18,8 @@ use table_entries::TableRefusal;
 use verdict_calls::filling::fill;
 use verdict_calls::statuses::{MEMORY, NotAccepted, OK, REFUSED};
 
-/// What a table shows: the most steps of a run. If it is refused, the number of the rule that it
-/// breaks, 6 for P6, and for P5, P7 and P8 the entry; 0 where the image or its control flow is
+/// Says what a table shows: the most steps of a run. If it is refused, the number of the rule that
+/// it breaks, 6 for P6, and for P5, P7 and P8 the entry; 0 where the image or its control flow is
 /// refused. `said` is how many bytes the text of a refusal has.
 #[repr(C)]
 #[derive(Clone, Copy, Drop)]

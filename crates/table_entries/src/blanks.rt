@@ -60,8 +60,8 @@ fn begins_with_four(bytes: &[u8]) -> bool
     true
 }
 
-/// How many stack slots about which nothing is known the bytes begin with, by fours: there may be
-/// more.
+/// Returns how many stack slots about which nothing is known the bytes begin with, by fours: there
+/// may be more.
 #[inline(always)]
 pub fn blank_stack_slots(bytes: &[u8]) -> usize
     ensures most { result ≤ frame_slots }
@@ -81,8 +81,8 @@ pub fn blank_stack_slots(bytes: &[u8]) -> usize
     sixteens + 12
 }
 
-/// Whether the bytes begin as an outer call frame's do, with a return slot and six kinds that are
-/// unset.
+/// Returns whether the bytes begin as an outer call frame's do, with a return slot and six kinds
+/// that are unset.
 #[inline(always)]
 pub fn begins_unset(bytes: &[u8]) -> bool
     ensures { IsTrue result → AreZeros 6 (drop 2 bytes.now) }
@@ -109,7 +109,7 @@ fn is_blank(slot: &StackSlot) -> bool
     }
 }
 
-/// Whether nothing is known of the first stack slots.
+/// Returns whether nothing is known of the first stack slots.
 pub fn are_blank(slots: &[StackSlot; FRAME_SLOTS], count: usize) -> bool
     requires { count ≤ frame_slots }
     ensures { IsTrue result → take count slots.now ≡ replicate count (StackSlot.Written 0) }

@@ -22,10 +22,10 @@ pub enum NamedEntries {
     Two(u32, u32),
 }
 
-/// What an entry says besides its state.
+/// Says what an entry says besides its state.
 #[derive(Clone, Copy, Drop)]
 pub struct EntryHead {
-    /// How many steps a run makes at most from the state on.
+    /// Says how many steps a run makes at most from the state on.
     pub number: u32,
     /// The entries to which its step leads.
     pub named: NamedEntries,
@@ -58,7 +58,7 @@ pub fn named_in(bytes: &[u8]) -> Result<(NamedEntries, &[u8]), StopReason>
     }
 }
 
-/// Whether an entry may have this number, and a state at this slot.
+/// Returns whether an entry may have this number, and a state at this slot.
 pub fn head_allowed(image: &Image, number: u32, slot: usize) -> bool
     ensures { result ≡ head_allowed image.now number slot }
 {

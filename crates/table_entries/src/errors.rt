@@ -7,7 +7,7 @@ use std::error::Error;
 use std::fmt;
 use std::io::ErrorKind;
 
-/// Why a table was not written, or only in part.
+/// Says why a table was not written, or only in part.
 #[derive(Clone, Copy, PartialEq, Eq, Debug)]
 pub enum WriteTableError {
     /// Memory ran out.
@@ -32,7 +32,7 @@ impl WriteTableError {
         }
     }
 
-    /// What is wrong, in a sentence.
+    /// Returns what is wrong, in a sentence.
     pub fn sentence(self) -> &'static str
         ensures { result.now ≡ sentence_of self }
     {

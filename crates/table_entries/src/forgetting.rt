@@ -10,7 +10,7 @@ use crate::slices::skip;
 use reg_state::Kind;
 use stack_state::{AbstractFrame, FRAME_SLOTS, StackState};
 
-/// What follows the first bytes, if there are as many.
+/// Returns what follows the first bytes, if there are as many.
 pub fn after(bytes: &[u8], count: usize) -> &[u8] {
     if bytes.len() < count {
         &[]
@@ -46,7 +46,8 @@ fn forget_register<'a>(bytes: &'a [u8], register: &mut Kind) -> &'a [u8]
     }
 }
 
-/// Whether the bytes begin with a stack slot of which nothing is known, and the bytes after it.
+/// Returns whether the bytes begin with a stack slot of which nothing is known, and the bytes after
+/// it.
 #[inline(always)]
 fn next_slot(bytes: &[u8]) -> (bool, &[u8]) {
     match bytes {

@@ -30,7 +30,7 @@ fn are_unset(registers: &[Kind; 10]) -> bool
         && is_unset(&registers[5])
 }
 
-/// Whether a call frame may have this return slot and these registers.
+/// Returns whether a call frame may have this return slot and these registers.
 pub fn frame_allowed(holder: usize, outer: bool, return_slot: usize, registers: &[Kind; 10]) -> bool
     ensures { result ≡ frame_allowed holder outer return_slot registers.now }
 {

@@ -91,7 +91,7 @@ impl<'a> Growing<'a> {
         self.count
     }
 
-    /// Whether all entries are placed, and no bytes are left over.
+    /// Returns whether all entries are placed, and no bytes are left over.
     pub fn is_whole(&self) -> bool
         ensures { IsTrue result → (count_of self.now.table ≡ self.now.count)
             × (length self.now.rest ≡ 0) }
@@ -168,8 +168,8 @@ impl<'a> Growing<'a> {
         self.pass_to(image, index)
     }
 
-    /// What the entry of that index says besides its state, if it is the next one to be placed, and
-    /// its bytes spell this state: then it is placed. Nothing follows from None.
+    /// Returns what the entry of that index says besides its state, if it is the next one to be
+    /// placed, and its bytes spell this state: then it is placed. Nothing follows from None.
     ///
     /// More bytes may be known to spell the state afterwards.
     pub fn take(
@@ -194,8 +194,9 @@ impl<'a> Growing<'a> {
         if self.place(after) { Some(head) } else { None }
     }
 
-    /// The same of the state without what the entry says nothing of in the innermost frame, if the
-    /// entry's number is below this one. The state is as before where None is returned.
+    /// Does what `take` does for the state without what the entry says nothing of in the innermost
+    /// frame, if the entry's number is below this one. The state is as before where None is
+    /// returned.
     pub fn take_weaker(
         &mut self,
         image: &Image,

@@ -116,7 +116,7 @@ fn low_in(bytes: &[u8]) -> Option<Low>
 
 #[tactic(auto, unfolding(crate::specs::Kinds::scalar_in))]
 #[inline(always)]
-/// What is known of a number: 64 bytes. None: a field is not allowed.
+/// Returns what is known of a number: 64 bytes. None: a field is not allowed.
 pub fn scalar_in(bytes: &[u8]) -> Option<Scalar>
     requires { 64 ≤ length bytes.now }
     ensures { result ≡ scalar_in bytes.now }

@@ -41,7 +41,7 @@ impl<'a> KnownBytes<'a> {
         }
     }
 
-    /// The same bytes.
+    /// Returns the same bytes.
     pub fn copy(&self) -> KnownBytes<'a>
         ensures { result ≡ self.now }
     {

@@ -13,7 +13,7 @@ use crate::stops::StopReason;
 use reg_state::Kind;
 use stack_state::{FRAME_SLOTS, StackState};
 
-/// Whether both are true.
+/// Returns whether both are true.
 pub fn both(first: bool, second: bool) -> bool
     ensures { result ≡ (first && second) }
 {

@@ -23,8 +23,8 @@ use isa_model::MAX_CALL_FRAMES;
 use reg_state::Kind;
 use stack_state::{FRAME_SLOTS, MAX_CALLERS};
 
-/// What is kept as entries are passed over: room for the registers of an outer frame, and the bytes
-/// of the outer frames that were passed over last, whose fields are allowed.
+/// Says what is kept as entries are passed over: room for the registers of an outer frame, and the
+/// bytes of the outer frames that were passed over last, whose fields are allowed.
 #[derive(Drop)]
 pub struct Passing<'a> {
     pub room: [Kind; 10],
@@ -162,7 +162,10 @@ fn returns_right(holder: usize, return_slot: u16) -> bool
     holder != 0 || return_slot == 0
 }
 
-/// The innermost call frame.
+/// Passes over the innermost call frame, and returns whether it is allowed, and what follows it.
+///
+/// `rows` is the number of the image's map rows, and `holder` the index of the frame, counted from
+/// the outermost, 0. No frame after it may be pointed into.
 fn pass_frame(rows: usize, holder: usize, bytes: &[u8]) -> Result<(bool, &[u8]), StopReason>
     ensures { ReturnsRead (λ x. (x.0, x.1.now)) result
         (seen (frame_in rows holder false bytes.now)) }
@@ -281,8 +284,8 @@ fn pass_rest<'a>(
     Ok((both(both(callers, innermost), fits), rest))
 }
 
-/// Whether the entry at the front of the bytes has only fields that are allowed, and the bytes
-/// after it. Which bytes of outer call frames were passed over is kept.
+/// Returns whether the entry at the front of the bytes has only fields that are allowed, and the
+/// bytes after it. Which bytes of outer call frames were passed over is kept.
 #[tactic(auto, unfolding(crate::specs::Entries::entry_in))]
 pub fn pass_entry<'a>(
     image: &Image,

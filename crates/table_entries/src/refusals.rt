@@ -1,6 +1,6 @@
 //! Why the bytes are no table.
 
-/// Why the bytes are no table.
+/// Says why the bytes are no table.
 #[derive(Clone, Copy, PartialEq, Eq, Debug, Drop)]
 pub enum TableRefusal {
     /// P1: they do not begin with `XPT1`.

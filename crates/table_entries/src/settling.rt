@@ -30,8 +30,8 @@ fn is_body_settled(image: &Image, count: usize, front: &[u8]) -> bool
     !rest.is_empty()
 }
 
-/// Whether every table that begins with these bytes is refused, for the same. If not, the bytes end
-/// too early, or where the last entry does.
+/// Returns whether every table that begins with these bytes is refused, for the same. If not, the
+/// bytes end too early, or where the last entry does.
 pub fn is_settled(image: &Image, front: &[u8]) -> bool
     ensures settled { IsTrue result → IsTableSettled image.now front.now }
     ensures open { result ≡ false → IsTableOpen image.now front.now }

@@ -5,7 +5,7 @@ ghost use Rattle.byteorder.specs.Endian.{little_number};
 
 use flatmem::{get16, get32, get64};
 
-/// What follows the first bytes.
+/// Returns what follows the first bytes.
 #[inline(always)]
 pub fn skip(bytes: &[u8], count: usize) -> &[u8]
     requires { count ≤ length bytes.now }
@@ -14,7 +14,7 @@ pub fn skip(bytes: &[u8], count: usize) -> &[u8]
     &bytes[count..]
 }
 
-/// What comes before the last bytes, as many as are given.
+/// Returns what comes before the last bytes, as many as are given.
 #[inline(always)]
 pub fn before<'a>(bytes: &'a [u8], last: &[u8]) -> &'a [u8]
     requires { length last.now ≤ length bytes.now }
@@ -23,7 +23,7 @@ pub fn before<'a>(bytes: &'a [u8], last: &[u8]) -> &'a [u8]
     &bytes[..bytes.len() - last.len()]
 }
 
-/// Whether the bytes begin with others: eight are compared at once.
+/// Returns whether the bytes begin with others: eight are compared at once.
 pub fn begins_with(bytes: &[u8], front: &[u8]) -> bool
     ensures { IsTrue result → bytes.now ≡ front.now ++ drop (length front.now) bytes.now }
 {

@@ -169,8 +169,8 @@ fn after_rest<'a>(
     }
 }
 
-/// What the entry that the bytes begin with says besides its state, if they spell this state, and
-/// the bytes after it. More bytes may be known to spell the state afterwards.
+/// Returns what the entry that the bytes begin with says besides its state, if they spell this
+/// state, and the bytes after it. More bytes may be known to spell the state afterwards.
 #[tactic(auto, unfolding(crate::specs::Entries::entry_in))]
 pub(crate) fn after_entry<'a>(
     image: &Image,

@@ -195,7 +195,7 @@ impl<'a> Table<'a> {
         }
     }
 
-    /// How many entries there are.
+    /// Returns how many entries there are.
     pub fn len(&self) -> usize
         ensures { result ≡ count_of self.now }
     {
@@ -232,7 +232,7 @@ impl<'a> Table<'a> {
         }
     }
 
-    /// What the entry of that index says besides its state, if its bytes spell this state.
+    /// Returns what the entry of that index says besides its state, if its bytes spell this state.
     /// Nothing follows from None.
     ///
     /// The image is the one that the table was made with. More bytes may be known to
@@ -256,8 +256,8 @@ impl<'a> Table<'a> {
         Some(head)
     }
 
-    /// The same of the state without what the entry says nothing of in the innermost frame. The
-    /// state is as before where None is returned.
+    /// Does what `head_of` does for the state without what the entry says nothing of in the
+    /// innermost frame. The state is as before where None is returned.
     pub fn head_of_weaker(
         &self,
         image: &Image,

@@ -70,7 +70,7 @@ pub fn line_after(cause: Option<ErrorKind>) -> &'static str
     }
 }
 
-/// Why a file must not be written over.
+/// Says why a file must not be written over.
 #[derive(Clone, Copy)]
 pub enum Conflict {
     /// It is one of the files that are read.

@@ -16,7 +16,7 @@ use std::alloc::Global;
 use std::io;
 use std::io::Write;
 
-/// How a task ended, and the lines at the end of its message, if there are any.
+/// Says how a task ended, and the lines at the end of its message, if there are any.
 #[derive(Drop)]
 pub struct Ending<'a> {
     pub outcome: TaskOutcome<'a>,
@@ -36,8 +36,8 @@ impl<'a> Ending<'a> {
         Ending { outcome, why: None }
     }
 
-    /// How a task that read this text ended. If the text was refused, its line is shown with a
-    /// hint; if memory runs out, nothing is shown.
+    /// Returns how a task that read this text ended. If the text was refused, its line is shown
+    /// with a hint; if memory runs out, nothing is shown.
     pub fn of_text(alloc: Global, text: &[u8], outcome: TaskOutcome<'a>) -> Self
         ensures outcome { result.outcome ≡ outcome.entry }
         ensures known { IsKnownOfText text.now result }

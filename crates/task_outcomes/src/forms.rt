@@ -4,7 +4,7 @@ ghost use Rattle.std.specs.Prelude.{◌≡◌, bytes_eq};
 ghost use Rattle.std.specs.List.{list_all};
 ghost use Rattle.task_outcomes.specs.Forms.{front_of, is_text_byte, file_form_by, file_form_of, file_line, stream_line};
 
-/// What a file is, by its first bytes.
+/// Says what a file is, by its first bytes.
 #[derive(Clone, Copy)]
 pub enum FileForm {
     Unknown,
@@ -78,7 +78,7 @@ fn file_form_by(front: &[u8]) -> FileForm
     }
 }
 
-/// What a file with these bytes is.
+/// Returns what a file with these bytes is.
 #[tactic(auto, unfolding(crate::specs::Forms::file_form_of))]
 pub fn file_form_of(bytes: &[u8]) -> FileForm
     ensures { result ≡ file_form_of bytes.now }
@@ -87,7 +87,7 @@ pub fn file_form_of(bytes: &[u8]) -> FileForm
 }
 
 impl FileForm {
-    /// What the file is, and what makes an image of it, in a line.
+    /// Returns what the file is, and what makes an image of it, in a line.
     pub fn line(self) -> &'static str
         ensures { result.now ≡ file_line self }
     {

@@ -18,7 +18,7 @@ use std::rt::{Clock, Files};
 pub struct Watched<'a, R: Files + Clock, S> {
     source: S,
     has_failed: bool,
-    /// How many bytes were read so far.
+    /// Says how many bytes were read so far.
     total: u64,
     screen: Screen<'a, R>,
 }

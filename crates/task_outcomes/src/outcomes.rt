@@ -19,12 +19,12 @@ use std::io;
 use std::io::{ErrorKind, Write};
 use words::WordsError;
 
-/// How messages name standard output.
+/// Names standard output in messages.
 pub const STANDARD_OUTPUT: &str = "standard output";
 
 const USAGE: &str = "usage: xdpvm asm|dis|verify|run|trace|prove|recheck\n";
 
-/// How a task ended. A file or output that failed is named.
+/// Says how a task ended. A file or output that failed is named.
 #[derive(Clone, Copy)]
 pub enum TaskOutcome<'a> {
     Done,
@@ -85,7 +85,7 @@ impl<'a> TaskOutcome<'a> {
         }
     }
 
-    /// Whether it is known that nothing was written to standard output.
+    /// Returns whether it is known that nothing was written to standard output.
     pub(crate) fn is_silent(&self) -> bool
         ensures { result ≡ is_silent self.now }
     {

@@ -113,8 +113,8 @@ fn conflict_at<R: Files>(rt: &R, path: &str, read: &[&str], written: &[&str]) ->
     None
 }
 
-/// How a task ends that must not write to a path: it is a file that the task reads, or another
-/// output of it, or what standard output is.
+/// Returns how a task ends that must not write to a path: it is a file that the task reads, or
+/// another output of it, or what standard output is.
 pub fn keep_apart<'a, R: Files>(
     rt: &R,
     path: &'a str,

@@ -22,7 +22,7 @@ use std::io::Write;
 use table_entries::{TableRefusal, WriteTableError};
 use walks::Refusal;
 
-/// What is refused, and why.
+/// Says what is refused, and why.
 #[derive(Clone, Copy)]
 pub enum Rejection {
     /// The bytes are not an image; their file form is what they look like.

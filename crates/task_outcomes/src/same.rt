@@ -29,7 +29,7 @@ fn numbers_of(file: &Metadata) -> FileNumbers {
     }
 }
 
-/// Whether two paths lead to one file on a disk.
+/// Returns whether two paths lead to one file on a disk.
 pub fn is_same_file<R: Files>(rt: &R, one: &str, other: &str) -> bool {
     match (fs::metadata(rt, one), fs::metadata(rt, other)) {
         (Ok(one), Ok(other)) => one.is_file() && is_one(numbers_of(&one), numbers_of(&other)),
@@ -37,7 +37,7 @@ pub fn is_same_file<R: Files>(rt: &R, one: &str, other: &str) -> bool {
     }
 }
 
-/// Whether a path leads to the pipe that standard output is.
+/// Returns whether a path leads to the pipe that standard output is.
 pub fn is_output_pipe<R: Files>(rt: &R, path: &str) -> bool {
     match (fs::metadata(rt, path), fs::metadata(rt, "/dev/stdout")) {
         (Ok(one), Ok(output)) => {

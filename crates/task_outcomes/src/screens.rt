@@ -7,13 +7,13 @@ use std::fs;
 use std::rt::{Clock, Files};
 use std::time::Instant;
 
-/// What is written before a line so that it replaces the one that is shown.
+/// Makes a line replace the one that is shown, when written before it.
 const CLEARED: &str = "\r\x1b[K";
 
 /// After how many milliseconds something is shown first.
 const FIRST: u128 = 1000;
 
-/// How many milliseconds are between two lines.
+/// Says how many milliseconds are between two lines.
 const NEXT: u128 = 200;
 
 /// Standard error, if it is a terminal, for work that takes over a second. What was shown is
@@ -21,9 +21,9 @@ const NEXT: u128 = 200;
 pub struct Screen<'a, R: Files + Clock> {
     rt: &'a R,
     alloc: Global,
-    /// Whether nothing is shown while standard output is a terminal too.
+    /// Says whether nothing is shown while standard output is a terminal too.
     is_shared: bool,
-    /// When the work began, unless nothing is to be shown.
+    /// The time at which the work began, unless nothing is to be shown.
     start: Option<Instant>,
     /// After how many milliseconds the next line is shown.
     due: u128,
@@ -58,7 +58,7 @@ impl<'a, R: Files + Clock> Screen<'a, R> {
         }
     }
 
-    /// Whether it is time to show something, and it can be shown.
+    /// Returns whether it is time to show something, and it can be shown.
     pub fn is_due(&mut self) -> bool {
         let Some(start) = self.start else {
             return false;

@@ -15,9 +15,9 @@ use image::Image;
 use std::alloc::Global;
 use std::io::Write;
 
-/// How a task ended that ran a program on a frame stream, and wrote the frames out to the file at
-/// the path. The rest of the buffer is written to the file, unless the file has failed before. A
-/// failure of standard output is reported when it is flushed.
+/// Returns how a task ended that ran a program on a frame stream, and wrote the frames out to the
+/// file at the path. The rest of the buffer is written to the file, unless the file has failed
+/// before. A failure of standard output is reported when it is flushed.
 pub fn outcome_of<'a, W: Write + Drop>(
     path: &'a str,
     form: FileForm,

@@ -158,8 +158,8 @@ pub fn assembled<'a, W: Write>(
     }
 }
 
-/// How the task ends if a table was not written to the file at the path: if the program could not
-/// be explored again, writes so.
+/// Returns how the task ends if a table was not written to the file at the path: if the program
+/// could not be explored again, writes so.
 pub fn say_unwritten<'a, W: Write>(
     path: &'a str,
     error: WriteTableError,

@@ -8,8 +8,8 @@ use std::rt::Files;
 /// The number that Linux gives to `/dev/null`: major 1, minor 3.
 const NULL_DEVICE: u64 = 0x103;
 
-/// Whether a path is a terminal. Linux gives consoles and serial lines the major number 4, the
-/// terminal of a process and the system's console 5, and the pseudoterminals 136 to 143.
+/// Returns whether a path is a terminal. Linux gives consoles and serial lines the major number 4,
+/// the terminal of a process and the system's console 5, and the pseudoterminals 136 to 143.
 pub fn is_terminal<R: Files>(rt: &R, path: &str) -> bool {
     match fs::metadata(rt, path) {
         Ok(output) => {
@@ -20,7 +20,7 @@ pub fn is_terminal<R: Files>(rt: &R, path: &str) -> bool {
     }
 }
 
-/// Whether a path is a file on a disk, so that a read of it waits for nobody.
+/// Returns whether a path is a file on a disk, so that a read of it waits for nobody.
 pub fn is_plain_file<R: Files>(rt: &R, path: &str) -> bool {
     match fs::metadata(rt, path) {
         Ok(file) => file.is_file(),
@@ -36,13 +36,13 @@ fn is_null_device<R: Files>(rt: &R, path: &str) -> bool {
     }
 }
 
-/// Whether nobody sees when bytes are written to a path. If the system does not have this path,
-/// somebody may.
+/// Returns whether nobody sees when bytes are written to a path. If the system does not have this
+/// path, somebody may.
 pub fn is_unwatched<R: Files>(rt: &R, path: &str) -> bool {
     is_plain_file(rt, path) || is_null_device(rt, path)
 }
 
-/// Whether a path is a pipe.
+/// Returns whether a path is a pipe.
 pub fn is_pipe<R: Files>(rt: &R, path: &str) -> bool {
     match fs::metadata(rt, path) {
         Ok(output) => output.file_type().is_fifo(),

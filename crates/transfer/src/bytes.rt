@@ -10,7 +10,7 @@ use isa_model::{MapDef, STACK_SIZE};
 use reg_state::Kind;
 use stack_state::{State, frame_bytes};
 
-/// Whether the bytes of a live call frame are written number bytes.
+/// Returns whether the bytes of a live call frame are written number bytes.
 fn are_in_frame(state: &State, frame: u8, offset: i32, count: u32) -> bool
     ensures { IsTrue result ↔ AreInFrame state.now frame offset count }
 {
@@ -23,7 +23,7 @@ fn are_in_frame(state: &State, frame: u8, offset: i32, count: u32) -> bool
     stack.is_bytes(at, count as usize)
 }
 
-/// Whether the bytes are in the packet, wherever the variable part is.
+/// Returns whether the bytes are in the packet, wherever the variable part is.
 pub fn are_in_packet(fixed: i32, least: i32, proved: u32, by: i16, count: u32) -> bool
     ensures { IsTrue result ↔ AreInPacket fixed least proved by count }
 {
@@ -40,7 +40,7 @@ pub fn are_in_packet(fixed: i32, least: i32, proved: u32, by: i16, count: u32) -
     true
 }
 
-/// How many bytes each value of the map has: 0, if no map has the index.
+/// Returns how many bytes each value of the map has: 0, if no map has the index.
 pub fn value_size(maps: &[MapDef], index: u8) -> u32
     ensures { result ≡ value_size (slice_get maps.now index) }
 {
@@ -50,7 +50,7 @@ pub fn value_size(maps: &[MapDef], index: u8) -> u32
     }
 }
 
-/// Whether the bytes are in the map value, wherever between its limits the pointer points.
+/// Returns whether the bytes are in the map value, wherever between its limits the pointer points.
 pub fn are_in_value(value_bytes: u32, least: i32, greatest: i32, by: i16, count: u32) -> bool
     ensures { IsTrue result ↔ AreInValue value_bytes least greatest by count }
 {
@@ -64,7 +64,7 @@ pub fn are_in_value(value_bytes: u32, least: i32, greatest: i32, by: i16, count:
     true
 }
 
-/// Whether the bytes at a pointer are known to be there, and to be number bytes.
+/// Returns whether the bytes at a pointer are known to be there, and to be number bytes.
 pub fn are_known(maps: &[MapDef], state: &State, kind: Kind, count: u32) -> bool
     ensures { IsTrue result ↔ AreKnown maps.now state.now kind count }
 {

@@ -15,8 +15,8 @@ use stack_state::State;
 // The greatest number that names an action.
 const MOST: u32 = 4;
 
-/// Whether known bits or limits show that the low half of each number names an action, if the
-/// version requires that.
+/// Returns whether known bits or limits show that the low half of each number names an action, if
+/// the version requires that.
 fn shows_action(version: Version, numbers: Scalar) -> bool
     ensures { result ≡ shows_action version numbers }
 {
@@ -46,7 +46,7 @@ fn exit_result(version: Version, kind: Kind) -> Result<Ways, Refusal>
     }
 }
 
-/// Whether it points into a call frame, counted from the outermost, 0.
+/// Returns whether it points into a call frame, counted from the outermost, 0.
 fn points_into(kind: Kind, frame: usize) -> bool
     ensures { result ≡ points_into frame kind }
 {

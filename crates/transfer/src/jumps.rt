@@ -15,7 +15,7 @@ use isa_model::{Cond, Operand, destination};
 use reg_state::Kind;
 use stack_state::State;
 
-/// Whether the comparison is defined.
+/// Returns whether the comparison is defined.
 fn is_defined(cond: Cond, state: &State) -> bool
     ensures { IsTrue result ↔ IsDefined (compared_by state.now cond) }
 {
@@ -43,7 +43,7 @@ fn is_untested_operand(state: &State, operand: Operand) -> bool
     }
 }
 
-/// Why a comparison that is not defined is refused.
+/// Returns why a comparison that is not defined is refused.
 fn comparison_refusal(cond: Cond, state: &State) -> Refusal
     ensures { result ≡ comparison_refusal state.now cond }
 {

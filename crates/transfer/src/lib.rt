@@ -30,7 +30,7 @@ use isa_model::Version;
 pub use refusals::Refusal;
 use stack_state::State;
 
-/// How many successors an instruction has.
+/// Says how many successors an instruction has.
 #[derive(Clone, Copy, Drop)]
 pub enum Ways {
     /// It exits, or no member goes on.
@@ -69,7 +69,7 @@ pub fn step(image: &Image, state: &State) -> Result<Successors, Refusal>
     }
 }
 
-/// The same in place. After a refusal the two states may hold anything.
+/// Does what `step` does in place. After a refusal the two states may hold anything.
 pub fn step_in_place(image: &Image, state: &mut State, other: &mut State) -> Result<Ways, Refusal>
     requires { IsSome (fetch image.now state.old.slot) }
     ensures leads { IfOk result (λ ways. LeadsTo image.now state.old ways state.new other.new) }

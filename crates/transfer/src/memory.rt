@@ -14,7 +14,7 @@ use isa_model::{MapDef, SignedSize, Size};
 use reg_state::Kind;
 use stack_state::State;
 
-/// Why there is no access through a base of this kind, where no other test decides.
+/// Returns why there is no access through a base of this kind, where no other test decides.
 fn access_refusal(base: Kind) -> Refusal
     ensures { result ≡ access_refusal base }
 {

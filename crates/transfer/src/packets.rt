@@ -123,7 +123,7 @@ pub fn stored(source: Kind) -> Result<(), Refusal>
     }
 }
 
-/// Whether a value of the kind may be stored.
+/// Returns whether a value of the kind may be stored.
 pub fn packet_store(
     size: Size,
     fixed: i32,
@@ -195,7 +195,8 @@ fn variable_part(fixed: i32, from: i32, to: i32) -> Option<(i32, i32)>
     Some((least, greatest))
 }
 
-/// How many bytes after the variable part are still proved, once its greatest is another one.
+/// Returns how many bytes after the variable part are still proved, once its greatest is another
+/// one.
 fn still_proved(proved: u32, greatest: i32, new_greatest: i32) -> u32
     ensures { StaysProved proved (new_greatest -ℤ greatest) result }
 {

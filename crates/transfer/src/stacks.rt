@@ -56,7 +56,7 @@ fn number(stack: &StackState, at: usize, size: Size) -> Option<Kind>
     }
 }
 
-/// The kind that a load of the bytes puts into its register.
+/// Returns the kind that a load of the bytes puts into its register.
 fn loaded(stack: &StackState, at: usize, size: Size) -> Option<Kind>
     requires inside { at < stack_size }
     requires in_slot { at % 8 + size_bytes size ≤ 8 }
@@ -68,7 +68,7 @@ fn loaded(stack: &StackState, at: usize, size: Size) -> Option<Kind>
     }
 }
 
-/// The same with the sign extended.
+/// Returns the kind that a load of the bytes with the sign extended puts into its register.
 fn loaded_signed(stack: &StackState, at: usize, size: SignedSize) -> Option<Kind>
     requires inside { at < stack_size }
     requires in_slot { at % 8 + size_bytes (unsigned_size size) ≤ 8 }
@@ -136,7 +136,7 @@ fn whole_or(refusal: Refusal, size: Size) -> Option<Refusal>
     }
 }
 
-/// Why a value is not stored in a call frame.
+/// Returns why a value is not stored in a call frame.
 fn store_refusal(state: &State, frame: u8, size: Size, source: Kind) -> Option<Refusal>
     ensures { result ≡ store_refusal state.now frame size source }
 {

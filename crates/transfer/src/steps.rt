@@ -34,7 +34,7 @@ fn is_unset(state: &State, register: Option<Reg>) -> bool
     }
 }
 
-/// Whether a register that an instruction reads may be unset.
+/// Returns whether a register that an instruction reads may be unset.
 pub fn reads_unset(state: &State, insn: &Insn) -> bool
     ensures { result ≡ reads_unset state.now insn.now }
 {
@@ -191,7 +191,7 @@ fn help(maps: &[MapDef], number: i32, state: &mut State) -> Result<Ways, Refusal
 
 // ---- all forms
 
-/// What an instruction does, once the tests of its registers pass.
+/// Returns what an instruction does, once the tests of its registers pass.
 pub fn perform(
     insn: &Insn,
     slots: usize,

@@ -77,7 +77,7 @@ pub fn value_load_signed(
     }
 }
 
-/// Whether a value of the kind may be stored.
+/// Returns whether a value of the kind may be stored.
 pub fn value_store(
     size: Size,
     value_bytes: u32,

@@ -13,7 +13,7 @@ pub fn fill(buffer: &mut [u8], bytes: &[u8]) -> usize
     bytes.len()
 }
 
-/// How many bytes a text has that was written to a buffer as far as there was room.
+/// Says how many bytes a text has that was written to a buffer as far as there was room.
 #[repr(C)]
 #[derive(Clone, Copy, Drop)]
 pub struct TextSize {

@@ -19,7 +19,7 @@ pub const UNDECIDED: u32 = 6;
 /// The map has no such key.
 pub const ABSENT: u32 = 7;
 
-/// Why there is no accepted program.
+/// Says why there is no accepted program.
 #[derive(Clone, Copy)]
 pub enum NotAccepted {
     /// The bytes are no image, or its program is refused.

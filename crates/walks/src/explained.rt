@@ -3,7 +3,7 @@
 use arrayvec::ArrayVec;
 use stack_state::State;
 
-/// How many jumps of a path are kept at most: the last ones.
+/// Says how many jumps of a path are kept at most: the last ones.
 pub const MOST_JUMPS: usize = 8;
 
 /// A step that does not go to the next instruction: its slot and its target.
@@ -13,7 +13,7 @@ pub struct Jump {
     pub to: usize,
 }
 
-/// What is known where a program is refused.
+/// Says what is known where a program is refused.
 #[derive(Drop)]
 pub struct Explanation {
     /// The abstract state in which it is.
@@ -25,7 +25,7 @@ pub struct Explanation {
     pub way: ArrayVec<Jump, 8>,
     /// The slots of all states on the path there, the first one first.
     pub slots: Vec<usize>,
-    /// Whether the limit of look-ups or of stored states was reached: from then on states were not
-    /// compared, and each was explored as a new one.
+    /// Says whether the limit of look-ups or of stored states was reached: from then on states were
+    /// not compared, and each was explored as a new one.
     pub is_cut_off: bool,
 }

@@ -118,8 +118,8 @@ pub fn forget(flow: &Flow<'_>, has_called: bool, state: &mut State)
     }
 }
 
-/// Whether all numbers of a state may be forgotten without a refusal: only plain code follows, and
-/// each live register is a number.
+/// Returns whether all numbers of a state may be forgotten without a refusal: only plain code
+/// follows, and each live register is a number.
 pub fn may_forget_all(flow: &Flow<'_>, state: &State) -> bool
     ensures { IsTrue result ↔ MayForgetAll flow.now state.now }
 {

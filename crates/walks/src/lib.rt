@@ -2,9 +2,9 @@
 //!
 //! `specs/Walks.antt` defines walks, `Counts` the numbers of states and how many instructions are
 //! explored, `Refused` what each refusal says of a program, and `Explained` what an explanation of
-//! it says. The laws in `proofs/` hold for any search that refuses so: plain, determined and guarded
-//! programs are refused only when memory runs out, or where an exit of version 2 is not shown to
-//! answer with an action.
+//! it says. The laws in `proofs/` hold for any search that refuses so: plain, determined and
+//! guarded programs are refused only when memory runs out, or where an exit of version 2 is not
+//! shown to answer with an action.
 #![tactic(auto)]
 
 mod explained;

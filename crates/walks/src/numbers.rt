@@ -62,14 +62,14 @@ pub(crate) fn forget_slots_of(chosen: SlotMask, stack: &mut StackState)
     }
 }
 
-/// Whether it is a number.
+/// Returns whether it is a number.
 fn is_number(kind: &Kind) -> bool
     ensures { IsTrue result ↔ IsNumberKind kind.now }
 {
     matches!(kind, Kind::Number(_))
 }
 
-/// Whether each of these registers is a number. r10 is none.
+/// Returns whether each of these registers is a number. r10 is none.
 pub(crate) fn are_numbers(live: RegisterMask, registers: &[Kind; 10]) -> bool
     ensures { IsTrue result ↔ AreNumberRegisters live registers.now }
 {

@@ -7,7 +7,7 @@ use control_flow::FlowError;
 use std::error::Error;
 use std::fmt;
 
-/// Why a program is refused; each comes with a slot, and the refusal for memory with slot 0.
+/// Says why a program is refused; each comes with a slot, and the refusal for memory with slot 0.
 #[derive(Clone, Copy, PartialEq, Eq, Debug)]
 pub enum Refusal {
     /// Its control flow is not good.
@@ -36,7 +36,7 @@ impl Refusal {
         }
     }
 
-    /// What is wrong, in a sentence.
+    /// Returns what is wrong, in a sentence.
     pub fn sentence(self) -> &'static str
         ensures { result.now ≡ sentence_of self }
     {

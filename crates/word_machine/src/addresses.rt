@@ -45,7 +45,7 @@ pub const FRAME_END: u64 = FIRST_FRAME_REGION * REGION_SIZE + REGION_MIDDLE;
 /// The address of the first byte of the first call frame, the least of all bytes of call frames.
 pub const FRAMES: u64 = FRAME_END - FRAME_BYTES;
 
-/// How many bytes all call frames have.
+/// Says how many bytes all call frames have.
 pub const FRAMES_SIZE: usize = MAX_CALL_FRAMES * STACK_SIZE;
 
 /// The address of a region's offset 0.

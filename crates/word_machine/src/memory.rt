@@ -18,7 +18,8 @@ use isa_model::{MAX_CALL_FRAMES, Size};
 use maps::Maps;
 use std::alloc::{AllocError, Global};
 
-/// What a caller left: its r6 to r9, and the slot to which the exit of the called function leads.
+/// Says what a caller left: its r6 to r9, and the slot to which the exit of the called function
+/// leads.
 #[derive(Clone, Copy)]
 pub struct Saved {
     pub back: usize,
@@ -34,8 +35,8 @@ pub struct Memory {
     pub interface: u32,
     pub queue: u32,
     pub maps: Maps,
-    /// Where the call of a helper keeps a copy of a value, or of a key whose bytes are in a map
-    /// value.
+    /// Says where the call of a helper keeps a copy of a value, or of a key whose bytes are in a
+    /// map value.
     pub room: Room,
 }
 
@@ -175,7 +176,7 @@ pub fn put(size: Size, memory: &mut Memory, packet: &mut [u8], address: u64, num
     }
 }
 
-/// What a load finds at an address: a number in memory, or a field of the context.
+/// Returns what a load finds at an address: a number in memory, or a field of the context.
 #[inline(always)]
 pub fn load(size: Size, memory: &Memory, packet: &[u8], address: u64) -> u64
     requires loads { CanLoad (words_of 0 [] memory.now packet.now 0) size address }

@@ -138,7 +138,7 @@ fn without_tip(alloc: Global, message: String) -> Result<String, AllocError> {
     Ok(message)
 }
 
-/// What clap prints for a command line that it did not accept, or for help or the version.
+/// Returns what clap prints for a command line that it did not accept, or for help or the version.
 pub fn message_of(alloc: Global, error: &clap::Error) -> Result<String, AllocError> {
     let message = format!(in alloc; "{error}")?;
     without_tip(alloc, message)
@@ -157,7 +157,7 @@ fn words_error_of(alloc: Global, error: &clap::Error) -> WordsError
     }
 }
 
-/// What the arguments ask for. The first word is the program's name.
+/// Returns what the arguments ask for. The first word is the program's name.
 pub fn read_words<'a>(alloc: Global, words: &'a [String]) -> Result<Task<'a>, WordsError>
     ensures { AsksFor (map string_bytes words.now) result }
 {

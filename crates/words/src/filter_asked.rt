@@ -129,7 +129,7 @@ fn filter_error_of(alloc: Global, error: &clap::Error) -> FilterWordsError
     }
 }
 
-/// What the arguments of xdpvm_filter ask for. The first word is the program's name.
+/// Returns what the arguments of xdpvm_filter ask for. The first word is the program's name.
 pub fn read_filter_words<'a>(
     alloc: Global,
     words: &'a [String],

@@ -3,7 +3,7 @@
 use super::tasks::{RunPaths, StepLimit};
 use std::alloc::AllocError;
 
-/// What is done with a program before it runs.
+/// Says what is done with a program before it runs.
 #[derive(Clone, Copy)]
 pub enum Judging<'a> {
     /// It is verified.
@@ -28,7 +28,7 @@ pub struct FilterTask<'a> {
     pub report: Option<&'a str>,
 }
 
-/// Why the arguments ask for no run.
+/// Says why the arguments ask for no run.
 #[derive(Drop)]
 pub enum FilterWordsError {
     /// They ask for the help or the version, which this is, in whole lines.

@@ -5,7 +5,7 @@ ghost use Rattle.isa_model.specs.Code.Limits.{max_steps};
 
 use std::alloc::AllocError;
 
-/// What is to be done, and on which files.
+/// Says what is to be done, and on which files.
 #[derive(Clone, Copy)]
 pub enum Task<'a> {
     /// Run a program with checks.
@@ -55,7 +55,7 @@ pub struct TablePaths<'a> {
     pub table: &'a str,
 }
 
-/// Why the arguments ask for nothing.
+/// Says why the arguments ask for nothing.
 #[derive(Drop)]
 pub enum WordsError {
     /// The arguments are invalid, or not UTF-8, or they ask for help or the version. With the

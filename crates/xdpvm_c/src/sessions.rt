@@ -31,8 +31,8 @@ pub extern "C" fn xdpvm_open(alloc: Global, image: &[u8], session: &mut Session)
     open_image(alloc, image, session)
 }
 
-/// The same by a proof table, whoever made it, in place of a search: the session has the bound that
-/// the table shows.
+/// Opens a session on the program of an image that a proof table shows to be safe, whoever made the
+/// table: the session has the bound that the table shows.
 #[unsafe(no_mangle)]
 pub extern "C" fn xdpvm_open_with_table(
     alloc: Global,

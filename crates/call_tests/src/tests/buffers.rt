@@ -1,6 +1,6 @@
 //! What is written to a buffer whose bytes are all 7 at first.
 
-/// Whether a buffer begins with these bytes, and nothing is written right after them.
+/// Returns whether a buffer begins with these bytes, and nothing is written right after them.
 pub fn holds(buffer: &[u8], bytes: &[u8]) -> bool {
     let next = match buffer.get(bytes.len()) {
         Some(next) => *next,

@@ -100,7 +100,7 @@ fn streamed(
     )
 }
 
-/// What is returned, and what is written of the report and of the frames out.
+/// Says what is returned, and what is written of the report and of the frames out.
 type Written = (Returned, &'static [u8], &'static [u8]);
 
 /// An image, a stream, the room for each output, and what is returned, with what is written of the

@@ -26,7 +26,7 @@ fn table(index: usize, byte: u8) -> [u8; 372] {
 /// The status, the bound, and the rule with the entry.
 type Tested = (u32, u32, u32, usize);
 
-/// The same, and the size of the text.
+/// Rechecks the table, and returns what was tested with the size of the text.
 fn rechecked(alloc: Global, image: &[u8], table: &[u8], why: &mut [u8]) -> (Tested, usize) {
     let mut out = Rechecked {
         said: 9,

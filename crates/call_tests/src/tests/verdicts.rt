@@ -141,7 +141,7 @@ impl Holds for Named {
     }
 }
 
-/// Whether the version is written, and nothing after it.
+/// Returns whether the version is written, and nothing after it.
 fn writes_version() -> bool {
     let mut version = [7; 6];
     write_version(&mut version) == 5 && holds(&version, b"0.1.0")

@@ -19,7 +19,7 @@ use crate::steps::Stepped;
 use isa_model::{Helper, MapDef, Reg, Region, TrapReason, Value};
 use maps::{KEY_ROOM, VALUE_ROOM};
 
-/// Where the bytes of a key or a map value are.
+/// Returns the place of the bytes of a key or a map value.
 fn bytes_argument(value: Value) -> Result<(Region, i64), TrapReason>
     ensures { MatchResult result
         (λ at. bytes_argument value ≡ Ok (record { region = at.0; offset = at.1 }))

@@ -17,7 +17,7 @@ impl Core {
         self.slot = destination(self.slot, by, slots);
     }
 
-    /// Whether the test of a conditional jump holds, in a run on a packet of this length.
+    /// Returns whether the test of a conditional jump holds, in a run on a packet of this length.
     fn test(&self, cond: Cond, len: usize) -> Result<bool, TrapReason>
         requires { len < 2 ^ 63 }
         ensures { (packet : List ℕ) → length packet ≡ len

@@ -259,7 +259,7 @@ const RELATIONS: &[Related] = &[
     (Relation::Overlapping, LOW, UNSIGNED_32, EIGHT, Some(((8, 0xffff_fff7), EIGHT))),
 ];
 
-/// What a relation leaves of two sets, where members are read at a width.
+/// Returns what a relation leaves of two sets, where members are read at a width.
 fn related(relation: &Relation, width: Width, a: Bits, b: Bits) -> Option<(Bits, Bits)> {
     match relation {
         Relation::Equal => Domain::equal(a, width, b),

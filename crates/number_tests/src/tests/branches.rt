@@ -76,7 +76,7 @@ fn limits_of(kind: Kind) -> Limits {
     }
 }
 
-/// What is left of a start state with these numbers in r2 and r3.
+/// Returns what is left of a start state with these numbers in r2 and r3.
 fn left_of(cond: Cond, taken: bool, before: &(Limits, Limits)) -> Branch {
     let mut state = State::start();
     state.set_register(Reg::R2, numbers(before.0));

@@ -30,7 +30,7 @@ pub fn set_of(set: &Set) -> Scalar {
     }
 }
 
-/// What a comparison with a number leaves of a set.
+/// Returns what a comparison with a number leaves of a set.
 pub fn refined(
     comparison: Comparison,
     width: Width,
@@ -44,7 +44,7 @@ pub fn refined(
     }
 }
 
-/// What is done to a set.
+/// Says what is done to a set.
 pub enum Change {
     /// An operation with a number.
     Alu(AluOp, Width, u64),
@@ -88,7 +88,7 @@ fn masked(mask: u64) -> Scalar {
     Scalar::alu(AluOp::And, Width::Full64, any, Scalar::constant(mask))
 }
 
-/// What is left after all of the changes.
+/// Returns what is left after all of the changes.
 fn after(set: &Set, changes: &[Change]) -> Option<Scalar> {
     let mut left = set_of(set);
     for change in changes {
@@ -100,7 +100,7 @@ fn after(set: &Set, changes: &[Change]) -> Option<Scalar> {
     Some(left)
 }
 
-/// What is known of a set.
+/// Says what is known of a set.
 pub enum Look {
     /// The least and the greatest number.
     Wide(u64, u64),

@@ -336,7 +336,7 @@ fn ranges_if(sets: Option<(Set, Set)>) -> Option<(Range, Range)> {
     }
 }
 
-/// What a relation leaves of two sets.
+/// Returns what a relation leaves of two sets.
 fn related(relation: &Relation, a: Range, b: Range) -> Option<(Range, Range)> {
     match relation {
         Relation::Equal => Domain::equal(a, FULL, b),

@@ -90,14 +90,14 @@ fn bits_of_results(operation: Operation, value: u64, mask: u64) -> (u64, u64) {
     (all, some)
 }
 
-/// The same from the known bits of the result for the set.
+/// Returns the bits that all results have, and those that some have, by the result for the set.
 fn bits_of_set(operation: Operation, value: u64, mask: u64) -> (u64, u64) {
     let bits = of_set(operation, with_bits(value, mask)).bits;
     (bits.value, bits.value | bits.mask)
 }
 
 impl Holds for Operation {
-    /// Whether as many bits are known as in the results of all members together.
+    /// Returns whether as many bits are known as in the results of all members together.
     fn holds(&self) -> bool {
         for (value, mask) in BITS {
             let wanted = bits_of_results(*self, *value, *mask);
@@ -217,7 +217,7 @@ impl Holds for Divided {
     }
 }
 
-/// Whether the result for each member is a member of the result for the set.
+/// Returns whether the result for each member is a member of the result for the set.
 fn contains_all(op: AluOp, width: Width, limits: (i64, i64), by: i64) -> bool {
     let divisor = Scalar::constant(by.cast_unsigned());
     let found = Scalar::alu(op, width, signed_between(limits.0, limits.1), divisor);
@@ -230,7 +230,7 @@ fn contains_all(op: AluOp, width: Width, limits: (i64, i64), by: i64) -> bool {
     true
 }
 
-/// Whether that is so for sets of small dividends, and each small divisor.
+/// Returns whether that is so for sets of small dividends, and each small divisor.
 fn loses_none(op: AluOp, width: Width) -> bool {
     for least in -9..10 {
         for by in -5..6 {

@@ -16,7 +16,7 @@ const ZERO: Operand = Operand::Constant(0);
 /// r2 compared with r3, or the other way round, and whether the comparison holds.
 type Test = (Comparison, bool, bool);
 
-/// How many bytes each test proves, if the pointer is 14 bytes after its variable part.
+/// Says how many bytes each test proves, if the pointer is 14 bytes after its variable part.
 type Proved = (Test, u32);
 
 const PACKET_TESTS: &[Proved] = &[
@@ -369,8 +369,8 @@ const UNDEFINED: &[Undefined] = &[
     (Comparison::Equal, FULL, ZERO, Held::Unset, Held::Unset),
 ];
 
-/// Whether a comparison is not defined if r2 and r3 hold this, and all copies stay if it holds and
-/// if it does not.
+/// Says whether a comparison is not defined if r2 and r3 hold this, and all copies stay if it holds
+/// and if it does not.
 impl Holds for Undefined {
     fn holds(&self) -> bool {
         let (comparison, width, operand, left, right) = self;

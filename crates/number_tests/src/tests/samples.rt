@@ -5,7 +5,7 @@ use isa_model::Width;
 use reg_state::{Domain, Kind, Scalar};
 use stack_state::{AbstractFrame, MAX_CALLERS, StackSlot, State};
 
-/// What a register or a stack slot holds.
+/// Says what a register or a stack slot holds.
 pub enum Held {
     AnyNumber,
     Number(u64),
@@ -29,7 +29,7 @@ fn kind_of(held: &Held) -> Kind {
     }
 }
 
-/// What is put into a call frame.
+/// Says what is put into a call frame.
 pub enum Put {
     Register(usize, Held),
     Spill(usize, Held),

@@ -211,7 +211,8 @@ const ZERO: Option<Limits> = Some((0, 0));
 
 const ONE: Option<Limits> = Some((1, 1));
 
-/// What both domains leave together; the tests of each domain have what it leaves by itself.
+/// The pairs that both domains narrow together; the tests of each domain have what it leaves by
+/// itself.
 const NARROWINGS: &[Narrowing] = &[
     (Comparison::Less, true, BIT, 1, ZERO),
     (Comparison::LessEqual, true, BIT, 0, ZERO),

@@ -62,7 +62,7 @@ impl Holds for Written {
     }
 }
 
-/// Whether each old number with the bits of each new one is a member of the result.
+/// Returns whether each old number with the bits of each new one is a member of the result.
 fn contains_all(old: Limits, part: Part, new: Limits) -> bool {
     let found = written(between(old), part, between(new));
     for number in old.0..=old.1 {

@@ -21,7 +21,8 @@ fn numbers_of(numbers: &Numbers) -> Scalar {
     }
 }
 
-/// What a stack slot holds. Pointers to a map or a map value, and look-ups, have the map's index.
+/// Says what a stack slot holds. Pointers to a map or a map value, and look-ups, have the map's
+/// index.
 enum Held {
     Unset,
     Context,
@@ -51,7 +52,7 @@ fn kind_of(held: &Held) -> Kind {
     }
 }
 
-/// What is done to a call frame.
+/// Says what is done to a call frame.
 enum Act {
     Spill(usize, Held),
     Store(usize, Size),
@@ -88,7 +89,7 @@ fn after(acts: &[Act]) -> StackState {
     stack
 }
 
-/// What is looked at in a call frame, and what is wanted there.
+/// Says what is looked at in a call frame, and what is wanted there.
 enum Look {
     /// The bytes of a stack slot that are written, if no kind is known of it.
     Written(usize, u8),
@@ -122,7 +123,7 @@ fn is_shown(stack: &StackState, look: &Look) -> bool {
     }
 }
 
-/// What is done to a call frame, and what is then known of it.
+/// Says what is done to a call frame, and what is then known of it.
 type Row = (&'static [Act], &'static [Look]);
 
 impl Holds for Row {
@@ -138,7 +139,7 @@ impl Holds for Row {
     }
 }
 
-/// Which bytes of stack slot 2 are written after a store.
+/// Tests which bytes of stack slot 2 are written after a store.
 #[rattlefmt::skip]
 const STORES: &[Row] = &[
     (&[Act::Store(16, Size::U8)], &[Look::Written(2, 0x01)]),

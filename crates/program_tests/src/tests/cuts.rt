@@ -9,7 +9,7 @@ const WIDE: [u8; 16] = [
     0x18, 0x01, 0, 0, 0x08, 0x07, 0x06, 0x05, 0, 0, 0, 0, 0x04, 0x03, 0x02, 0x01,
 ];
 
-/// Why the first bytes are not an instruction, if they are not.
+/// Returns why the first bytes are not an instruction, if they are not.
 fn refusal_of(length: usize) -> Option<CodecError> {
     match WIDE.get(..length) {
         Some(bytes) => decode(bytes).err(),

@@ -21,7 +21,7 @@ const JOINS: &[(usize, bool)] = &[
 /// The function at slot 4 never returns.
 const WITH_JOINS: &str = "call pc+3; if r0 == 0 goto -2; goto +0; exit; gotol -1";
 
-/// Whether this is so of a slot, if control flow is not refused.
+/// Returns whether this is so of a slot, if control flow is not refused.
 fn is_join(alloc: Global, image: &Image, slot: usize, wanted: bool) -> bool {
     match Flow::of(alloc, image) {
         Ok(flow) => flow.is_join(slot) == wanted,
@@ -50,7 +50,7 @@ fn is_live(live: RegisterMask, number: u8) -> bool {
     }
 }
 
-/// Whether the registers of a mask are these and no others.
+/// Returns whether the registers of a mask are these and no others.
 fn are_live(live: RegisterMask, numbers: &[u8]) -> bool {
     for number in 0..Reg::COUNT as u8 {
         if is_live(live, number) != numbers.contains(&number) {
@@ -94,7 +94,8 @@ const LIVE: &[Live] = &[
     (ASKS, usize::MAX, &[]),
 ];
 
-/// Whether these registers are live at a slot, and no others, if control flow is not refused.
+/// Returns whether these registers are live at a slot, and no others, if control flow is not
+/// refused.
 fn are_live_at(alloc: Global, image: &Image, slot: usize, numbers: &[u8]) -> bool {
     match Flow::of(alloc, image) {
         Ok(flow) => are_live(flow.live(slot), numbers),

@@ -3,8 +3,8 @@
 use super::rows::holds_at;
 use lexer::{Lexeme, Sign, Token, Word, lexeme_at};
 
-/// What the text begins with, and how long that is; or "none", and the offset of the byte at which
-/// no token begins.
+/// Returns what the text begins with, and how long that is; or "none", and the offset of the byte
+/// at which no token begins.
 fn front_of(text: &[u8]) -> (&'static str, usize) {
     match lexeme_at(text) {
         Ok((Lexeme::Blank, length)) => ("blank", length),

@@ -26,7 +26,7 @@ const WRITTEN: &[(&str, bool, &[u8])] = &[
     ),
 ];
 
-/// Why writing fails, if it does.
+/// Returns why writing fails, if it does.
 fn failure_of(image: &Image, is_text: bool, mut out: &mut [u8]) -> Option<ErrorKind> {
     let written = if is_text {
         disassemble(image, &mut out)
@@ -39,7 +39,7 @@ fn failure_of(image: &Image, is_text: bool, mut out: &mut [u8]) -> Option<ErrorK
     }
 }
 
-/// Whether an output gets as many bytes as it has room for, and its failure is returned.
+/// Returns whether an output gets as many bytes as it has room for, and its failure is returned.
 fn is_front(image: &Image, is_text: bool, whole: &[u8], room: usize) -> bool {
     let mut taken = [0; 99];
     let failure = match taken.get_mut(..room) {

@@ -26,7 +26,7 @@ const HEAD: FrameHead = FrameHead {
     queue: 0,
 };
 
-/// Whether a run of a program on an empty packet ends so with that clock.
+/// Returns whether a run of a program on an empty packet ends so with that clock.
 fn ends_so(alloc: Global, text: &str, wanted: End) -> bool {
     let Some(image) = image_of(alloc, text) else {
         return false;

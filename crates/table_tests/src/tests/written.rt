@@ -37,7 +37,7 @@ fn written(alloc: Global, verified: &Verified) -> Option<Vec<u8>> {
     }
 }
 
-/// How a writer fails, and the cause that is reported.
+/// The ways in which a writer fails, each with the cause that is reported.
 const FAILURES: &[(Failure, ErrorKind)] = &[
     (Failure::Error(ErrorKind::BrokenPipe), ErrorKind::BrokenPipe),
     (
@@ -47,14 +47,15 @@ const FAILURES: &[(Failure, ErrorKind)] = &[
     (Failure::Nothing, ErrorKind::WriteZero),
 ];
 
-/// How many bytes are written before the failure: none, a part of the head, the head, a part of
-/// entry 0, and all but the last byte.
+/// Says how many bytes are written before the failure: none, a part of the head, the head, a part
+/// of entry 0, and all but the last byte.
 const ROOMS: &[usize] = &[0, 5, 8, 100, 371];
 
 /// A writer that fails after `room` bytes.
 type Failing = (usize, Failure, ErrorKind);
 
-/// Whether the cause is reported, and the writer takes the bytes of the table before its failure.
+/// Returns whether the cause is reported, and the writer takes the bytes of the table before its
+/// failure.
 fn is_cut(alloc: Global, verified: &Verified, table: &[u8], how: Failing) -> bool {
     let (room, failing, kind) = how;
     let mut writer = Writer::new(alloc, 7, room, Some(failing));

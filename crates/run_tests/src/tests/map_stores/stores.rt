@@ -11,7 +11,8 @@ fn put(chained: &mut HashMapChain, number: u32) -> u64 {
     answer(chained, &number.to_be_bytes(), &value, Some(0))
 }
 
-/// Whether a number is a key with itself as the value, its delete is done, and it is gone then.
+/// Returns whether a number is a key with itself as the value, its delete is done, and it is gone
+/// then.
 fn is_deleted(chained: &mut HashMapChain, number: u32) -> bool {
     let key = number.to_be_bytes();
     let value = u64::from(number).to_le_bytes();
@@ -20,7 +21,7 @@ fn is_deleted(chained: &mut HashMapChain, number: u32) -> bool {
         && value_of(chained, &key).is_none()
 }
 
-/// How many of the numbers below 65,536 are added, one after another.
+/// Returns how many of the numbers below 65,536 are added, one after another.
 fn count_added(chained: &mut HashMapChain) -> usize {
     for number in 0..65_536u32 {
         if put(chained, number) != 0 {
@@ -30,7 +31,7 @@ fn count_added(chained: &mut HashMapChain) -> usize {
     65_536
 }
 
-/// How many of them are deleted.
+/// Returns how many of them are deleted.
 fn count_deleted(chained: &mut HashMapChain) -> usize {
     for number in 0..65_536u32 {
         if !is_deleted(chained, number) {
@@ -40,7 +41,8 @@ fn count_deleted(chained: &mut HashMapChain) -> usize {
     65_536
 }
 
-/// What is counted, and whether one more key finds no room before, and is added and deleted after.
+/// Returns what is counted, and whether one more key finds no room before, and is added and deleted
+/// after.
 fn filled_and_emptied(chained: &mut HashMapChain) -> (usize, usize, bool) {
     let added = count_added(chained);
     let is_full = put(chained, 65_536) == E2BIG;

@@ -8,8 +8,8 @@ use std::io::Write;
 
 const TEXT: &[u8; 7] = b"letters";
 
-/// Whether writing the text succeeds, with a flush after it or without one, or `None` if memory is
-/// out.
+/// Returns whether writing the text succeeds, with a flush after it or without one, or `None` if
+/// memory is out.
 fn written_to(alloc: Global, writer: &mut Writer, is_flushed: bool) -> Option<bool> {
     match PromptWriter::new(alloc, 16, 3, writer) {
         Ok(mut prompt) => {
@@ -20,7 +20,7 @@ fn written_to(alloc: Global, writer: &mut Writer, is_flushed: bool) -> Option<bo
     }
 }
 
-/// How many bytes move at a call, whether a flush follows, and how many bytes are written.
+/// Says how many bytes move at a call, whether a flush follows, and how many bytes are written.
 const WAITS: &[(usize, bool, usize)] = &[
     (1, false, 3),
     (1, true, 7),
@@ -32,7 +32,7 @@ const WAITS: &[(usize, bool, usize)] = &[
     (7, true, 7),
 ];
 
-/// Whether that many bytes are written to a writer, and writing succeeds or not.
+/// Returns whether that many bytes are written to a writer, and writing succeeds or not.
 fn is_written(alloc: Global, writer: Writer, is_flushed: bool, wanted: (bool, usize)) -> bool {
     let mut writer = writer;
     written_to(alloc, &mut writer, is_flushed) == Some(wanted.0)

@@ -36,12 +36,12 @@ pub const TAKES_ALL: Output = (0, None);
 #[derive(Drop)]
 pub struct Case<'a> {
     pub text: &'a str,
-    /// Whether the program is run with checks, and at most 100 steps; or else it is verified.
+    /// Says whether the program is run with checks, and at most 100 steps; or else it is verified.
     pub is_checked: bool,
     pub given: &'a [u8],
-    /// Whether a read fails after the last byte.
+    /// Says whether a read fails after the last byte.
     pub is_broken: bool,
-    /// How the outputs fail to which the report and the frames out are written.
+    /// The outputs for the report and the frames out, and how they fail.
     pub report: Output,
     pub out: Output,
     pub ended: Result<Tally, HostError>,
@@ -96,7 +96,8 @@ fn verifies_so(alloc: Global, image: Image, case: &Case<'_>) -> bool {
     }
 }
 
-/// Whether the result, the report and the frames out of a case's program are those of the case.
+/// Returns whether the result, the report and the frames out of a case's program are those of the
+/// case.
 pub fn ends_so(alloc: Global, case: &Case<'_>) -> bool {
     match image_of(alloc, case.text) {
         Some(image) if case.is_checked => checks_so(alloc, image, case),

@@ -8,10 +8,10 @@ use std::io::ErrorKind;
 
 const TEXT: &[u8; 7] = b"letters";
 
-/// How many bytes move at a call.
+/// Says how many bytes move at a call.
 const CHUNKS: &[usize] = &[1, 2, 3, 7];
 
-/// Why writing fails, if it does.
+/// Returns why writing fails, if it does.
 fn failure_of_writing(writer: &mut Writer, bytes: &[u8]) -> Option<ErrorKind> {
     match write_bytes(writer, bytes) {
         Ok(()) => None,
@@ -19,7 +19,7 @@ fn failure_of_writing(writer: &mut Writer, bytes: &[u8]) -> Option<ErrorKind> {
     }
 }
 
-/// How a failure after that many bytes is reported, if there are more.
+/// Returns how a failure after that many bytes is reported, if there are more.
 fn reported(room: usize, failing: Failure) -> Option<ErrorKind> {
     match failing {
         _ if room >= 7 => None,
@@ -28,7 +28,7 @@ fn reported(room: usize, failing: Failure) -> Option<ErrorKind> {
     }
 }
 
-/// Whether writing fails so, and the bytes before the failure are written.
+/// Returns whether writing fails so, and the bytes before the failure are written.
 fn fails_in_writing(alloc: Global, chunk: usize, room: usize, failing: Failure) -> bool {
     let mut writer = Writer::new(alloc, chunk, room, Some(failing));
     let failure = failure_of_writing(&mut writer, TEXT);
