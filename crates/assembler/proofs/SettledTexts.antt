@@ -293,6 +293,3 @@ pub stays-within : (m : ℕ) (s : ReadSoFar) (x : Lexeme) (span : TokenSpan) (t 
     → BeginsWithin m t.spans
 stays-within m s x span t h g accepted =
     subst (IsWithin m) accepted (accept-within m s x span h g)
-
-pub begins_nowhere : (m : ℕ) → BeginsWithin m start.spans
-begins_nowhere m = no_tokens m

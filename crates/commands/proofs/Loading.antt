@@ -146,11 +146,6 @@ pub shows_unloaded : (files : TableFiles) (old new : Option (List ℕ)) (o : Tas
     → LoadsNone files.image old new o → r.outcome ≡ o → r.why ≡ None → ShowsNone files old new r
 shows_unloaded files old new o r h same none = inl (unloaded files.image old new o r h same none)
 
-pub shows_unread : (files : TableFiles) (old new : Option (List ℕ)) (p : Program) (o : TaskOutcome)
-    (r : Ending) → new ≡ old → IsImage p → IsReadFailure files.table o → r.outcome ≡ o
-    → r.why ≡ None → ShowsNone files old new r
-shows_unread files old new p o r e h failed same none = inr (p, h, inl ((rw same failed, e), none))
-
 shows_refused : (files : TableFiles) (old mid new : Option (List ℕ)) (p : Program) (bytes : List ℕ)
     (r : Ending) → mid ≡ old → IsImage p → RefusesTable p bytes mid new r.outcome
     → IsKnownOfTable p bytes r → ShowsNone files old new r

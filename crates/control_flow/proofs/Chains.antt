@@ -1,10 +1,10 @@
 -- The jumps to each slot, as chains: what the loop that links them keeps, and what following a
 -- chain finds.
-use Rattle.std.proofs.Common.{◌≡◌, ℕ, ◌+◌, ◌<◌, ◌≤◌, Bool, List, [], ◌∷◌, ◌++◌, length, get_or, set, replicate, Option, Some, None, refl, sym, ap, ◌∙◌, subst, arith, inl, inr}
+use Rattle.std.proofs.Common.{◌≡◌, ℕ, ◌+◌, ◌<◌, ◌≤◌, Bool, List, [], ◌∷◌, ◌++◌, length, get_or, set, Option, Some, None, sym, ap, ◌∙◌, subst, arith, inl, inr}
 use Rattle.std.specs.Prelude.{◌↔◌, ◌⊎◌}
 use Rattle.std.proofs.lemmas.Bool.{cases_lt, cases_eq, cases_order}
 use Rattle.std.proofs.lemmas.Option.{same_Some}
-use Rattle.std.proofs.lemmas.List.{get_or-set_same, get_or-set_other, length-set, length-replicate, length-append, get_or-replicate}
+use Rattle.std.proofs.lemmas.List.{get_or-set_same, get_or-set_other, length-set, length-append}
 use Rattle.std.proofs.Math.ListN.{get_or-append}
 use Rattle.std.proofs.Math.Seq.{get_or-append_seam}
 use Rattle.control_flow.specs.declared.nodes.Node.{Node}
@@ -60,17 +60,6 @@ pub record SourcesBelow (nodes : List Node) (n : ℕ)
   pub last : (to : ℕ) → to < length nodes → IsLastBelow (HasJump nodes to) n (get_or latest to None)
   pub before : (slot to : ℕ) → slot < n → HasJump nodes to slot
       → IsLastBelow (HasJump nodes to) slot (get_or earlier slot None)
-
-pub sources_none : (nodes : List Node) → SourcesBelow nodes 0 (replicate (length nodes) None) []
-sources_none nodes = record {
-  as_many = length-replicate (length nodes) None;
-  as_many_earlier = refl;
-  last =
-      λ to inside.
-      subst (IsLastBelow (HasJump nodes to) 0)
-      (sym (get_or-replicate (length nodes) to None None inside)) (λ k below h. omega arith);
-  before = λ slot to below h. absurd (omega arith);
-}
 
 -- the chains of the slots below n, with one more link
 linked : (nodes : List Node) (n : ℕ) (latest earlier : List (Option ℕ)) (link : Option ℕ)

@@ -1,20 +1,19 @@
 -- What a loop from the last slot to the first marks: the slots from which only plain code follows.
-use Rattle.std.proofs.Common.{◌≡◌, ℕ, ◌+◌, ◌<◌, ◌≤◌, Bool, true, false, not, nat_lt, List, length, get_or, set, replicate, Option, Some, None, refl, sym, ap, ◌∙◌, subst, arith, inl, inr}
+use Rattle.std.proofs.Common.{◌≡◌, ℕ, ◌+◌, ◌<◌, ◌≤◌, Bool, true, false, not, nat_lt, List, length, get_or, replicate, Option, Some, None, refl, sym, ◌∙◌, subst, arith, inl, inr}
 use Rattle.std.specs.Prelude.{◌↔◌, ◌≢◌, IsTrue}
-use Rattle.std.proofs.lemmas.Bool.{cases_lt, cases_eq, not-true, not_from_false, ltb-true, lt-ltb}
+use Rattle.std.proofs.lemmas.Bool.{cases_lt, not-true, not_from_false, ltb-true, lt-ltb}
 use Rattle.std.proofs.lemmas.Option.{same_Some}
-use Rattle.std.proofs.lemmas.List.{get_or-set_same, get_or-set_other, length-set, length-replicate, get_or-replicate, get_or_past}
+use Rattle.std.proofs.lemmas.List.{length-replicate, get_or-replicate, get_or_past}
 use Rattle.isa_model.specs.declared.registers.Reg.{Reg}
 use Rattle.isa_model.specs.declared.registers.Reg.TheVariants.{R10}
 use Rattle.isa_model.specs.declared.versions.Version.TheVariants.{One}
 use Rattle.isa_model.specs.declared.instructions.Insn.{Insn}
 use Rattle.isa_model.specs.Code.Instructions.{Program, fetch, writes, is_frame_pointer}
-use Rattle.isa_model.specs.Code.Versions.{version_number}
 use Rattle.isa_model.specs.MustAccept.Paths.{IsPlainForm}
 use Rattle.control_flow.specs.Graph.{fall_to, jump_to}
 use Rattle.control_flow.specs.Liveness.{GoesTo}
 use Rattle.control_flow.specs.Endings.{EndsPlainly, Ends}
-use Rattle.control_flow.specs.Flows.{IsMarked, MarksEndings}
+use Rattle.control_flow.specs.Flows.{IsMarked}
 use Rattle.control_flow.proofs.FlowLaws.{BeginsInsn-inside, fetch-BeginsInsn}
 
 -- ---- one slot
@@ -157,43 +156,3 @@ last_none p n is = record {
     λ e. let inside = end_inside p k e in absurd (omega arith),
   );
 }
-
--- the slot before them
-pub last_more : (p : Program) (count slot : ℕ) (marks : List Bool) (b : Bool)
-    → slot + 1 + count ≡ length p.insns → IsTrue b ↔ EndsPlainly p slot → MarksLast p count marks
-    → MarksLast p (count + 1) (set marks slot b)
-last_more p count slot marks b at here last =
-    let inside : slot < length marks = omega (arith, at, last.same) in
-    record {
-      same = length-set marks slot b ∙ last.same;
-      right = λ k within. elim (cases_eq k slot) [
-        | inl e ↦
-            let is : get_or (set marks slot b) slot false ≡ b =
-            get_or-set_same marks slot b false inside in
-            subst (λ (n : ℕ). IsMarked (set marks slot b) n ↔ EndsPlainly p n) (sym e)
-            (λ h. here.0 (sym is ∙ h), λ h. is ∙ here.1 h)
-        | inr other ↦
-            let is : get_or (set marks slot b) k false ≡ get_or marks k false =
-            get_or-set_other marks slot k b false other in
-            let old = last.right k (omega (arith, at, within)) in
-            (λ h. old.0 (sym is ∙ h), λ h. is ∙ old.1 h)
-      ];
-    }
-
-pub last_after : (p : Program) (count slot : ℕ) (marks : List Bool)
-    → slot + 1 + count ≡ length p.insns → MarksLast p count marks → IsRightAfter p marks slot
-last_after p count slot marks at last = λ k later. last.right k (omega (arith, at, later))
-
-pub last_all : (p : Program) (count : ℕ) (marks : List Bool) → length p.insns ≤ count
-    → MarksLast p count marks → MarksEndings p marks
-last_all p count marks all last = λ slot. last.right slot (omega (arith, all))
-
--- a program of version 2 has none
-pub last_version : (p : Program) (n : ℕ) → version_number p.version ≢ 1
-    → MarksEndings p (replicate n false)
-last_version p n other = λ slot. (
-  λ h. absurd (unmarked n slot h),
-  λ e. absurd (of slot e),
-) where
-  of : (slot : ℕ) → EndsPlainly p slot → ⊥
-  of slot (Ends _ i one here form keeps later on) = other (ap version_number one)

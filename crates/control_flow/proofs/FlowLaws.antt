@@ -13,7 +13,7 @@ use Rattle.control_flow.specs.declared.errors.FlowError.{FlowError}
 use Rattle.control_flow.specs.declared.errors.FlowError.TheVariants.{TargetOutside, SecondHalf, OtherFunction, FallsOff, Unreachable, Memory}
 use Rattle.control_flow.specs.Graph.{call_distance, BeginsInsn, jump_to, call_to, slot_behind, fall_to, HasEdge, Falls, Jumps, Calls}
 use Rattle.control_flow.specs.Functions.{SameFunction, EndsFunction}
-use Rattle.control_flow.specs.Flows.{IsFlow, IsJoin, HasTarget, Fails, test_rank, IsFirst}
+use Rattle.control_flow.specs.Flows.{IsFlow, HasTarget, Fails, IsFirst}
 
 -- ---- slots at which instructions begin
 
@@ -137,16 +137,6 @@ pub IsFlow-fall : (p : Program) (slot : ℕ) (i : Insn) → IsFlow p → fetch p
 IsFlow-fall p slot i flow e h =
     (flow.falls slot (slot + slots_filled i) (fall_to-insn p slot i e h)).0
 
--- an instruction begins where a jump leads, and that is a join
-pub IsFlow-jump : (p : Program) (slot : ℕ) (i : Insn) (by : ℤ) → IsFlow p → fetch p slot ≡ Some i
-    → jump_distance i ≡ Some by → BeginsInsn p (destination p slot by)
-IsFlow-jump p slot i by flow e d =
-    (flow.jumps slot (destination p slot by) (jump_to-insn p slot i by e d)).0
-
-pub IsJoin-jump : (p : Program) (slot : ℕ) (i : Insn) (by : ℤ) → fetch p slot ≡ Some i
-    → jump_distance i ≡ Some by → IsJoin p (destination p slot by)
-IsJoin-jump p slot i by e d = (slot, jump_to-insn p slot i by e d)
-
 -- an instruction begins where a call leads
 pub IsFlow-call : (p : Program) (slot : ℕ) (i : Insn) (by : ℤ) → IsFlow p → fetch p slot ≡ Some i
     → call_distance i ≡ Some by → BeginsInsn p (destination p slot by)
@@ -214,32 +204,10 @@ IsFlow-Fails p Memory slot flow h = h
 
 -- ---- the first test that fails
 
--- no two tests have the same rank
-test_rank-same : (d e : FlowError) → test_rank d ≡ test_rank e → d ≡ e
-test_rank-same TargetOutside TargetOutside h = refl
-test_rank-same SecondHalf SecondHalf h = refl
-test_rank-same OtherFunction OtherFunction h = refl
-test_rank-same FallsOff FallsOff h = refl
-test_rank-same Unreachable Unreachable h = refl
-test_rank-same Memory Memory h = refl
-test_rank-same d e h = absurd (omega (arith, h))
-
 same_slot : (p : Program) (e : FlowError) (j k : ℕ) → IsFirst p e j → IsFirst p e k → j ≡ k
 same_slot p e j k x y =
     elim (cases_order j k) [
       | inl same ↦ same
       | inr (inl below) ↦ absurd (y.lowest j below x.fails)
       | inr (inr above) ↦ absurd (x.lowest k above y.fails)
-    ]
-
--- there is one first refusal at most
-pub IsFirst-same : (p : Program) (d e : FlowError) (j k : ℕ) → IsFirst p d j → IsFirst p e k
-    → (d ≡ e) × (j ≡ k)
-IsFirst-same p d e j k x y =
-    elim (cases_order (test_rank d) (test_rank e)) [
-      | inl same ↦
-          let one : d ≡ e = test_rank-same d e same in
-          (one, same_slot p e j k (subst (λ (t : FlowError). IsFirst p t j) one x) y)
-      | inr (inl early) ↦ absurd (y.first d j early x.fails)
-      | inr (inr late) ↦ absurd (x.first e k late y.fails)
     ]

@@ -1,6 +1,6 @@
 -- The functions of slots: what the loop that finds them keeps, and that two slots have different
 -- functions exactly where one begins between them.
-use Rattle.std.proofs.Common.{◌≡◌, ℕ, ◌+◌, ◌<◌, ◌≤◌, Bool, not, nat_eq, List, [], ◌∷◌, ◌++◌, length, get_or, refl, sym, ap, ◌∙◌, subst, arith, inl, inr}
+use Rattle.std.proofs.Common.{◌≡◌, ℕ, ◌+◌, ◌<◌, ◌≤◌, Bool, not, nat_eq, List, [], ◌∷◌, ◌++◌, length, get_or, sym, ap, ◌∙◌, subst, arith, inl, inr}
 use Rattle.std.specs.Prelude.{◌↔◌, IsTrue}
 use Rattle.std.proofs.lemmas.Bool.{cases_lt, eqb-false, ne_eqb, not-true, not_from_false}
 use Rattle.std.proofs.lemmas.List.{length-append}
@@ -8,7 +8,7 @@ use Rattle.std.proofs.Math.ListN.{get_or-append}
 use Rattle.std.proofs.Math.Seq.{get_or-append_seam}
 use Rattle.isa_model.specs.Code.Instructions.{Program}
 use Rattle.control_flow.specs.Graph.{call_to, Calls}
-use Rattle.control_flow.specs.Functions.{BeginsFunction, SameFunction, IsFunctionOf, MarksFunctions, HasFunctions}
+use Rattle.control_flow.specs.Functions.{BeginsFunction, SameFunction, IsFunctionOf, MarksFunctions}
 use Rattle.control_flow.proofs.FlowLaws.{HasEdge-inside}
 use Rattle.control_flow.proofs.MarkLemmas.{MarksBelow}
 
@@ -38,15 +38,6 @@ pub record FunctionsBelow (p : Program) (n : ℕ) (functions : List ℕ) (functi
   pub begins : BeginsFunction p function
   pub before : function ≤ n
   pub last : (g : ℕ) → BeginsFunction p g → g < n → g ≤ function
-
-pub functions_none : (p : Program) → FunctionsBelow p 0 [] 0
-functions_none p = record {
-  same = refl;
-  each = λ slot lt. absurd (omega arith);
-  begins = inl refl;
-  before = omega arith;
-  last = λ g b lt. absurd (omega arith);
-}
 
 pushed : (p : Program) (n : ℕ) (functions : List ℕ) (function : ℕ) → length functions ≡ n
     → ((slot : ℕ) → slot < n → IsFunctionOf p slot (get_or functions slot 0))
@@ -93,13 +84,6 @@ functions_more_old p n functions function none m =
         | inr up ↦ let e : g ≡ n = omega arith in absurd (none (subst (BeginsFunction p) e b))
       ];
     })
-
-pub HasFunctions-below : (p : Program) (n : ℕ) (functions : List ℕ) (function : ℕ)
-    → n ≡ length p.insns → FunctionsBelow p n functions function → HasFunctions p functions
-HasFunctions-below p n functions function all m = record {
-  same = m.same ∙ all;
-  each = λ slot lt. m.each slot (omega (arith, all));
-}
 
 -- ---- functions apart
 

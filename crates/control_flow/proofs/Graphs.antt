@@ -189,9 +189,6 @@ pushed (z ∷ zs) y zero x e = inl e
 pushed (z ∷ zs) y (suc k) x e =
     elim (pushed zs y k x e) [ inl h ↦ inl h | inr h ↦ inr (omega (arith, h.0), h.1) ]
 
-pub nodes_none : (Shows : ℕ → Node → Type 0) → NodesBelow Shows 0 []
-nodes_none Shows = record { same = refl; each = λ slot node e. absurd cc }
-
 pub nodes_more : (Shows : ℕ → Node → Type 0) (n : ℕ) (nodes : List Node) (node : Node)
     → Shows n node → NodesBelow Shows n nodes → NodesBelow Shows (n + 1) (nodes ++ node ∷ [])
 nodes_more Shows n nodes node is m = record {

@@ -70,35 +70,6 @@ new-IsMarked n k h =
           absurd cc
     ]
 
-pub marks_none : (target : ℕ → Option ℕ) (n : ℕ)
-    → MarksBelow (λ k. ⊥) target n 0 (replicate n false)
-marks_none target n = record {
-  same = length-replicate n false;
-  found = λ k h. absurd (new-IsMarked n k h);
-  marked =
-      λ k h. elim h
-      [ inl no_start ↦ absurd no_start | inr w ↦ absurd (let low = w.1 in omega arith) ];
-}
-
--- a first slot is marked
-pub marks_first : (target : ℕ → Option ℕ) (size : ℕ) (first : ℕ) (marks : List Bool) → first < size
-    → MarksBelow (λ k. ⊥) target size 0 marks
-    → MarksBelow (λ k. k ≡ first) target size 0 (set marks first true)
-marks_first target size first marks inside m =
-    let lt : first < length marks = omega (arith, m.same) in record {
-      same = length-set marks first true ∙ m.same;
-      found = λ k h. elim (IsMarked-set marks first k lt h) [
-        | inl old ↦ elim (m.found k old) [ inl no_start ↦ absurd no_start | inr w ↦ inr w ]
-        | inr e ↦ inl (sym e)
-      ];
-      marked = λ k h. elim h [
-        | inl e ↦
-            subst (λ (i : ℕ). IsMarked (set marks first true) i) (sym e)
-            (set-IsMarked_here marks first lt)
-        | inr w ↦ absurd (let low = w.1 in omega arith)
-      ];
-    }
-
 -- the next slot leads nowhere
 pub marks_more_none : (Start : ℕ → Type 0) (target : ℕ → Option ℕ) (size n : ℕ) (marks : List Bool)
     → None ≡ target n → MarksBelow Start target size n marks

@@ -122,26 +122,6 @@ IsMaskUpdate nodes n node masks before mask =
     (slice_get nodes n ≡ Some node) × ((r : Home) → HasHome before r ↔ IsWantedBefore masks node r)
     × ((r : Home) → HasHome mask r ↔ (HasHome (mask_at masks n) r ⊎ HasHome before r))
 
--- the mask of the slot stays
-pub mask_kept : (nodes : List Node) (n : ℕ) (node : Node) (masks : List HomeMask)
-    (before mask : HomeMask) → IsMaskUpdate nodes n node masks before mask
-    → mask ≡ mask_at masks n → AddsAt nodes n masks masks false
-mask_kept nodes n node masks before mask (here, adds, both) stays =
-    record {
-      same = refl;
-      sound = λ sound. sound;
-      kept = λ r h. h;
-      added = λ x there r wanted.
-          let one : x ≡ node = same_Some x node (sym there ∙ here) in
-          let has : HasHome mask r =
-          (both r).1
-          (inr ((adds r).1 (subst (λ (y : Node). IsWantedBefore masks y r) one wanted))) in
-          subst (λ x. HasHome x r) stays has;
-      others = λ k apart. refl;
-      still = λ e. refl;
-      less = λ e. absurd cc;
-    }
-
 -- masks that a test tells apart
 pub masks_apart : (a b : HomeMask)
     → (eqb a.registers.bits b.registers.bits && eqb a.slots.bits b.slots.bits) ≡ false → a ≡ b → ⊥

@@ -1,5 +1,5 @@
 -- The byte and the stack slot of a call frame at a place, by what `byte_of` returns of it.
-use Rattle.std.proofs.Common.{◌≡◌, ℕ, ◌*◌, ◌/◌, ◌%◌, ◌<◌, Option, Some, None, sym, ap, ◌∙◌, arith, inl, inr}
+use Rattle.std.proofs.Common.{◌≡◌, ℕ, ◌*◌, ◌/◌, ◌%◌, ◌<◌, Option, Some, sym, ap, ◌∙◌, arith, inl, inr}
 use Rattle.std.specs.Prelude.{◌↔◌, ◌≢◌, ℤ, pos, ◌-ℤ◌}
 use Rattle.std.proofs.lemmas.Option.{same_Some}
 use Rattle.isa_model.specs.declared.registers.Reg.{Reg}
@@ -30,13 +30,6 @@ within_some place o byte is only j = (
       let same : byte ≡ n = same_Some byte n (sym is ∙ (only n).1 there) in
       let at : byte / 8 ≡ j = omega (arith, same, low, high) in
       ap some_number at,
-)
-
-pub within_none : (place : Place) (o : Option ℕ) → o ≡ None → OnlyByte place o → (j : ℕ)
-    → (o ≡ Some j) ↔ IsWithinSlot place j
-within_none place o is only j = (
-  λ e. absurd cc,
-  λ (n, there, low, high). let some : o ≡ Some n = (only n).1 there in absurd cc,
 )
 
 pub within_below : (place : Place) (j : ℕ) → IsWithinSlot place j → j < 64
@@ -87,20 +80,4 @@ whole_some place o byte is only aligned j = (
       let same : byte ≡ 8 * j = same_Some byte (8 * j) (sym is ∙ whole_byte place o j only whole) in
       let at : byte / 8 ≡ j = omega (arith, same) in
       ap some_number at,
-)
-
-pub whole_other : (place : Place) (o : Option ℕ) (byte : ℕ) → o ≡ Some byte → OnlyByte place o
-    → byte % 8 ≢ 0 → (j : ℕ) → (let none : Option ℕ = None in none ≡ Some j) ↔ IsWholeSlot place j
-whole_other place o byte is only unaligned j = (
-  λ e. absurd cc,
-  λ whole.
-      let same : byte ≡ 8 * j = same_Some byte (8 * j) (sym is ∙ whole_byte place o j only whole) in
-      absurd (unaligned (omega (arith, same))),
-)
-
-pub whole_none : (place : Place) (o : Option ℕ) → o ≡ None → OnlyByte place o → (j : ℕ)
-    → (o ≡ Some j) ↔ IsWholeSlot place j
-whole_none place o is only j = (
-  λ e. absurd cc,
-  λ whole. let some = whole_byte place o j only whole in absurd cc,
 )

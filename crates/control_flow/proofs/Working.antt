@@ -2,7 +2,6 @@
 -- empty.
 use Rattle.std.proofs.Common.{◌≡◌, ◌≢◌, ℕ, zero, suc, ◌+◌, ◌*◌, ◌<◌, ◌≤◌, Bool, true, false, not, cond, List, [], ◌∷◌, ◌++◌, length, take, drop, replicate, get_or, set, sum_by, Option, Some, None, refl, sym, ap, ◌∙◌, subst, arith, inl, inr}
 use Rattle.std.specs.Prelude.{◌⊎◌, slice_get, count_by, Contains}
-use Rattle.std.proofs.Math.Nat.{mul-le-mul_left}
 use Rattle.std.proofs.lemmas.Bool.{cases_eq}
 use Rattle.std.proofs.lemmas.Option.{same_Some, slice_get_within}
 use Rattle.std.proofs.lemmas.List.{get_or-set_same, get_or-set_other, length-set, length-append, length-replicate, get_or-replicate, append-nil, take_all}
@@ -222,16 +221,6 @@ working_next nodes W slot old new grown f s rest g t popped x y wants m =
 -- what may still be added, and for each of that the whole list
 abbrev pub work_left : List Node → List HomeMask → List ℕ → ℕ
 work_left nodes masks frontier = (length nodes + 1) * room_left masks + length frontier
-
--- a mask has grown
-pub work_less : (nodes : List Node) (old new : List HomeMask) (g : List Bool)
-    (s t : List ℕ) → room_left new < room_left old
-    → IsWorking nodes new g t → work_left nodes new t < work_left nodes old s
-work_less nodes old new g s t less m =
-    let product =
-    mul-le-mul_left {m = room_left new + 1} {n = room_left old} (length nodes + 1)
-    (omega arith) in
-    omega (arith, product, m.few)
 
 -- ---- the list is empty
 

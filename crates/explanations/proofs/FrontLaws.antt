@@ -19,7 +19,7 @@ use Rattle.stack_state.specs.Slots.{AreKnownFrom, slot_at, frame_slots, marks_of
 use Rattle.stack_state.specs.Meaning.{abstract_frame_at, depth, frames_of, kind_at, kinds_of, no_frame, stack_slots_of}
 use Rattle.stack_state.proofs.MeaningLaws.{abstract_frame_at-caller, abstract_frame_at-innermost, length-frames_of}
 use Rattle.state_cover.specs.FrameCover.{AreAmong, SlotEncloses, StateEncloses}
-use Rattle.explanations.specs.Fronts.{AreFirstKinds, AreFirstSlots, FrontCovers, FrontEncloses, FrontIsOpen, IsFront, IsFrontOf, count_in}
+use Rattle.explanations.specs.Fronts.{AreFirstSlots, FrontCovers, FrontEncloses, FrontIsOpen, IsFront, IsFrontOf, count_in}
 
 -- ---- the loop through registers
 
@@ -28,34 +28,6 @@ pub record KindsKeptTo (count n : ℕ) (old new : List Kind) : Type 0 where
   pub ten : length new ≡ 10
   pub kept : (k : ℕ) → k < count → kind_at new k ≡ kind_at old k
   pub others : (k : ℕ) → count ≤ k → k < n → kind_at new k ≡ Unset
-
-pub kinds_begun : (count : ℕ) (old : List Kind) → length old ≡ 10 → KindsKeptTo count count old old
-kinds_begun count old ten =
-    record { ten = ten; kept = λ k low. refl; others = λ k high low. absurd (omega arith) }
-
-pub kinds_more : (count n : ℕ) (old new : List Kind) → count ≤ n → n < 10
-    → KindsKeptTo count n old new → KindsKeptTo count (n + 1) old (set new n Unset)
-kinds_more count n old new from below h = record {
-  ten = length-set new n Unset ∙ h.ten;
-  kept = λ k low. get_or-set_other new n k Unset Unset (λ e. absurd (omega arith)) ∙ h.kept k low;
-  others = λ k high low. elim (cases_eq k n) [
-    | inl e ↦
-        ap (kind_at (set new n Unset)) e
-        ∙ get_or-set_same new n Unset Unset (let ten = h.ten in omega arith)
-    | inr apart ↦
-        get_or-set_other new n k Unset Unset apart ∙ h.others k high (omega arith)
-  ];
-}
-
-pub kinds_done : (count n : ℕ) (old new : List Kind) → 10 ≤ n → KindsKeptTo count n old new
-    → AreFirstKinds count old new
-kinds_done count n old new all h = record {
-  kept = h.kept;
-  others = λ k high. elim (cases_lt k n) [
-    | inl low ↦ h.others k high low
-    | inr past ↦ get_or_past new k Unset (let ten = h.ten in omega arith)
-  ];
-}
 
 -- ---- the loop through stack slots
 

@@ -294,12 +294,6 @@ can_lack_body may_fail v number offset front n buffer early size short room less
   may_end = tt;
 }
 
--- a reader that is done stops as it did
-pub can_stay_done : (may_fail : Bool) (version : Version) (stop : Finish)
-    → CanStop may_fail (Done version stop) stop
-can_stay_done may_fail version stop =
-    record { bytes = []; ending = ByEnd; stops = refl; may_end = tt }
-
 -- ---- a call
 
 -- the stream stops again where it stopped
@@ -312,9 +306,3 @@ done_stops version bytes (finish.Fault TooLong o) = refl
 done_stops version bytes (finish.Fault TruncatedBody o) = refl
 done_stops version bytes (finish.Fault ReadFailed o) = ([], refl, refl)
 done_stops version bytes (finish.Fault TooManyRecords o) = refl
-
--- a reader that is done reads nothing
-pub done_reads : (version : Version) (old : Option (List ℕ)) (stop : Finish)
-    → FindsNext (Done version stop) old old (Stopped stop)
-done_reads version None stop = tt
-done_reads version (Some bytes) stop = done_stops version bytes stop

@@ -154,11 +154,6 @@ HasFound-next v frames old known new p f s r ok =
           (Consumes-trans old known new _ _ s.lost lost);
     }
 
--- the reader's number counts the frames that were found
-pub HasFound-count : (v : Version) (frames : List PacketFrame) (old known : Option (List ℕ))
-    (number offset : ℕ) → HasFound v frames old known (At v number offset) → number ≡ length frames
-HasFound-count v frames old known number offset s = let h = s.position_is in cc
-
 -- the bytes that a source has left
 left_of : (v : Version) (frames : List PacketFrame) (bytes : List ℕ) (known : Option (List ℕ))
     → Consumes (Some bytes) known (stream_bytes v frames)

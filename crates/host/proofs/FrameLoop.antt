@@ -7,9 +7,9 @@ use Rattle.isa_model.specs.declared.streams.Fault.{Fault}
 use Rattle.isa_model.specs.declared.streams.Finish.TheVariants as finish
 use Rattle.isa_model.specs.declared.streams.Finish.{Finish}
 use Rattle.isa_model.specs.declared.versions.Version.{Version}
-use Rattle.isa_model.specs.declared.versions.Version.TheVariants.{One, Two}
+use Rattle.isa_model.specs.declared.versions.Version.TheVariants.{One}
 use Rattle.isa_model.specs.Code.Versions.{stream_magic}
-use Rattle.isa_model.specs.Code.Limits.{max_body, max_packet}
+use Rattle.isa_model.specs.Code.Limits.{max_body}
 use Rattle.isa_model.specs.Machine.States.{KeyValues}
 use Rattle.isa_model.specs.Reporting.Streams.{PacketFrame, max_frames, stream_with}
 use Rattle.isa_model.proofs.StreamLaws.{AreOpen-nil}
@@ -28,11 +28,6 @@ use Rattle.host.specs.Writing.{Outputs, Wrote, WroteBefore}
 use Rattle.host.specs.Turns.{rule_of, form_on, front_in, RunnerState, HasTaken, TakesWhole, TakesFront}
 use Rattle.host.proofs.Pieces.{Wrote-append, WroteBefore-append, wrote_frames, frames_failed}
 use Rattle.host.proofs.WrittenSoFar.{WrittenSoFar}
-
--- a body that a stream may have is a packet
-pub body_short : (v : Version) (n : ℕ) → n ≤ max_body v → n ≤ max_packet
-body_short One n h = omega arith
-body_short Two n h = h
 
 -- a reader that was made and then read the magic has begun
 pub begin_opens : (v : Version) (source : Origin) (old new : Option (List ℕ)) (p after : Position)

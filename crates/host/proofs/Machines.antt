@@ -1,5 +1,5 @@
 -- From what the loop over a stream tells, and the end of the report, to what a run shows.
-use Rattle.std.proofs.Common.{◌≡◌, ℕ, ◌+◌, ◌==◌, if◌then◌else◌, Bool, true, false, List, [], ◌∷◌, length, Result, Ok, Err, IfOk, refl, sym, ap, ◌∙◌, subst, Some, None}
+use Rattle.std.proofs.Common.{◌≡◌, ℕ, ◌+◌, ◌==◌, if◌then◌else◌, Bool, true, false, List, [], ◌∷◌, length, Result, Ok, Err, IfOk, refl, ap, ◌∙◌, Some, None}
 use Rattle.isa_model.specs.declared.map_defs.MapDef.{MapDef}
 use Rattle.isa_model.specs.declared.streams.Finish.{Finish}
 use Rattle.isa_model.specs.declared.versions.Version.{Version}
@@ -19,15 +19,8 @@ use Rattle.host.specs.Counting.{counting_notes}
 use Rattle.host.specs.Counts.{Totals, no_totals, with_end, end_of, totals_after}
 use Rattle.host.specs.Stops.{Noted, Noting, noted_of, noted_on, noted_after, checked_notes, AreMaps}
 use Rattle.host.specs.Tallies.{tally_of}
-use Rattle.host.specs.Turns.{rule_of, RunnerState, TakesFrames, TakesWhole}
+use Rattle.host.specs.Turns.{rule_of, RunnerState, TakesWhole}
 use Rattle.host.specs.Writing.{Outputs}
-
--- the same machine at the start
-pub takes_same : (N : Type 0) (source : Origin) (before : Outputs) (old start : RunnerState N)
-    (after : Outputs) (new : RunnerState N) (result : Result StreamEnded HostError) → old ≡ start
-    → TakesFrames source before old after new result → TakesFrames source before start after new result
-takes_same N source before old start after new result same t =
-    subst (λ (o : RunnerState N). TakesFrames source before o after new result) same t
 
 -- ---- what the end of a report returns
 

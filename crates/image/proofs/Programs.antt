@@ -7,8 +7,7 @@ use Rattle.std.proofs.lemmas.Option.{slice_get_past}
 use Rattle.isa_model.specs.declared.instructions.Insn.{Insn}
 use Rattle.isa_model.specs.declared.instructions.Insn.TheVariants.{LoadNumber, LoadMap, LoadMapValue}
 use Rattle.isa_model.specs.Code.Instructions.{Program, fetch, slots_filled}
-use Rattle.isa_model.specs.Machine.MachineStates.{IsProgram, FitRows}
-use Rattle.isa_model.specs.Reporting.Reports.{starting_contents}
+use Rattle.isa_model.specs.Machine.MachineStates.{IsProgram}
 use Rattle.isa_model.proofs.StartingContents as starting
 use Rattle.image.specs.Images.{IsImage}
 use Rattle.image.proofs.ImageLaws.{InsnFits-fetch, NamesRows-fetch, fetch-second}
@@ -43,8 +42,3 @@ IsProgram-IsImage p h = record {
   rows = h.rows;
   named = λ slot i e. NamesRows-fetch p slot i h e;
 }
-
--- the contents that maps start with fit their rows
-pub IsImage-starting_contents : (p : Program) → IsImage p
-    → FitRows p.maps (starting_contents p.maps)
-IsImage-starting_contents p h = starting.FitRows-starting_contents p.maps h.rows

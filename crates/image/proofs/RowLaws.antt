@@ -3,7 +3,7 @@ use Rattle.std.proofs.Common.{◌≡◌, ℕ, ◌+◌, Bool, true, false, cond, 
 use Rattle.std.specs.Prelude.{◌&&◌, All, slice_get}
 use Rattle.std.specs.Option.{IsSomeAnd, option_or}
 use Rattle.std.proofs.lemmas.Bool.{and_parts, eqb-true, leb-true, le-leb, ltb-true, lt-ltb}
-use Rattle.std.proofs.lemmas.List.Elements.{All-nil, All-cons, All-head, All-tail}
+use Rattle.std.proofs.lemmas.List.Elements.{All-nil, All-cons}
 use Rattle.isa_model.specs.Code.Limits.{max_key_size, max_value_size, max_map_entries}
 use Rattle.isa_model.specs.declared.map_defs.MapType.{MapType}
 use Rattle.isa_model.specs.declared.map_defs.MapType.TheVariants.{Hash, Array}
@@ -73,13 +73,6 @@ All-rows_refusal index (row ∷ rows) h =
     first true h = (refl, h)
     first false h = absurd cc
 
-pub rows_refusal-All : (index : ℕ) (rows : List MapDef) → All IsRow rows
-    → rows_refusal index rows ≡ None
-rows_refusal-All index [] h = refl
-rows_refusal-All index (row ∷ rows) h =
-    rw (row_fits-IsRow row (All-head IsRow row rows h))
-    (rows_refusal-All (index + 1) rows (All-tail IsRow row rows h))
-
 -- ---- the maps that instructions name
 
 is_array-true : (kind : MapType) → is_array kind ≡ true → kind ≡ Array
@@ -141,10 +134,3 @@ NamesMaps-maps_refusal rows slot (None ∷ xs) h = NamesMaps-maps_refusal rows (
 NamesMaps-maps_refusal rows slot (Some i ∷ xs) h =
     let p = neither (map_refusal rows slot i) (maps_refusal rows (slot + 1) xs) h in
     (NamesRows-map_refusal rows slot i p.0, NamesMaps-maps_refusal rows (slot + 1) xs p.1)
-
-pub maps_refusal-NamesMaps : (rows : List MapDef) (slot : ℕ) (xs : List (Option Insn))
-    → NamesMaps rows xs → maps_refusal rows slot xs ≡ None
-maps_refusal-NamesMaps rows slot [] h = refl
-maps_refusal-NamesMaps rows slot (None ∷ xs) h = maps_refusal-NamesMaps rows (slot + 1) xs h
-maps_refusal-NamesMaps rows slot (Some i ∷ xs) h =
-    rw (map_refusal-NamesRows rows slot i h.0) (maps_refusal-NamesMaps rows (slot + 1) xs h.1)

@@ -169,9 +169,6 @@ row_at-row_bytes index row rest h =
     ∙ ap (λ (r : MapDef). tested index (Some r)) (row_is row _ _ _ key value entries)
     ∙ ap (λ (b : Bool). cond b (row_ok row) (Err (MapRow index))) (row_fits-IsRow row h)
 
-pub length-row_bytes : (row : MapDef) → length (row_bytes row) ≡ 12
-length-row_bytes row = refl
-
 -- ---- rows
 
 -- what rows were read from

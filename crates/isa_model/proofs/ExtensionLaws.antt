@@ -1,17 +1,15 @@
 -- Laws of sign extension: it fits its width; by cases, and as a sum.
-use Rattle.std.proofs.Common.{inl, inr, ◌≡◌, ◌⊎◌, ℕ, ◌+◌, ◌-◌, ◌*◌, ◌%◌, ◌^◌, ◌<◌, ◌≤◌, refl, sym, ap, ◌∙◌, arith, Bool, true, false, cond, w32, w64}
+use Rattle.std.proofs.Common.{inl, inr, ◌≡◌, ◌⊎◌, ℕ, ◌+◌, ◌-◌, ◌*◌, ◌%◌, ◌^◌, ◌<◌, ◌≤◌, refl, ◌∙◌, arith, Bool, true, false, cond, w32, w64}
 use Rattle.std.specs.Prelude.{nat_lt}
 use Rattle.std.specs.Int.{Width as IntWidth, w8, w16, cast_signed, cast_unsigned}
 use mir.Val.{bits, hbits}
-use Rattle.std.proofs.Math.Nat.{mod-eq_of_lt, add-mul-mod_self_right}
+use Rattle.std.proofs.Math.Nat.{mod-eq_of_lt}
 use Rattle.std.proofs.lemmas.Nat.{mod_below}
 use Rattle.std.proofs.lemmas.Bool.{cases_lt, lt-ltb, le-ltb}
-use Rattle.isa_model.specs.declared.sizes.Width.{Width}
-use Rattle.isa_model.specs.declared.sizes.Width.TheVariants.{Low32, Full64}
 use Rattle.isa_model.specs.declared.sizes.Extension.{Extension}
 use Rattle.isa_model.specs.declared.sizes.Extension.TheVariants.{Low8, Low16, Full8, Full16, Full32}
 use Rattle.isa_model.specs.Code.Sizes.{width_bits, extension_bits, extension_width}
-use Rattle.isa_model.specs.Code.Numbers.{low, sign_extended}
+use Rattle.isa_model.specs.Code.Numbers.{sign_extended}
 use Rattle.isa_model.proofs.NumberLaws.{width_fits}
 
 -- a number without the sign bit, H, is extended to itself, and one with it has ones put before it
@@ -30,21 +28,6 @@ extended_small N K H y lt = rw (lt-ltb y H lt)
 
 extended_large : (N K H y : ℕ) → H ≤ y → extended N K H y ≡ y + (N - K)
 extended_large N K H y ge = rw (le-ltb y H ge)
-
-extended_64 : (y K H : ℕ) → K ≡ H + H → 0 < H → K ≤ 2 ^ 64 → y < K
-    → ((y + H) % K + (2 ^ 64 - H)) % 2 ^ 64 ≡ extended (2 ^ 64) K H y
-extended_64 y K H e h fits y_in =
-    elim (cases_lt y H) [
-      | inl lt ↦ rw (lt-ltb y H lt, mod-eq_of_lt {n = y + H} {m = K} (omega arith)) (omega arith)
-      | inr ge ↦
-          let w : (y + H) % K ≡ y - H =
-          ap (λ n. n % K) (let s : y + H ≡ (y - H) + 1 * K = omega arith in s)
-          ∙ once (y - H) K (omega arith) in
-          rw (le-ltb y H ge, w) (omega arith)
-    ]
-  where
-    once : (a K : ℕ) → a < K → (a + 1 * K) % K ≡ a
-    once a K h = add-mul-mod_self_right a 1 K ∙ mod-eq_of_lt h
 
 extended_32 : (y K H : ℕ) → K ≤ 2 ^ 32 → y < K
     → extended (2 ^ 64) K H y % 2 ^ 32 ≡ extended (2 ^ 32) K H y
@@ -84,14 +67,6 @@ extension_is Full16 x H e =
 extension_is Full32 x H e =
     let f : H ≡ 2 ^ 31 = omega arith in
     rw f (read_extended w64 w32 (x % 2 ^ 32) (omega arith) (omega arith))
-
--- at most 32 bits are read
-pub extension_fits : (e : Extension) → 2 ^ extension_bits e ≤ 2 ^ 32
-extension_fits Low8 = omega arith
-extension_fits Low16 = omega arith
-extension_fits Full8 = omega arith
-extension_fits Full16 = omega arith
-extension_fits Full32 = omega arith
 
 extension_wider : (e : Extension) → 2 ^ extension_bits e ≤ 2 ^ width_bits (extension_width e)
 extension_wider Low8 = omega arith
@@ -141,25 +116,3 @@ sign_extended_cases e x h twice =
       | inl lt ↦ inl (lt, extension_is e x h twice ∙ extended_small _ _ h y lt)
       | inr ge ↦ inr (ge, extension_is e x h twice ∙ extended_large _ _ h y ge)
     ]
-
--- the sign bit is added and taken away again, and the borrow fills the upper bits
-pub sign_extended-sum : (e : Extension) (x h : ℕ) → h + h ≡ 2 ^ extension_bits e
-    → sign_extended e x
-    ≡ low (extension_width e)
-    (((x % 2 ^ extension_bits e + h) % 2 ^ extension_bits e + (2 ^ 64 - h)) % 2 ^ 64)
-sign_extended-sum e x h twice =
-    let K = 2 ^ extension_bits e in
-    let p = extension_sign e in
-    let positive : 0 < h = omega (arith, p.1, p.2) in
-    let y_in = mod_below x K (omega arith) in
-    let fits = extension_fits e in
-    extension_is e x h twice
-    ∙ at_width (extension_width e) (x % K) K h fits y_in
-    (extended_below (2 ^ 64) K h (x % K) y_in (omega arith))
-    ∙ ap (low (extension_width e))
-    (sym (extended_64 (x % K) K h (sym twice) positive (omega arith) y_in))
-  where
-    at_width : (w : Width) (y K h : ℕ) → K ≤ 2 ^ 32 → y < K → extended (2 ^ 64) K h y < 2 ^ 64
-        → extended (2 ^ width_bits w) K h y ≡ low w (extended (2 ^ 64) K h y)
-    at_width Low32 y K h fits y_in below = sym (extended_32 y K h fits y_in)
-    at_width Full64 y K h fits y_in below = sym (mod-eq_of_lt below)

@@ -22,4 +22,3 @@ pub mod ClockLaws
 pub mod EndsLaws
 pub mod OutcomesLaws
 pub mod RunLaws
-pub mod TextLaws

@@ -1,12 +1,11 @@
 -- Laws of reports: where all runs exit within the limit, the checked report is the report, and the
 -- only one. The packet frames that are read from a stream can be spelled.
-use Rattle.std.specs.Prelude.{◌≡◌, ℕ, zero, suc, ◌+◌, ◌<◌, ◌≤◌, ◌==◌, List, [], ◌∷◌, ◌++◌, drop, length, if◌then◌else◌, Bool, true, false, All, Option, Some, None, Result, Ok, Err, refl}
+use Rattle.std.specs.Prelude.{◌≡◌, ℕ, zero, suc, ◌+◌, ◌<◌, ◌≤◌, ◌==◌, List, [], ◌∷◌, ◌++◌, drop, length, if◌then◌else◌, Bool, true, false, All, Option, Some, None, refl}
 use Rattle.std.proofs.Common.{sym, ap, ◌∙◌, subst, arith}
 use Rattle.std.proofs.lemmas.List.{length-take}
 use Rattle.std.proofs.lemmas.Bool.Decides.{nat_tests}
 use Rattle.std.proofs.lemmas.List.Elements.{All-nil, All-cons, All-head, All-tail, All-take, All-drop}
 use Rattle.byteorder.specs.Numbers.{little_from-lt}
-use Rattle.isa_model.specs.declared.streams.Fault.{Fault}
 use Rattle.isa_model.specs.declared.streams.Finish.{Finish}
 use Rattle.isa_model.specs.declared.versions.Version.{Version}
 use Rattle.isa_model.specs.declared.versions.Version.TheVariants.{One, Two}
@@ -14,7 +13,7 @@ use Rattle.isa_model.specs.Code.Versions.{stream_magic, head_size}
 use Rattle.isa_model.specs.Code.Limits.{max_body, max_packet}
 use Rattle.isa_model.specs.Code.Instructions.{Program}
 use Rattle.isa_model.specs.Machine.States.{KeyValues}
-use Rattle.isa_model.specs.Reporting.Streams.{PacketFrame, IsPacketFrame, ReasonFits, reason_field, length_field, InputEnding, ByEnd, ByError, opened, stop_at, packet_frame_of, record_size, frames_from, Input, Stream, stream_opened, stream_of}
+use Rattle.isa_model.specs.Reporting.Streams.{PacketFrame, IsPacketFrame, ReasonFits, reason_field, length_field, InputEnding, ByEnd, ByError, stop_at, packet_frame_of, record_size, frames_from, Stream}
 use Rattle.isa_model.proofs.StreamLaws.{frames_from-stops, frames_from-goes_on, frames_behind}
 use Rattle.isa_model.specs.Running.Runs.{Outcome, Turn}
 use Rattle.isa_model.proofs.RunLaws.{turn-outcome, HasOutcome-same}
@@ -78,15 +77,6 @@ frames_fit (suc fuel) v number offset bytes e h =
 -- the frames of a stream can be spelled
 abbrev pub AreFrames : Stream → Type 0
 AreFrames found = All (IsPacketFrame found.version) found.frames
-
--- and so can those of the stream of an input
-pub stream_of-AreFrames : (input : Input) → AreBytes input.bytes → AreFrames (stream_of input)
-stream_of-AreFrames input h = go (opened input.bytes input.ending)
-  where
-    go : (r : Result Version Fault) → AreFrames (stream_opened input r)
-    go (Ok v) = frames_fit (suc (length input.bytes)) v 0 4 (drop 4 input.bytes) input.ending
-        (All-drop (λ b. b < 256) 4 input.bytes h)
-    go (Err fault) = All-nil (IsPacketFrame One)
 
 -- the limit is only in the line of a run that it has stopped
 abbrev with_limit : ℕ → ReportForm → ReportForm

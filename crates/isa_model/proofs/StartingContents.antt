@@ -8,7 +8,7 @@ use Rattle.std.specs.Int.{byte_at, bytes_low_first}
 use Rattle.std.proofs.Common.{sym, subst, ◌∙◌, arith, inl, inr}
 use Rattle.std.proofs.lemmas.Bool.{cases_lt}
 use Rattle.std.proofs.lemmas.List.{length-replicate}
-use Rattle.std.proofs.lemmas.List.Elements.{All-nil, All-cons, All-head, All-tail, All-map, All-replicate}
+use Rattle.std.proofs.lemmas.List.Elements.{All-nil, All-cons, All-map, All-replicate}
 use Rattle.byteorder.specs.Endian.{little_bytes, little_number}
 use Rattle.byteorder.specs.Numbers.{little_number-reads_back, length-bytes_low_first}
 use Rattle.isa_model.specs.declared.map_defs.MapType.{MapType}
@@ -18,8 +18,8 @@ use Rattle.isa_model.specs.Code.MapRows.{KeyFits, IsRow}
 use Rattle.isa_model.specs.Machine.States.{KeyValues}
 use Rattle.isa_model.specs.Machine.MapContents.{key_order, has_key, with_key}
 use Rattle.isa_model.proofs.PutKeys.{All-with_key, IsStrictlySortedBy-is_sorted, Contains-has_key, has_key-with_key, has_key-after_with_key, length-with_key}
-use Rattle.isa_model.specs.Machine.MachineStates.{AreBytes, IsKeyValue, KeysFit, keys_of, FitsRow, FitRows}
-use Rattle.isa_model.specs.Reporting.Reports.{starting_key_values, starting_contents}
+use Rattle.isa_model.specs.Machine.MachineStates.{AreBytes, IsKeyValue, KeysFit, keys_of, FitsRow}
+use Rattle.isa_model.specs.Reporting.Reports.{starting_key_values}
 use Rattle.isa_model.specs.Code.Limits.{max_map_entries}
 
 -- ---- bytes
@@ -150,12 +150,3 @@ FitsRow-starting_by Array row e key few =
 pub FitsRow-starting_key_values : (row : MapDef) → IsRow row
     → FitsRow row (starting_key_values row.kind row)
 FitsRow-starting_key_values row h = FitsRow-starting_by row.kind row refl h.key h.few_entries
-
--- the contents that maps start with fit their rows
-pub FitRows-starting_contents : (rows : List MapDef) → All IsRow rows
-    → FitRows rows (starting_contents rows)
-FitRows-starting_contents [] h = tt
-FitRows-starting_contents (row ∷ rows) h = (
-  FitsRow-starting_key_values row (All-head IsRow row rows h),
-  FitRows-starting_contents rows (All-tail IsRow row rows h),
-)

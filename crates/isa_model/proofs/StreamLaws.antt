@@ -292,16 +292,6 @@ stream_of-records v fs rest e ok =
     ∙ ap (λ n. stream_with v
     (with_frames fs (frames_from (suc (length rest)) v n (offset_after v fs) rest e))) same
 
--- the stream of an input that begins with these records has them, and then others
-pub stream_of-begins : (v : Version) (fs : List PacketFrame) (rest : List ℕ) (e : InputEnding)
-    → AreOpen v fs
-    → (others : List PacketFrame) × (stop : Finish)
-    × (stream_of (record { bytes = stream_magic v ++ (records_bytes v fs ++ rest); ending = e })
-    ≡ stream_with v (fs ++ others, stop))
-stream_of-begins v fs rest e ok =
-    let t = frames_from (suc (length rest)) v (length fs) (offset_after v fs) rest e in
-    (t.0, t.1, stream_of-records v fs rest e ok)
-
 -- the stream of an input that stops after these records has them, and ends as it stops
 pub stream_of-stops : (v : Version) (fs : List PacketFrame) (rest : List ℕ) (e : InputEnding)
     (stop : Finish) → AreOpen v fs

@@ -7,7 +7,6 @@ use Rattle.std.proofs.lemmas.Nat.{xor_shr, xor_lt, leading_length, le-div, pow_p
 use Rattle.std.proofs.lemmas.Nat.Bits.{bit_at_xor, bit_at-lt, bit_at-zero, same_from_bits, and_high_mask, bit_at_above}
 use Rattle.std.proofs.lemmas.Bool.{cases_lt}
 use Rattle.known_bits.specs.Member.{IsMember}
-use Rattle.known_bits.proofs.Logic.{apart_without}
 
 same_from_xor : (a b : ℕ) → bit_xor a b ≡ 0 → a ≡ b
 same_from_xor a b e =
@@ -73,8 +72,3 @@ between_sharp l g mask i l_in g_in e unknown same =
     double_pow : (i k : ℕ) → i < k → 2 * 2 ^ i ≤ 2 ^ k
     double_pow i k h =
         let p = pow-add 2 1 i in let m : 2 ^ (1 + i) ≤ 2 ^ k = pow_mono (omega arith) in omega arith
-
--- the common part has no bit of the mask
-pub between_apart : (l mask : ℕ) → l < 2 ^ 64 → mask < 2 ^ 64
-    → bit_and (bit_and l (bit_not w64 mask)) mask ≡ 0
-between_apart l mask l_in m_in = (apart_without l_in m_in).apart

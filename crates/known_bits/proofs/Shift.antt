@@ -2,7 +2,7 @@
 use Rattle.std.proofs.Common.{add-zero, ◌≡◌, ℕ, ◌+◌, ◌-◌, ◌*◌, ◌/◌, ◌%◌, ◌^◌, ◌<◌, ◌≤◌, w64, sym, ap, ◌∙◌, inl, inr, arith, bit_or}
 use Rattle.std.specs.Int.{bit_at, bit_not}
 use Rattle.std.proofs.Math.Nat.{div-div-eq-div-mul, div-le_self}
-use Rattle.std.proofs.lemmas.Nat.{and_le_r, or_lt, pow-add, pow_pos, and_mask}
+use Rattle.std.proofs.lemmas.Nat.{or_lt, pow-add, pow_pos, and_mask}
 use Rattle.std.proofs.lemmas.Nat.Bits.{bit_at_or, bit_at_not, bit_at-lt, bit_at-zero, bit_at_above, bit_at_cat_low, bit_at_cat_high}
 use Rattle.std.proofs.lemmas.Bool.{cases_lt}
 use Rattle.known_bits.specs.Member.{IsMember}
@@ -16,9 +16,6 @@ constant_has x h = record { below = h; known = and_mask x 64 ∙ omega arith }
 
 pub constant_only : (x y : ℕ) → IsMember x 0 y → y ≡ x
 constant_only x y h = let b = h.below in let k = h.known in let m = and_mask y 64 in omega arith
-
-pub any_has : (x : ℕ) → x < 2 ^ 64 → IsMember 0 (2 ^ 64 - 1) x
-any_has x h = record { below = h; known = let le = and_le_r x 0 in omega arith }
 
 -- ---- the complement
 

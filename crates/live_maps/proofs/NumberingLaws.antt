@@ -18,48 +18,7 @@ use Rattle.maps.proofs.ReportOrderLaws.{get_at}
 use Rattle.maps.specs.Maps.{MapState, IsMap, map_at, content_in, contents_of}
 use Rattle.live_maps.specs.Live.{Serials, serial_in, serials_at, stored, live_content, live_contents, HasSerials, AreLive}
 use Rattle.live_maps.proofs.KeyValueLaws.{AreApart, keys-apart}
-use Rattle.live_maps.specs.Numbering.{AreDistinct, AreNumbered, NumbersAll, NumbersFirst, OnlyThere, count_before, place_in}
-
--- one more place of a list has its serial
-pub NumbersFirst-more : (n : ℕ) (places : List ℕ) (i : ℕ) (serials : Serials) → AreDistinct places
-    → i < length places → place_in places i < length serials
-    → NumbersFirst n places i serials
-    → NumbersFirst n places (i + 1) (slice_set serials (place_in places i) (Some (n + i)))
-NumbersFirst-more n places i serials apart inside within h = record {
-  there =
-      λ j l. elim (eqb j i) as (λ b. eqb j i ≡ b
-      → serial_in after (place_in places j) ≡ Some (n + j)) [
-        | true ↦ λ t.
-            let same = eqb-true j i t in
-            ap (λ (k : ℕ). serial_in after (place_in places k)) same ∙ here
-            ∙ ap (λ (k : ℕ). Some (n + k)) (sym same)
-        | false ↦ λ t.
-            let d = eqb-false j i t in
-            let less : j < i = less_than j i l d in
-            else_where (place_in places j) (λ same. d (apart j i (omega arith) inside same))
-            ∙ h.there j less
-      ] refl;
-  only = λ p k e. elim (eqb p q) as (λ b. eqb p q ≡ b
-      → (j : ℕ) × (j < length places) × (place_in places j ≡ p)) [
-        | true ↦ λ t. (i, inside, sym (eqb-true p q t))
-        | false ↦ λ t. h.only p k (sym (else_where p (eqb-false p q t)) ∙ e)
-      ] refl;
-}
-  where
-    q : ℕ
-    q = place_in places i
-
-    after : Serials
-    after = slice_set serials q (Some (n + i))
-
-    here : serial_in after q ≡ Some (n + i)
-    here = get_or-set_same serials q (Some (n + i)) None within
-
-    else_where : (p : ℕ) → p ≢ q → serial_in after p ≡ serial_in serials p
-    else_where p d = get_or-set_other serials q p (Some (n + i)) None d
-
-    less_than : (j i : ℕ) → j < i + 1 → j ≢ i → j < i
-    less_than j i l d = elim (below_or_above j i d) [ inl h ↦ h | inr h ↦ absurd (omega arith) ]
+use Rattle.live_maps.specs.Numbering.{AreDistinct, AreNumbered, NumbersAll, OnlyThere, count_before, place_in}
 
 -- where no place has a serial, none outside a list has one
 pub OnlyThere-none : (places : List ℕ) (serials : Serials)

@@ -77,16 +77,6 @@ start_far a count next (region.MapValue m n) good h =
 start_far a count next (region.CallFrame n) good h =
     let l = good.shallow n in (omega arith, omega arith)
 
--- the word of a pointer in any region but the packet end
-pub word_plain : (a : Layout) (r : Region) (z : ℤ) → (r ≡ region.PacketEnd → ⊥)
-    → word a r z ≡ moved (region_start a r) z
-word_plain a region.Context z h = refl
-word_plain a region.Packet z h = refl
-word_plain a region.PacketEnd z h = absurd (h refl)
-word_plain a (region.Map m) z h = refl
-word_plain a (region.MapValue m n) z h = refl
-word_plain a (region.CallFrame n) z h = refl
-
 pub word_far : (a : Layout) (r : Region) (z : ℤ) → 4294967296 ≤ region_start a r
     → region_start a r < 1099511627776 → IsOffset z
     → (2147483648 ≤ word a r z) × (word a r z < 2199023255552)

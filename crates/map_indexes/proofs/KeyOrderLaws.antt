@@ -20,22 +20,6 @@ use Rattle.map_indexes.proofs.PlaceKeysLaws.{is_key-itself, get_here}
 use Rattle.map_indexes.specs.PlaceKeyLaws.{is_key-equal, got}
 use Rattle.map_indexes.specs.KeyOrder.{key_or_none, used_places}
 
--- no place past the end has a key
-pub key_or_none-past : (keys : PlaceKeys) (p : ℕ) → length keys ≤ p → key_or_none keys p ≡ []
-key_or_none-past [] p l = refl
-key_or_none-past (x ∷ keys) zero l = absurd (omega arith)
-key_or_none-past (x ∷ keys) (suc p) l = key_or_none-past keys p (omega arith)
-
-pub key_or_none-unused : (keys : PlaceKeys) (p : ℕ) → is_some (key_in keys p) ≡ false
-    → key_or_none keys p ≡ []
-key_or_none-unused keys p e =
-    elim (key_in keys p) as (λ o. is_some o ≡ false → unwrap_or o [] ≡ [])
-    [ None ↦ λ f. refl | Some k ↦ λ f. absurd (cc) ] e
-
-pub key_or_none-used : (keys : PlaceKeys) (p : ℕ) (k : List ℕ) → key_in keys p ≡ Some k
-    → k ≡ key_or_none keys p
-key_or_none-used keys p k e = sym (ap (λ (o : Option (List ℕ)). unwrap_or o []) e)
-
 abbrev place_if : Option (List ℕ) → ℕ → List ℕ
 place_if None p = []
 place_if (Some key) p = p ∷ []

@@ -1,6 +1,6 @@
 -- What a line's update does to the maps, by the test that fails, or none.
 use Rattle.std.proofs.Common.{◌≡◌, ◌≢◌, ℕ, zero, suc, ◌<◌, ◌≤◌, List, [], ◌∷◌, length, Option, Some, None, Bool, true, false, refl, sym, ap, ◌∙◌, arith}
-use Rattle.std.specs.Prelude.{nat_eq, slice_set, slice_index_or, if◌then◌else◌, min, ◌-◌, ◌^◌, nat_le}
+use Rattle.std.specs.Prelude.{nat_eq, slice_set, slice_index_or, if◌then◌else◌, ◌-◌, ◌^◌}
 use Rattle.std.specs.List.{slice_get}
 use Rattle.std.proofs.lemmas.List.{set-get_or}
 use Rattle.isa_model.specs.declared.map_defs.MapDef.{MapDef}
@@ -25,29 +25,6 @@ row_past : (ms : List MapState) (i : ℕ) → length ms ≤ i → slice_get (row
 row_past [] i past = refl
 row_past (m ∷ ms) zero past = absurd (omega arith)
 row_past (m ∷ ms) (suc i) past = row_past ms i (omega arith)
-
--- an index that is capped where there are fewer maps names the same row, or none
-pub capped_row : (ms : List MapState) (key_at value_at i : ℕ) (key value : List ℕ)
-    → length ms ≤ 2 ^ 64 - 1
-    → row_meaning key_at value_at (min i (2 ^ 64 - 1))
-    (slice_get (rows_of ms) (min i (2 ^ 64 - 1))) key value
-    ≡ row_meaning key_at value_at i (slice_get (rows_of ms) i) key value
-capped_row ms key_at value_at i key value few =
-    elim (nat_le i (2 ^ 64 - 1)) as (λ t. nat_le i (2 ^ 64 - 1) ≡ t
-    → row_meaning key_at value_at (min i (2 ^ 64 - 1))
-    (slice_get (rows_of ms) (min i (2 ^ 64 - 1))) key value
-    ≡ row_meaning key_at value_at i (slice_get (rows_of ms) i) key value) [
-      | true ↦ λ e.
-          let l : i ≤ 2 ^ 64 - 1 = grind arith in
-          let same : min i (2 ^ 64 - 1) ≡ i = omega arith in
-          ap (λ (k : ℕ). row_meaning key_at value_at k (slice_get (rows_of ms) k) key value) same
-      | false ↦ λ e.
-          let l : 2 ^ 64 - 1 < i = grind arith in
-          let a = row_past ms (min i (2 ^ 64 - 1)) (omega arith) in
-          let b = row_past ms i (omega arith) in
-          ap (λ (o : Option MapDef). row_meaning key_at value_at (min i (2 ^ 64 - 1)) o key value) a
-          ∙ ap (λ (o : Option MapDef). row_meaning key_at value_at i o key value) (sym b)
-    ] refl
 
 module _ (ms : List MapState) (number key_at value_at i : ℕ) (key value : List ℕ) where
   abbrev pub put : FilledMaps

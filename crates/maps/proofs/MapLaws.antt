@@ -169,9 +169,6 @@ rows_of-starting (row ∷ rows) = ap (λ (rs : List MapDef). row ∷ rs) (rows_o
 
 -- ---- one map among others
 
-pub length-contents_of : (maps : List MapState) → length (contents_of maps) ≡ length maps
-length-contents_of maps = length-map maps content_in
-
 pub length-rows_of : (maps : List MapState) → length (rows_of maps) ≡ length maps
 length-rows_of maps = length-map maps (λ m. m.row)
 

@@ -1,12 +1,11 @@
 -- Laws of low halves: their signed readings, limits that are reached, and which halves the numbers
 -- between two limits have.
-use Rattle.std.proofs.Common.{◌≡◌, ℕ, ℤ, ◌+◌, ◌-◌, ◌*◌, ◌/◌, ◌%◌, ◌^◌, ◌<◌, ◌≤◌, ◌∙◌, inl, inr, ap, sym, subst, arith, w64}
+use Rattle.std.proofs.Common.{◌≡◌, ℕ, ℤ, ◌+◌, ◌-◌, ◌*◌, ◌/◌, ◌%◌, ◌^◌, ◌<◌, ◌≤◌, ◌∙◌, inl, inr, ap, sym, subst, arith}
 use Rattle.std.specs.Prelude.{◌⊎◌, ◌↔◌, ◌≤ℤ◌, FitsSigned}
 use Rattle.std.specs.Int.{w32, cast_signed, cast_unsigned}
 use borrow.Author.Differences.{up, down}
 use Rattle.std.proofs.lemmas.Int.{ints, of_z-to_z}
 use Rattle.std.proofs.lemmas.Bool.{cases_lt, lt-ltb, le-ltb}
-use Rattle.isa_model.specs.Code.NumberLaws.{signed_equation}
 use Rattle.ranges.specs.Joint.{IsHalfBetween}
 use Rattle.ranges.specs.Lows.{Has, IsOfEither, IsTight, AreReached}
 use Rattle.ranges.specs.declared.low.Low.{Low}
@@ -139,10 +138,3 @@ pub fits_between : (l g z : ℤ) → FitsSigned w32 l → FitsSigned w32 g → l
     → FitsSigned w32 z
 fits_between l g z fl fg from to =
     fits_32 z (omega (arith, ints, fl.sfits)) (omega (arith, ints, fg.sfits))
-
-pub half_signed : (x : ℕ) → x < 2 ^ 64 → FitsSigned w32 (cast_signed w64 x)
-    → cast_signed w32 (x % 2 ^ 32) ≡ cast_signed w64 x
-half_signed x h f =
-    let e = signed_equation x h in
-    let g = low_signed_equation (x % 2 ^ 32) (omega arith) in
-    omega (arith, ints, f.sfits)

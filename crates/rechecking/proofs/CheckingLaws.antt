@@ -148,9 +148,6 @@ unclear_entry t index a e passes there finds refuted h =
     (subst (λ (x : Entry). StateEncloses h.packet h.null x.state a) is h.covers) in
     cc
 
-pub no_entry : (t : EntryAt) (index : ℕ) (a : State) → t index ≡ None → CoversClearly t index a → ⊥
-no_entry t index a none h = let there = h.there in absurd (cc)
-
 pub unclear_start : (t : EntryAt) (e : Entry) (passes : Bool) → t 0 ≡ Some e
     → ((packet null : ℕ → ℕ) → StateEncloses packet null e.state start → IsTrue passes)
     → passes ≡ false → StartsClearly t → ⊥

@@ -1,12 +1,12 @@
 -- What is known of entries while more of their table are placed.
-use Rattle.std.specs.Prelude.{◌≡◌, ℕ, ◌<◌, ◌≤◌, Option, Some}
-use Rattle.std.proofs.Common.{sym, ◌∙◌, subst, arith}
+use Rattle.std.specs.Prelude.{◌≡◌, ℕ, ◌<◌, ◌≤◌, Some}
+use Rattle.std.proofs.Common.{sym, ◌∙◌, arith}
 use Rattle.isa_model.specs.Code.Instructions.{Program}
 use Rattle.isa_model.specs.Machine.Steps.{step}
 use Rattle.isa_model.proofs.EndsLaws.{After-weaker}
 use Rattle.stack_state.specs.declared.states.State.{State}
 use Rattle.table_entries.specs.declared.entries.EntryHead.{EntryHead}
-use Rattle.table_entries.specs.Entries.{Entry, IsAllowed, entry_of}
+use Rattle.table_entries.specs.Entries.{Entry, entry_of}
 use Rattle.table_entries.specs.Tables.{entry_at, count_of}
 use Rattle.table_entries.specs.Growing.{Grown, Grows}
 use Rattle.table_entries.proofs.GrowingLaws.{entry_at-before, entry_at-stays}
@@ -15,7 +15,6 @@ use Rattle.rechecking.specs.declared.entries.Known.TheVariants as known
 use Rattle.rechecking.specs.Tables.{EntryAt, EntersSmaller, IsClosedEntry}
 use Rattle.rechecking.specs.KnownEntries.{HasEntry, IsKnownEntry}
 use Rattle.rechecking.specs.Checking.{Enters, HasStart, AllFineBefore}
-use Rattle.rechecking.proofs.CheckingLaws.{Enters-same}
 
 -- each entry of one table is in the other, with the same index
 abbrev Stays : EntryAt → EntryAt → Type 0
@@ -78,18 +77,6 @@ Enters-grows p g h number index a grows s = record {
   smaller = s.smaller;
   covers = s.covers;
 }
-
--- an entry with this very state and a smaller number is entered
-pub Enters-spelled : (p : Program) (t : EntryAt) (number index : ℕ) (a : State) (head : EntryHead)
-    → IsAllowed p head.number a.slot → t index ≡ Some (entry_of head a)
-    → head.number < number → Enters t number index a
-Enters-spelled p t number index a head allowed there less =
-    Enters-same p t number index a head (record { allowed = allowed; there = there })
-    (λ e here. subst (λ (d : Entry). d.number < number)
-    (one (t index) (entry_of head a) e there here) less)
-  where
-    one : (o : Option Entry) (d e : Entry) → o ≡ Some d → o ≡ Some e → d ≡ e
-    one o d e h k = cc
 
 -- entries that were closed stay so when more are placed
 pub fine_grows : (p : Program) (g h : Grown) (k : ℕ) → Grows p g h → k ≤ count_of g.table

@@ -2,14 +2,10 @@
 use Rattle.std.specs.Prelude.{◌≡◌, ◌≢◌, ℕ, ℤ, Option, Some, None, IfSome, if◌then◌else◌, nat_eq, slice_get}
 use Rattle.std.proofs.Common.{refl, sym, ◌∙◌, arith}
 use Rattle.std.proofs.lemmas.Bool.Decides.{nat_tests}
-use Rattle.isa_model.specs.declared.values.Region.{Region}
 use Rattle.isa_model.specs.declared.values.Value.{Value}
-use Rattle.isa_model.specs.declared.values.Value.TheVariants.{Num, Ptr}
 use Rattle.isa_model.specs.declared.values.Value.TheVariants as value
-use Rattle.reg_state.specs.declared.scalars.Scalar.{Scalar}
 use Rattle.reg_state.specs.declared.kinds.Kind.{Kind}
 use Rattle.reg_state.specs.declared.kinds.Kind.TheVariants.{Unset, Number, Context, Stack, Packet, PacketEnd, Map, MapValue, MapValueOrNull}
-use Rattle.reg_state.specs.Scalars.{Has}
 use Rattle.reg_state.specs.Kinds.{Assigned, Allows, AllowsOrNull, HasLiveValue}
 use Rattle.reg_state.specs.KindCover.{packet_identity_of, null_identity_of}
 use Rattle.reg_state.proofs.Numbers.{if_some}
@@ -120,23 +116,3 @@ Allows-fresh_map_value k e i n v fresh h =
           (λ m is n l. l);
     }
     h
-
--- what a Number allows is a number, one of its own
-pub Allows-number : (e : Assigned) (s : Scalar) (x : ℕ) → Allows e (Number s) (Num x) → Has s x
-Allows-number e s x h = let same : h.0 ≡ x = cc (h.1) in rw same at h.2
-
-pub Allows-number_pointer : (e : Assigned) (s : Scalar) (r : Region) (z : ℤ)
-    → Allows e (Number s) (Ptr r z) → ⊥
-Allows-number_pointer e s r z h = cc (h.1)
-
-pub Allows-number_unset : (e : Assigned) (s : Scalar) → Allows e (Number s) value.Unset → ⊥
-Allows-number_unset e s h = cc (h.1)
-
--- what a Packet allows is a pointer into the packet
-pub Allows-packet_number : (e : Assigned) (x : ℤ) (i : ℕ) (l g : ℤ) (p n : ℕ)
-    → Allows e (Packet x i l g p) (Num n) → ⊥
-Allows-packet_number e x i l g p n h = cc (h.points)
-
-pub Allows-packet_unset : (e : Assigned) (x : ℤ) (i : ℕ) (l g : ℤ) (p : ℕ)
-    → Allows e (Packet x i l g p) value.Unset → ⊥
-Allows-packet_unset e x i l g p h = cc (h.points)

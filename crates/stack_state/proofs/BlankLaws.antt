@@ -16,13 +16,6 @@ blank_taken n xs inside blank =
     get_or-take n xs i (Written 0) under ∙ blank i under
     ∙ sym (get_or-replicate n i (Written 0) (Written 0) under))
 
-pub taken_blank : (n : ℕ) (xs : List StackSlot) → take n xs ≡ replicate n (Written 0)
-    → AreBlankBefore n xs
-taken_blank n xs same = λ k below.
-    sym (get_or-take n xs k (Written 0) below)
-    ∙ ap (λ ys. get_or ys k (Written 0)) same
-    ∙ get_or-replicate n k (Written 0) (Written 0) below
-
 -- they come before the others
 pub blank_first : (n : ℕ) (xs : List StackSlot) → n ≤ length xs → AreBlankBefore n xs
     → xs ≡ replicate n (Written 0) ++ drop n xs

@@ -19,8 +19,7 @@ use Rattle.isa_model.specs.Machine.Memory.{call_frame_index, index_from}
 use Rattle.isa_model.specs.Machine.MachineStates.{IsState, IsCallFrame, value_serials}
 use Rattle.reg_state.specs.Kinds.{Assigned}
 use Rattle.stack_state.specs.declared.states.State.{State}
-use Rattle.stack_state.specs.Meaning.{depth, MeansBy}
-use Rattle.stack_state.proofs.MeaningLaws.{depth_is_length}
+use Rattle.stack_state.specs.Meaning.{MeansBy}
 use Rattle.stack_state.proofs.FrameLaws.{IsHere}
 use Rattle.stack_state.specs.FramePlaces.{IsPlace}
 
@@ -100,16 +99,3 @@ IsHere-place p e a s size serial j at z by m found h =
       index = ap index_from h.from_start;
       inside = omega arith;
     }
-
--- a frame whose serial is in the assignment is live
-pub live_frame : (p : Program) (e : Assigned) (a : State) (s : Machine.State) (serial j : ℕ)
-    → MeansBy p e a s → slice_get e.frames j ≡ Some serial → j < depth a
-live_frame p e a s serial j m found =
-    let mine : slice_get (map (λ f. f.serial) s.frames) j ≡ Some serial =
-    rw (sym m.assigned.serials) found in
-    let count : length (map (λ f. f.serial) s.frames) ≡ length s.frames =
-    length-map s.frames (λ f. f.serial) in
-    let deep = depth_is_length p e a s m in
-    let within : j < length (map (λ f. f.serial) s.frames) =
-    slice_get_within (map (λ f. f.serial) s.frames) j serial mine in
-    omega arith

@@ -1,6 +1,5 @@
 -- Laws of the definitions in specs/Marks.
 use Rattle.std.specs.Prelude.{◌≡◌, ◌≢◌, ℕ, zero, suc, ◌+◌, ◌<◌, ◌≤◌, Bool, true, false, List, [], ◌∷◌, length, slice_set, replicate, Some, refl}
-use borrow.Author.Count.{below_more}
 use Rattle.std.proofs.Common.{inl, inr, sym, ap, ◌∙◌, subst, arith}
 use Rattle.std.proofs.lemmas.Bool.{cases_eq, cases_lt}
 use Rattle.std.proofs.lemmas.List.{length-set, get_or_past, get_or-set_same, get_or-set_other}
@@ -8,14 +7,11 @@ use Rattle.reg_state.specs.declared.kinds.Kind.{Kind}
 use Rattle.reg_state.specs.declared.kinds.Kind.TheVariants.{Unset}
 use Rattle.stack_state.specs.declared.identities.IdentitySort.{IdentitySort}
 use Rattle.stack_state.specs.declared.identities.IdentitySort.TheVariants.{Packets, Nulls}
-use Rattle.stack_state.specs.declared.slots.StackSlot.{StackSlot}
-use Rattle.stack_state.specs.declared.slots.StackSlot.TheVariants.{Written}
-use Rattle.stack_state.specs.declared.states.AbstractFrame.{AbstractFrame}
 use Rattle.stack_state.specs.declared.states.State.{State}
 use Rattle.stack_state.specs.Meaning.{frames_of, no_frame, abstract_frame_at}
 use Rattle.stack_state.proofs.MeaningLaws.{length-frames_of, abstract_frame_at-caller, abstract_frame_at-innermost}
 use Rattle.stack_state.specs.Identities.{named_by, IsFresh, IsLeastFresh}
-use Rattle.stack_state.specs.Marks.{AreFree, HoldsOther, IsFreshAt, IsFreshIn, NamesOther, Marks, is_marked, marked}
+use Rattle.stack_state.specs.Marks.{AreFree, IsFreshAt, IsFreshIn, Marks, is_marked, marked}
 
 -- nothing is marked yet
 pub marked-replicate : (n : ℕ) → marked (replicate n false) ≡ 0
@@ -52,17 +48,6 @@ marked-room (false ∷ marks) room all =
     let full = marked-all marks (λ i inside. all (suc i) (omega arith) (omega arith)) in
     absurd (omega arith)
 
--- no place is asked, and nothing is marked
-pub Marks-none : (IsFree : ℕ → Type 0) (marks : List Bool) → ((i : ℕ) → IsFree i)
-    → Marks IsFree 0 marks marks
-Marks-none IsFree marks all =
-    record {
-      named = λ i is. inl is;
-      free = λ i inside not. (not, all i);
-      few = omega arith;
-      long = refl;
-    }
-
 -- one after the other, where what is free for both is free for all
 pub Marks-then : (P Q R : ℕ → Type 0) (m n : ℕ) (old mid new : List Bool)
     → ((i : ℕ) → P i → Q i → R i) → ((i : ℕ) → R i → P i)
@@ -86,68 +71,10 @@ Marks-then P Q R m n old mid new both left right first second =
       long = second.long ∙ first.long;
     }
 
--- the same marks, for another relation that says the same
-pub Marks-same : (P Q : ℕ → Type 0) (n : ℕ) (old new : List Bool) → ((i : ℕ) → P i → Q i)
-    → ((i : ℕ) → Q i → P i) → Marks P n old new → Marks Q n old new
-Marks-same P Q n old new on back h = record {
-  named =
-      λ i is. elim (h.named i is)
-      [ inl before ↦ inl before | inr not ↦ inr (λ free. not (back i free)) ];
-  free = λ i inside not. let (before, p) = h.free i inside not in (before, on i p);
-  few = h.few;
-  long = h.long;
-}
-
--- before the first place
-pub Marks-first : (Free : ℕ → ℕ → Type 0) (marks : List Bool) → Marks (AreFree Free 0) 0 marks marks
-Marks-first Free marks = Marks-none (AreFree Free 0) marks (λ i k below. absurd (omega arith))
-
--- one place more
-pub Marks-more : (Free : ℕ → ℕ → Type 0) (k m n : ℕ) (old mid new : List Bool)
-    → Marks (AreFree Free k) m old mid
-    → Marks (Free k) n mid new → Marks (AreFree Free (k + 1)) (m + n) old new
-Marks-more Free k m n old mid new =
-    Marks-then (AreFree Free k) (Free k) (AreFree Free (k + 1)) m n old mid new
-    (λ i before here. below_more (λ j. Free j i) k before here)
-    (λ i all j below. all j (omega arith)) (λ i all. all k (omega arith))
-
 -- `Unset` names no identity
 unset_names : (sort : IdentitySort) (i : ℕ) → named_by sort Unset ≢ Some i
 unset_names Packets i = λ e. absurd (cc)
 unset_names Nulls i = λ e. absurd (cc)
-
--- past the last register, and past the last slot, no kind names an identity
-pub Marks-registers : (sort : IdentitySort) (kinds : List Kind) (n m : ℕ) (old new : List Bool)
-    → length kinds ≤ n → Marks (AreFree (NamesOther sort kinds) n) m old new
-    → Marks (λ i. (k : ℕ) → NamesOther sort kinds k i) m old new
-Marks-registers sort kinds n m old new all =
-    Marks-same (AreFree (NamesOther sort kinds) n)
-    (λ i. (k : ℕ) → NamesOther sort kinds k i) m old new
-    (λ i below k. elim (cases_lt k n) [
-      | inl l ↦ below k l
-      | inr past ↦ rw (get_or_past kinds k Unset (omega arith)) (unset_names sort i)
-    ]) (λ i free k below. free k)
-
-pub Marks-slots : (sort : IdentitySort) (slots : List StackSlot) (n m : ℕ) (old new : List Bool)
-    → length slots ≤ n → Marks (AreFree (HoldsOther sort slots) n) m old new
-    → Marks (λ i. (k : ℕ) → HoldsOther sort slots k i) m old new
-Marks-slots sort slots n m old new all =
-    Marks-same (AreFree (HoldsOther sort slots) n)
-    (λ i. (k : ℕ) → HoldsOther sort slots k i) m old new
-    (λ i below k. elim (cases_lt k n) [
-      | inl l ↦ below k l
-      | inr past ↦ rw (get_or_past slots k (Written 0) (omega arith)) (unset_names sort i)
-    ]) (λ i free k below. free k)
-
--- both of a call frame
-pub Marks-frame : (sort : IdentitySort) (f : AbstractFrame) (m n : ℕ) (old mid new : List Bool)
-    → Marks (λ i. (k : ℕ) → NamesOther sort f.registers k i) m old mid
-    → Marks (λ i. (k : ℕ) → HoldsOther sort f.stack.slots k i) n mid new
-    → Marks (IsFreshIn sort f) (m + n) old new
-Marks-frame sort f m n old mid new =
-    Marks-then (λ i. (k : ℕ) → NamesOther sort f.registers k i)
-    (λ i. (k : ℕ) → HoldsOther sort f.stack.slots k i) (IsFreshIn sort f) m n old mid new
-    (λ i r s. record { registers = r; slots = s }) (λ i free. free.registers) (λ i free. free.slots)
 
 -- of a kind that names the identity
 pub Marks-named : (sort : IdentitySort) (k : Kind) (i : ℕ) (marks : List Bool)
@@ -165,18 +92,6 @@ Marks-named sort k i marks is inside = record {
   few = marked-set marks i;
   long = length-set marks i true;
 }
-
--- of a kind that names no identity that the marks are for
-pub Marks-other : (sort : IdentitySort) (k : Kind) (marks : List Bool)
-    → ((i : ℕ) → i < length marks → named_by sort k ≢ Some i)
-    → Marks (λ j. named_by sort k ≢ Some j) 1 marks marks
-Marks-other sort k marks none =
-    record {
-      named = λ j m. inl m;
-      free = λ j inside not. (not, none j inside);
-      few = omega arith;
-      long = refl;
-    }
 
 -- an empty frame names no identity
 nothing_names : (sort : IdentitySort) (i : ℕ) → IsFreshIn sort no_frame i

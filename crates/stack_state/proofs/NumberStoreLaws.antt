@@ -235,10 +235,3 @@ stores_number slots at size numbers t count_is below inside is = λ e count next
     ] in
     slot_changed e slots cells (map Byte bytes) at (at / 8) t count_is within (omega arith)
     (omega arith) m after
-
--- each size is at least one byte
-pub size_some : (size : Size) → 0 < size_bytes size
-size_some U8 = omega arith
-size_some U16 = omega arith
-size_some U32 = omega arith
-size_some U64 = omega arith

@@ -1,30 +1,11 @@
 -- The first place of two lists of kinds, or of call frames, that passes a test.
-use Rattle.std.proofs.Common.{◌≡◌, ◌∙◌, ℕ, ◌+◌, ◌<◌, suc, List, [], ◌∷◌, ◌++◌, append_assoc, Bool, cond, Option, Some, None, length, get_or, drop, drop-cons, add-one, sym, ap, refl, arith}
-use Rattle.std.specs.List.{find, zip}
+use Rattle.std.proofs.Common.{◌≡◌, ◌∙◌, ℕ, ◌+◌, ◌<◌, suc, List, [], ◌∷◌, ◌++◌, append_assoc, Bool, Option, Some, None, length, get_or, drop, drop-cons, add-one, sym, ap, refl, arith}
+use Rattle.std.specs.List.{find}
 use Rattle.std.specs.Option.{option_or}
 use Rattle.std.proofs.lemmas.List.Folds.{find-append}
 use Rattle.reg_state.specs.declared.kinds.Kind.{Kind}
-use Rattle.stack_state.specs.declared.slots.StackSlot.{StackSlot}
 use Rattle.stack_state.specs.declared.states.AbstractFrame.{AbstractFrame}
-use Rattle.stack_state.specs.Slots.{kind_in}
-use Rattle.state_cover.specs.Names.{spilled_kinds, frame_places, places}
-
--- one place more, of two lists of kinds
-pub find-zip : (p : Kind × Kind → Bool) (xs ys : List Kind) (n : ℕ) (x y : Kind)
-    → n < length xs → n < length ys → x ≡ get_or xs n x → y ≡ get_or ys n y
-    → find p (zip (drop n xs) (drop n ys))
-    ≡ cond (p (x, y)) (Some (x, y)) (find p (zip (drop (n + 1) xs) (drop (n + 1) ys)))
-find-zip p xs ys n x y in_xs in_ys at_x at_y =
-    rw (add-one, drop-cons xs n x, drop-cons ys n y, ← at_x, ← at_y) refl
-
--- one slot more
-pub find-slots : (p : Kind × Kind → Bool) (xs ys : List StackSlot) (n : ℕ) (x y : StackSlot)
-    → n < length xs → n < length ys → x ≡ get_or xs n x → y ≡ get_or ys n y
-    → find p (zip (spilled_kinds (drop n xs)) (spilled_kinds (drop n ys)))
-    ≡ cond (p (kind_in x, kind_in y)) (Some (kind_in x, kind_in y))
-    (find p (zip (spilled_kinds (drop (n + 1) xs)) (spilled_kinds (drop (n + 1) ys))))
-find-slots p xs ys n x y in_xs in_ys at_x at_y =
-    rw (add-one, drop-cons xs n x, drop-cons ys n y, ← at_x, ← at_y) refl
+use Rattle.state_cover.specs.Names.{frame_places, places}
 
 -- one frame more
 pub find-places : (p : Kind × Kind → Bool) (fs gs : List AbstractFrame) (n : ℕ)

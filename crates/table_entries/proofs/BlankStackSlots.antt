@@ -73,9 +73,6 @@ pub AreZeros-six : (xs : List ℕ) → 8 ≤ length xs → little_number 4 (drop
 AreZeros-six xs long a b =
     record { inside = let size = length-drop 2 xs in omega arith; zeros = six_zeros xs a b }
 
-pub AreZeros-none : (xs : List ℕ) → AreZeros 0 xs
-AreZeros-none xs = record { inside = omega arith; zeros = λ k lt. absurd (omega arith) }
-
 -- more zeros after zeros
 pub AreZeros-more : (n m : ℕ) (xs : List ℕ) → AreZeros n xs → AreZeros m (drop n xs)
     → AreZeros (n + m) xs

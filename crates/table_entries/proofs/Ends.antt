@@ -34,10 +34,6 @@ IsEnd-place bytes rest (n, e) = of (decide n (length bytes)) where
       ap (λ (k : ℕ). drop k bytes) place ∙ drop_all (length bytes) bytes (omega arith)
       ∙ sym (drop_all n bytes (grind arith)) ∙ sym e
 
-pub IsEnd-length : (bytes rest : List ℕ) → IsEnd bytes rest → length rest ≤ length bytes
-IsEnd-length bytes rest (n, e) =
-    let size : length rest ≡ length bytes - n = ap length e ∙ length-drop n bytes in omega arith
-
 -- the bytes after what is read are an end
 abbrev pub LeavesEnd : {X : Type 0} → List ℕ → Read X → Type 0
 LeavesEnd bytes (Ok x) = IsEnd bytes x.1

@@ -1,5 +1,5 @@
 -- Why a table is refused is the same however its bytes go on, unless they end too early.
-use Rattle.std.specs.Prelude.{◌≡◌, ℕ, zero, suc, ◌+◌, ◌-◌, ◌≤◌, nat_lt, nat_eq, ◌==◌, ◌||◌, not, if◌then◌else◌, codes, Bool, true, false, List, [], ◌∷◌, ◌++◌, length, take, drop, Option, Some, Result, Ok, Err, ◌⊎◌, refl}
+use Rattle.std.specs.Prelude.{◌≡◌, ℕ, zero, suc, ◌+◌, ◌-◌, ◌≤◌, nat_lt, nat_eq, ◌==◌, ◌||◌, not, if◌then◌else◌, codes, Bool, true, false, List, [], ◌∷◌, ◌++◌, length, drop, Option, Some, Result, Ok, Err, ◌⊎◌, refl}
 use Rattle.std.specs.List.{starts_with}
 use Rattle.std.proofs.Common.{ap, sym, ◌∙◌, subst, append_assoc, inl, inr, arith}
 use Rattle.std.proofs.lemmas.Bool.{le-ltb}
@@ -16,10 +16,10 @@ use Rattle.table_entries.specs.declared.stops.StopReason.TheVariants.{Short, Mea
 use Rattle.table_entries.specs.Reading.{Read, sized, then_read}
 use Rattle.table_entries.specs.Frames.{frame_in, callers_in}
 use Rattle.table_entries.specs.Entries.{Entry, named_in, entry_with, rest_in, entry_in}
-use Rattle.table_entries.specs.Tables.{before, then_entries, entries_in, to_the_end, count_in, body_in, with_count, all_allowed, table_read}
+use Rattle.table_entries.specs.Tables.{before, then_entries, entries_in, to_the_end, count_in, body_in, with_count, all_allowed}
 use Rattle.table_entries.specs.Settled.{IsTableSettled, IsTableOpen}
 use Rattle.table_entries.proofs.EntryOrder.{end-empty, end-long}
-use Rattle.table_entries.proofs.Fronts.{same2, same4, number-front, IsOfFront, ReadsFront, ReadsFront-sized, ReadsFront-then, ReadsFront-if, ReadsFront-nothing, ReadsFront-many, ReadsFront-byte, ReadsFront-frame}
+use Rattle.table_entries.proofs.Fronts.{same2, same4, number-front, ReadsFront, ReadsFront-sized, ReadsFront-then, ReadsFront-if, ReadsFront-nothing, ReadsFront-many, ReadsFront-byte, ReadsFront-frame}
 
 -- ---- an entry
 
@@ -218,13 +218,6 @@ count-more bytes more le =
     (ap (pointwise nat_eq (codes "XPT1")) (take-append-le 4 bytes more (omega arith)))
     (number-more 4 4 bytes more (omega arith))
     ∙ sym (count-parts bytes le)
-
--- the first eight bytes are refused
-pub settled-count : (p : Program) (bytes : List ℕ) (e : TableRefusal) → 8 ≤ length bytes
-    → count_in bytes ≡ Err e → IsTableSettled p bytes
-settled-count p bytes e le h more =
-    ap (λ r. all_allowed (with_count p (bytes ++ more) r)) (count-more bytes more le ∙ h)
-    ∙ sym (ap (λ r. all_allowed (with_count p bytes r)) h)
 
 -- what the entries are refused for is the same with more bytes
 settled-body : (p : Program) (bytes : List ℕ) (count : ℕ) (e : TableRefusal) → 8 ≤ length bytes

@@ -10,7 +10,7 @@ use Rattle.table_entries.specs.Reading.{seen}
 use Rattle.table_entries.specs.Entries.{Entry, entry_in}
 use Rattle.table_entries.specs.Tables.{TableView, KeepsEntries, count_of, count_in, entry_at, entry_from, earlier, first_none, all_of, body_in, to_the_end, table_read}
 use Rattle.table_entries.specs.Growing.{Grown, IsBegun, MayGrow, Grows, AllThere, with_place}
-use Rattle.table_entries.proofs.Ends.{IsEnd-more, IsEnd-place, IsEnd-length, entry_in-end}
+use Rattle.table_entries.proofs.Ends.{IsEnd-more, IsEnd-place, entry_in-end}
 use Rattle.table_entries.proofs.Seen.{read-seen}
 use Rattle.table_entries.proofs.EntryOrder.{entries-begins, entries-goes_on, entries-done, places-more, earlier-more, length-more, end-empty, KeepsEntries-places}
 
@@ -229,18 +229,9 @@ Grows-placed p g h e after true less read there left =
 Grows-placed p g h e after false less read there left =
     subst (Grows p g) (sym (left refl)) (Grows-same p g)
 
-pub count-taken : (g h : Grown) (after : List ℕ) → h ≡ taken g after
-    → count_of h.table ≡ count_of g.table + 1
-count-taken g h after e =
-    ap (λ (i : Grown). count_of i.table) e
-    ∙ length-more g.table.places (length g.table.bytes - length g.rest) (count_of g.table) refl
-
 pub entry_at-placed : (p : Program) (g h : Grown) (e : Entry) (after : List ℕ) → IsBegun p g
     → entry_in p g.rest ≡ Ok (Some e, after) → h ≡ taken g after
     → entry_at p h.table (count_of g.table) ≡ Some e
 entry_at-placed p g h e after b read same =
     ap (λ (i : Grown). entry_at p i.table (count_of g.table)) same
     ∙ entry_at-taken p g e after b read
-
-pub rest_inside : (p : Program) (g : Grown) → IsBegun p g → length g.rest ≤ length g.table.bytes
-rest_inside p g b = IsEnd-length g.table.bytes g.rest b.is_end

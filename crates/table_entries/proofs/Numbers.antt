@@ -1,5 +1,5 @@
 -- The number of an entry is the one that its bytes begin with, and it is allowed.
-use Rattle.std.specs.Prelude.{◌≡◌, ℕ, ◌-◌, ◌<◌, nat_lt, ◌==◌, ◌||◌, ◌&&◌, not, if◌then◌else◌, Bool, true, false, List, length, drop, slice_get, Option, Some, None, Ok, Err, refl, MatchOption, IfSome}
+use Rattle.std.specs.Prelude.{◌≡◌, ℕ, ◌-◌, ◌<◌, nat_lt, ◌==◌, ◌||◌, ◌&&◌, not, if◌then◌else◌, Bool, true, false, List, length, drop, slice_get, Option, Some, None, Ok, Err, refl, MatchOption}
 use Rattle.std.proofs.Common.{sym, ap, ◌∙◌, subst, arith, get_or}
 use Rattle.std.proofs.lemmas.Option.{slice_get-get_or}
 use Rattle.std.specs.Option.{is_some, option_map}
@@ -158,8 +158,3 @@ pub stop-at : (p : Program) (t : TableView) (k place : ℕ) (stop : StopReason)
     → slice_get t.places k ≡ Some place → entry_in p (drop place t.bytes) ≡ Err stop
     → entry_at p t k ≡ None
 stop-at p t k place stop there read = rw (there, read)
-
-pub if_some-weaker : {X : Type 0} (P Q : X → Type 0) (o : Option X) → ((x : X) → P x → Q x)
-    → IfSome o P → IfSome o Q
-if_some-weaker P Q (Some x) h given = h x given
-if_some-weaker P Q None h given = tt

@@ -46,16 +46,6 @@ eight_same d xs ys x y before same k less = elim (cases_lt k d) [
       ∙ get_or-drop d ys (k - d) 0 ∙ ap (λ (j : ℕ). get_or ys j 0) index
 ]
 
-pub one_same : (d : ℕ) (xs ys : List ℕ) → ((k : ℕ) → k < d → get_or xs k 0 ≡ get_or ys k 0)
-    → get_or xs d 0 ≡ get_or ys d 0
-    → (k : ℕ) → k < d + 1 → get_or xs k 0 ≡ get_or ys k 0
-one_same d xs ys before same k less = elim (cases_lt k d) [
-  | inl inside ↦ before k inside
-  | inr past ↦
-      let last : k ≡ d = omega arith in
-      ap (λ (j : ℕ). get_or xs j 0) last ∙ same ∙ ap (λ (j : ℕ). get_or ys j 0) (sym last)
-]
-
 pub begins-same : (xs front : List ℕ) → length front ≤ length xs
     → ((k : ℕ) → k < length front → get_or xs k 0 ≡ get_or front k 0)
     → xs ≡ front ++ drop (length front) xs

@@ -220,11 +220,6 @@ seen-rest p number slot caller_count bytes =
     (λ successors after. ap (λ (b : Bool). Ok (b, after))
     (some-entry p number slot callers innermost successors))))
 
-pub seen-kept : {X : Type 0} (b : Bool) (x : X) (rest : List ℕ) (read : Read X)
-    → read ≡ Ok (kept b x, rest) → seen read ≡ Ok (b, rest)
-seen-kept true x rest read h = ap seen h
-seen-kept false x rest read h = ap seen h
-
 pub and-named : (b : Bool) → b ≡ (b && true)
 and-named b = sym (and-true b)
 

@@ -1,10 +1,9 @@
 -- What a file is by its first bytes.
-use Rattle.std.proofs.Common.{◌≡◌, ◌∙◌, ℕ, ◌≤◌, List, ◌++◌, Option, Some, None, arith, sym, ap, subst, inl, inr, length, length-append}
+use Rattle.std.proofs.Common.{◌≡◌, ◌∙◌, ℕ, ◌≤◌, List, ◌++◌, Option, Some, None, arith, sym, ap, subst, inr, length, length-append}
 use Rattle.std.specs.Prelude.{IfSome, take, min}
 use Rattle.std.specs.Io.KnownBytes.{Consumes, IsAtEnd}
 use Rattle.std.proofs.lemmas.List.{append-nil, take-append-le}
 use Rattle.task_outcomes.specs.declared.forms.FileForm.{FileForm}
-use Rattle.task_outcomes.specs.declared.forms.FileForm.TheVariants.{Unknown}
 use Rattle.task_outcomes.specs.Forms.{file_form_by, front_of, file_form_of, IsFileFormOf}
 
 front_more : (front more : List ℕ) → length front ≡ 4 → front_of (front ++ more) ≡ front_of front
@@ -40,15 +39,3 @@ ended None new front h end = tt
 ended (Some xs) None front h end = absurd h
 ended (Some xs) (Some ys) front h end =
     inr (sym (ap file_form_of (h ∙ (ap (λ (l : List ℕ). front ++ l) end ∙ append-nil front))))
-
-pub file_form_ended : (old new : Option (List ℕ)) (front read : List ℕ) (form : FileForm)
-    → form ≡ file_form_of front → front ≡ read → Consumes old new read → IsAtEnd new
-    → IfSome old (λ bytes. IsFileFormOf bytes form)
-file_form_ended old new front read form is same h end =
-    subst (λ (f : FileForm). IfSome old (λ bytes. IsFileFormOf bytes f))
-    (sym (is ∙ ap file_form_of same)) (ended old new read h end)
-
-pub file_form_unknown : (old : Option (List ℕ)) (form : FileForm) → form ≡ Unknown
-    → IfSome old (λ bytes. IsFileFormOf bytes form)
-file_form_unknown None form e = tt
-file_form_unknown (Some xs) form e = inl e

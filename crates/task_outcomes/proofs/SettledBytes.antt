@@ -1,8 +1,8 @@
 -- What is said of the bytes of a table or a text that were read is what all of its bytes say.
 use Rattle.std.specs.Prelude.{◌≡◌, ℕ, List, [], ◌++◌, Option, Some, None, IfSome}
-use Rattle.std.specs.Io.KnownBytes.{Consumes, IsAtEnd}
+use Rattle.std.specs.Io.KnownBytes.{Consumes}
 use Rattle.std.proofs.Common.{ap, ◌∙◌, sym, length, take, drop, append_assoc}
-use Rattle.std.proofs.lemmas.List.{append-nil, take-append-drop}
+use Rattle.std.proofs.lemmas.List.{take-append-drop}
 use Rattle.isa_model.specs.Code.Instructions.{Program}
 use Rattle.table_entries.specs.Tables.{table_read}
 use Rattle.table_entries.specs.Settled.{IsTableSettled}
@@ -18,13 +18,6 @@ settled_held p None new bytes read settled = tt
 settled_held p (Some held) None bytes read settled = absurd read
 settled_held p (Some held) (Some left) bytes read settled = ap (table_read p) read ∙ settled left
 
-pub all_held : (p : Program) (old new : Option (List ℕ)) (bytes : List ℕ)
-    → Consumes old new bytes → IsAtEnd new → SaysTheSame p old bytes
-all_held p None new bytes read end = tt
-all_held p (Some held) None bytes read end = absurd read
-all_held p (Some held) (Some left) bytes read end =
-    ap (table_read p) (read ∙ ap (λ (l : List ℕ). bytes ++ l) end ∙ append-nil bytes)
-
 -- ---- texts
 
 abbrev pub SpellsTheSame : Option (List ℕ) → List ℕ → Type 0
@@ -35,13 +28,6 @@ pub settled_text : (old new : Option (List ℕ)) (bytes : List ℕ)
 settled_text None new bytes read settled = tt
 settled_text (Some held) None bytes read settled = absurd read
 settled_text (Some held) (Some left) bytes read settled = ap assembled read ∙ settled left
-
-pub all_text : (old new : Option (List ℕ)) (bytes : List ℕ)
-    → Consumes old new bytes → IsAtEnd new → SpellsTheSame old bytes
-all_text None new bytes read end = tt
-all_text (Some held) None bytes read end = absurd read
-all_text (Some held) (Some left) bytes read end =
-    ap assembled (read ∙ ap (λ (l : List ℕ). bytes ++ l) end ∙ append-nil bytes)
 
 -- a text whose front is settled is settled
 pub settled_front : (front bytes : List ℕ) → front ≡ take (length front) bytes

@@ -20,7 +20,7 @@ use Rattle.reg_state.proofs.ConstantsLaws.{IsNumber-only}
 use Rattle.stack_state.specs.declared.states.State.{State}
 use Rattle.stack_state.specs.Meaning.{MeansBy}
 use Rattle.transfer.specs.declared.refusals.Refusal.TheVariants.{PointerOffset}
-use Rattle.transfer.specs.Results.{IsNumber32, OfNumber, moved_offset, LeavesNumber, moved_frame}
+use Rattle.transfer.specs.Results.{OfNumber, moved_offset, LeavesNumber, moved_frame}
 
 -- the value is there, and the kind allows it
 abbrev pub Yields : Assigned → Kind → Result Value TrapReason → Type 0
@@ -73,8 +73,3 @@ frame_moves e back frame offset by k x n (Some m) only member h found =
 frame_moves e back frame offset by k x n None only member h found = absurd (cc)
 
 -- ---- numbers of 32 bits
-
-pub number32_yields : (e : Assigned) (k : Kind) (n : ℕ) → IsNumber32 k → n < 2 ^ 32
-    → Allows e k (value.Num n)
-number32_yields e (Number c) n h small = (n, refl, (h n).1 small)
-number32_yields e k n h small = absurd h

@@ -1,6 +1,6 @@
 -- The loops that forget dead registers and dead stack slots: what is forgotten after some of them,
 -- and after all; what is forgotten of callers.
-use Rattle.std.proofs.Common.{◌≡◌, ◌≢◌, ◌<◌, ◌≤◌, ◌+◌, ◌↔◌, ℕ, List, length, replicate, get_or, set, refl, sym, ap, ◌∙◌, subst, arith, inl, inr}
+use Rattle.std.proofs.Common.{◌≡◌, ◌≢◌, ◌<◌, ◌≤◌, ◌+◌, ◌↔◌, ℕ, List, length, replicate, set, refl, sym, ap, ◌∙◌, subst, arith, inl, inr}
 use Rattle.std.specs.Int.{bit_at}
 use Rattle.std.proofs.lemmas.Bool.{cases_eq}
 use Rattle.std.proofs.lemmas.List.{length-replicate, get_or-replicate, length-set, get_or-set_same, get_or-set_other}
@@ -15,15 +15,14 @@ use Rattle.stack_state.specs.declared.slots.StackSlot.TheVariants.{Written}
 use Rattle.stack_state.specs.Slots.{AreKnownFrom, slot_at, frame_slots}
 use Rattle.stack_state.specs.declared.states.AbstractFrame.{AbstractFrame}
 use Rattle.stack_state.specs.declared.states.State.{State}
-use Rattle.stack_state.specs.Meaning.{abstract_frame_at, kind_at, no_frame}
-use Rattle.stack_state.proofs.MeaningLaws.{abstract_frame_at-caller, abstract_frame_at-innermost}
+use Rattle.stack_state.specs.Meaning.{abstract_frame_at, kind_at}
+use Rattle.stack_state.proofs.MeaningLaws.{abstract_frame_at-caller}
 use Rattle.isa_model.proofs.RegisterLaws.{same_number}
 use Rattle.control_flow.specs.declared.slot_masks.SlotMask.{SlotMask}
 use Rattle.control_flow.specs.Masks.{HasSlot}
 use Rattle.control_flow.specs.Flows.{IsJoin}
 use Rattle.control_flow.specs.Liveness.{IsLive, IsSlotLive}
 use Rattle.walks.specs.Forgetting.{IsKept, AreKept, IsSlotLeft, AreSlotsLeft, AreSlotsKept, IsCallerKept, AreCallersKept, CallersForgotten, DeadForgotten}
-use Rattle.walks.proofs.OnNumbers.{below_ten}
 
 -- ---- the loop
 
@@ -33,11 +32,6 @@ pub record KeptBelow (p : Program) (slot n : ℕ) (old new : List Kind) : Type 0
   pub below : (r : Reg) → r ≢ R10 → reg_number r < n
       → IsKept p slot r (kind_at old (reg_number r)) (kind_at new (reg_number r))
   pub above : (k : ℕ) → n ≤ k → kind_at new k ≡ kind_at old k
-
-pub kept_none : (p : Program) (slot : ℕ) (old : List Kind) → length old ≡ 10
-    → KeptBelow p slot 0 old old
-kept_none p slot old ten =
-    record { ten = ten; below = λ r own low. absurd (omega arith); above = λ k high. refl }
 
 -- the next register is live
 pub kept_more_live : (p : Program) (slot n : ℕ) (r : Reg) (old new : List Kind) → reg_number r ≡ n
@@ -78,17 +72,6 @@ kept_more_dead p slot n r old new is within join dead m =
           λ k high. get_or-set_other new n k Unset Unset (λ e. absurd (omega arith))
           ∙ m.above k (omega arith);
     }
-
-pub AreKept-below : (p : Program) (slot n : ℕ) (old new : List Kind) → 10 ≤ n
-    → KeptBelow p slot n old new → AreKept p slot old new
-AreKept-below p slot n old new every m =
-    record { ten = m.ten; each = λ r own. m.below r own (let low = below_ten r own in omega arith) }
-
--- away from joins nothing is forgotten
-pub kept_alone : (p : Program) (slot : ℕ) (old : List Kind) → length old ≡ 10 → (IsJoin p slot → ⊥)
-    → AreKept p slot old old
-kept_alone p slot old ten alone =
-    record { ten = ten; each = λ r own. inl (λ dead. alone dead.0, refl) }
 
 -- ---- the loop through stack slots
 
@@ -147,11 +130,6 @@ slots_left_dead p slot n old new within dead m =
           ∙ m.above k (omega arith);
     }
 
-pub AreSlotsLeft-below : (p : Program) (slot n : ℕ) (old new : List StackSlot) → 64 ≤ n
-    → SlotsLeftBelow p slot n old new → AreSlotsLeft p slot old new
-AreSlotsLeft-below p slot n old new every m =
-    record { all = m.all; each = λ j below. m.below j (omega arith) }
-
 -- all of them are live
 pub slots_left_full : (p : Program) (slot : ℕ) (old : List StackSlot) → length old ≡ 64
     → ((j : ℕ) → j < 64 → IsSlotLive p j slot) → AreSlotsLeft p slot old old
@@ -166,12 +144,6 @@ slots_left_empty p slot old dead = record {
   all = length-replicate frame_slots (Written 0);
   each = λ j below. inr (dead j, get_or-replicate frame_slots j (Written 0) (Written 0) below);
 }
-
--- away from joins nothing is forgotten
-pub slots_kept_alone : (p : Program) (slot : ℕ) (old : List StackSlot) → length old ≡ 64
-    → (IsJoin p slot → ⊥) → AreSlotsKept p slot old old
-slots_kept_alone p slot old all alone =
-    record { all = all; each = λ j below. inl (λ dead. alone dead.0, refl) }
 
 -- at a join the dead stack slots are
 pub AreSlotsKept-left : (p : Program) (slot : ℕ) (old new : List StackSlot) → IsJoin p slot
@@ -196,57 +168,6 @@ callers_kept_all p a =
 
 pub callers_none : (p : Program) (a : State) → CallersForgotten p a a
 callers_none p a = record { rest = refl; callers = callers_kept_all p a }
-
--- of the last caller, stack slots are left or forgotten
-pub caller_left : (p : Program) (a b : State) (n : ℕ) (f g : AbstractFrame)
-    → n + 1 ≡ length a.callers.items → f ≡ abstract_frame_at a n
-    → b ≡ record a { callers = record { items = set a.callers.items n g } }
-    → g ≡ record f { stack = record { slots = g.stack.slots } }
-    → AreSlotsLeft p a.innermost.return_slot f.stack.slots g.stack.slots → CallersForgotten p a b
-caller_left p a b n f g last there is rest left = record {
-  rest = is ∙ ap (λ (x : State). record a { callers = x.callers }) (sym is);
-  callers = record {
-    as_many = ap (λ (x : State). length x.callers.items) is ∙ length-set a.callers.items n g;
-    each = λ k below.
-        let long : length b.callers.items ≡ length a.callers.items =
-        ap (λ (x : State). length x.callers.items) is ∙ length-set a.callers.items n g in
-        let now : abstract_frame_at b k ≡ get_or (set a.callers.items n g) k no_frame =
-        abstract_frame_at-caller b k (omega (arith, below, long))
-        ∙ ap (λ (x : State). get_or x.callers.items k no_frame) is in
-        elim (cases_eq k n) [
-          | inl e ↦
-              let own : abstract_frame_at b k ≡ g =
-              now ∙ ap (λ (i : ℕ). get_or (set a.callers.items n g) i no_frame) e
-              ∙ get_or-set_same a.callers.items n g no_frame (omega (arith, last)) in
-              let before : f ≡ abstract_frame_at a k = there ∙ ap (abstract_frame_at a) (sym e) in
-              let after : abstract_frame_at a (k + 1) ≡ a.innermost =
-              ap (abstract_frame_at a) (ap (λ (i : ℕ). i + 1) e ∙ last)
-              ∙ abstract_frame_at-innermost a in
-              let kept : IsCallerKept p a.innermost.return_slot f g = record {
-                rest = rest;
-                slots = λ j inside. elim (left.each j inside) [
-                  | inl same ↦ inl same.1
-                  | inr gone ↦ inr gone
-                ];
-              } in
-              subst (λ (x : AbstractFrame).
-              IsCallerKept p (abstract_frame_at a (k + 1)).return_slot
-              (abstract_frame_at a k) x) (sym own)
-              (subst (λ (x : AbstractFrame). IsCallerKept p x.return_slot (abstract_frame_at a k) g)
-              (sym after)
-              (subst (λ (x : AbstractFrame). IsCallerKept p a.innermost.return_slot x g) before
-              kept))
-          | inr apart ↦
-              let same : abstract_frame_at b k ≡ abstract_frame_at a k =
-              now ∙ get_or-set_other a.callers.items n k g no_frame apart
-              ∙ sym (abstract_frame_at-caller a k (omega arith)) in
-              subst (λ (x : AbstractFrame).
-              IsCallerKept p (abstract_frame_at a (k + 1)).return_slot
-              (abstract_frame_at a k) x) (sym same)
-              (record { rest = refl; slots = λ j inside. inl refl })
-        ];
-  };
-}
 
 -- what is forgotten of callers first, and of the innermost frame then
 pub DeadForgotten-both : (p : Program) (a m b : State) (ks : List Kind) (slots : List StackSlot)

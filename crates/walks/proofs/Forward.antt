@@ -85,10 +85,6 @@ pub StepsTo-alone : (p : Program) (a c : State) → HasNoCalls p → depth a ≡
     → StaysAlone p a c
 StepsTo-alone p a c free one step = GoesOnTo-alone p a c free one (StepsTo-goes p a c step)
 
-pub StepsTo-follows : (p : Program) (a c : State) → HasNoCalls p → depth a ≡ 1 → StepsTo p a c
-    → Follows p a.slot c.slot
-StepsTo-follows p a c free one step = (StepsTo-alone p a c free one step).follows
-
 pub one_frame-start : depth start ≡ 1
 unfolding start
 one_frame-start = refl

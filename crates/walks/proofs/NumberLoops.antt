@@ -17,7 +17,6 @@ use Rattle.stack_state.specs.declared.slots.StackSlot.TheVariants.{Written}
 use Rattle.stack_state.specs.declared.states.State.{State}
 use Rattle.stack_state.specs.Slots.{AreKnownFrom, slot_at, kind_in, IsAnyNumber}
 use Rattle.stack_state.specs.Meaning.{kind_at, registers_of}
-use Rattle.stack_state.proofs.PlaceLaws.{same_or_other}
 use Rattle.branch_refine.specs.Refining.{IsNumberKind}
 use Rattle.control_flow.specs.declared.masks.RegisterMask.{RegisterMask}
 use Rattle.control_flow.specs.declared.slot_masks.SlotMask.{SlotMask}
@@ -25,8 +24,7 @@ use Rattle.control_flow.specs.Masks.{HasRegister, HasSlot, no_registers}
 use Rattle.control_flow.specs.Flows.{IsJoin}
 use Rattle.control_flow.specs.Liveness.{InRegister, InSlot, IsSlotLive}
 use Rattle.control_flow.specs.TestedNumbers.{MayForgetNumbers, IsNumberTested}
-use Rattle.walks.specs.Forgetting.{slots_in, IsSlotDeadAt, MayForgetAll, MayForgetNumber, AreNumbersKept, AreSpilledNumbersKept, DeadForgotten, NumbersForgotten, Forgets, KnowsTestedNumbers, KnowsNoNumber, ForgetsNumber, ForgetsSpilled, ForgetsUnless, ForgetsIf, ForgetsNumbersBeside, ForgetsNumbersIn, AreNumberRegisters}
-use Rattle.walks.proofs.OnNumbers.{below_ten}
+use Rattle.walks.specs.Forgetting.{slots_in, IsSlotDeadAt, MayForgetAll, MayForgetNumber, AreNumbersKept, AreSpilledNumbersKept, DeadForgotten, NumbersForgotten, Forgets, KnowsTestedNumbers, KnowsNoNumber, ForgetsNumber, ForgetsSpilled, ForgetsUnless, ForgetsIf, ForgetsNumbersBeside, ForgetsNumbersIn}
 use Rattle.walks.proofs.DeadForgottenLaws.{DeadForgotten-forgotten}
 use Rattle.walks.proofs.NumbersForgottenLaws.{numbers_stay}
 
@@ -38,11 +36,6 @@ pub record BesideBelow (Kept : Reg → Type 0) (n : ℕ) (old new : List Kind) :
   pub below : (r : Reg) → r ≢ R10 → reg_number r < n
       → ForgetsUnless (Kept r) (kind_at old (reg_number r)) (kind_at new (reg_number r))
   pub above : (k : ℕ) → n ≤ k → kind_at new k ≡ kind_at old k
-
-pub beside_none : (Kept : Reg → Type 0) (old : List Kind) → length old ≡ 10
-    → BesideBelow Kept 0 old old
-beside_none Kept old ten =
-    record { ten = ten; below = λ r own low. absurd (omega arith); above = λ k high. refl }
 
 -- the next register is kept
 pub beside_kept : (Kept : Reg → Type 0) (n : ℕ) (r : Reg) (old new : List Kind) → reg_number r ≡ n
@@ -91,11 +84,6 @@ beside_forgotten Kept n i r old new d k is here within free read m =
           λ j high. get_or-set_other new n j k Unset (λ e. absurd (omega arith))
           ∙ m.above j (omega arith);
     })
-
-pub ForgetsNumbersBeside-below : (Kept : Reg → Type 0) (n : ℕ) (old new : List Kind) → 10 ≤ n
-    → BesideBelow Kept n old new → ForgetsNumbersBeside Kept old new
-ForgetsNumbersBeside-below Kept n old new every m =
-    record { ten = m.ten; each = λ r own. m.below r own (let low = below_ten r own in omega arith) }
 
 -- ---- the loop through stack slots
 
@@ -168,11 +156,6 @@ in_forgotten Chosen n i old new d s here within chosen read h =
           ∙ h.above k (omega arith);
     })
 
-pub ForgetsNumbersIn-below : (Chosen : ℕ → Type 0) (n : ℕ) (old new : List StackSlot) → 64 ≤ n
-    → InBelow Chosen n old new → ForgetsNumbersIn Chosen old new
-ForgetsNumbersIn-below Chosen n old new every h =
-    record { all = h.all; each = λ j below. h.below j (omega arith) }
-
 -- ---- the loop that looks for numbers
 
 -- what is read at index i
@@ -195,13 +178,6 @@ numbers_more mask kinds n r is number below = λ q low among. elim (cases_eq (re
       subst (λ (k : ℕ). IsNumberKind (kind_at kinds k)) (sym e)
       (number (subst (HasRegister mask) same among))
   | inr apart ↦ below q (omega arith) among
-]
-
-pub AreNumberRegisters-below : (mask : RegisterMask) (kinds : List Kind) (n : ℕ) → 10 ≤ n
-    → (HasRegister mask R10 → ⊥) → NumbersBelow mask kinds n → AreNumberRegisters mask kinds
-AreNumberRegisters-below mask kinds n every none below = λ r among. elim (same_or_other r R10) [
-  | inl last ↦ absurd (none (subst (HasRegister mask) last among))
-  | inr own ↦ (own, below r (let low = below_ten r own in omega arith) among)
 ]
 
 -- ---- other words for what is kept
