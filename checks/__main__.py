@@ -2,10 +2,11 @@
 """Runs the checks of the gate side by side, on the programs that were built.
 
 usage: python3 -m checks [--list] [--jobs N] [NAME ..]        (at the top of the repository)
+       python3 -m checks near [--since COMMIT] [CRATE::FUNCTION ..]
 
 NAME is one of --list, which prints each with its command and what it checks; without a name all run. --jobs: so many at once (the
 default: the cores). What a check prints is shown if it fails. The last line is 'N passed, M failed': a check counts once, and the
-pages' examples each. The exit status is 0 if all pass.
+pages' examples each. The exit status is 0 if all pass. `near` proves only the functions that were changed: checks/near.py.
 """
 import argparse
 import os
@@ -16,6 +17,7 @@ import time
 from concurrent.futures import ThreadPoolExecutor, as_completed
 from dataclasses import dataclass
 
+from . import near
 from .listed import CHECKS, TOP, Check
 
 CANNOT = 77
@@ -77,6 +79,8 @@ def run_all(checks: list[Check], jobs: int) -> list[Result]:
 
 
 def main() -> int:
+    if sys.argv[1:2] == ["near"]:
+        return near.main(sys.argv[2:])
     words = argparse.ArgumentParser(prog="python3 -m checks", description=__doc__, formatter_class=argparse.RawDescriptionHelpFormatter)
     words.add_argument("--list", action="store_true")
     words.add_argument("--jobs", type=int, default=len(os.sched_getaffinity(0)))
