@@ -288,7 +288,7 @@ def crates_on_pages():
         crates = {row.split(":")[0].split()[0] for row in rows if row.strip() and row[0] != "#"}
     with open(os.path.join(TOP, "docs/ARCHITECTURE.md")) as file:
         table = file.read().split("\n## Crates\n")[1].split("\n## ")[0]
-    named = {name for row in re.findall(r"^\| (`[^|]*) \|", table, re.M) for name in re.findall(r"`(\w+)`", row)}
+    named = {name for row in re.findall(r"^\| (\[?`[^|]*) \|", table, re.M) for name in re.findall(r"`(\w+)`", row)}
     yield "crates that differ in docs/ARCHITECTURE.md", "[]\n", f"{sorted(crates ^ named)}\n"
 
 
