@@ -7,7 +7,8 @@ Such a block begins with the crate's name. Its commands stand after `$`: `sed -i
 checks it. Each block has a copy of the crate for itself. The lines after a check have to be among those that it prints, in
 their order; `..` in them stands for anything. A check without lines has to prove its function. The crates below are taken
 from the folder in the variable LIBRARIES, in which `rt ci` ran, as in the gate; without it they are proved first.
-The last line counts, and the exit status is 1 if any block differs.
+Each row of the page's table of a frame names functions that its files have. The last line counts, and the exit status is 1 if
+any block or row differs.
 """
 import concurrent.futures
 import os
@@ -92,18 +93,30 @@ def wrong(graph: dict[str, list[str]], crate: str, body: str, libraries: str) ->
     return ""
 
 
+def wrong_row(files: str, functions: str) -> str:
+    """The functions of a row that its files do not have; empty if they have all."""
+    paths = [f"{TOP}/crates/{it}" for it in re.findall(r"`([^`]+)`", files)]
+    code = "".join(open(it, encoding="utf-8").read() for it in paths if os.path.isfile(it))
+    names = [it.split("::")[-1] for it in re.findall(r"`([^`]+)`", functions)]
+    lost = [it for it in names if not re.search(rf"\bfn {it}\b", code)]
+    return f"{files} has no function {', '.join(lost)}" if lost else ""
+
+
 def main() -> None:
     graph = below()
     with open(PAGE, encoding="utf-8") as file:
-        blocks = [it for it in re.findall(r"^```(\w+)\n(.*?)^```$", file.read(), re.M | re.S) if it[0] in graph]
+        page = file.read()
+    blocks = [it for it in re.findall(r"^```(\w+)\n(.*?)^```$", page, re.M | re.S) if it[0] in graph]
+    rows = re.findall(r"^\| (`\w+/src/\S+.*?) \| (.*?) \|", page, re.M)
     with tempfile.TemporaryDirectory(prefix="tour-libraries-") as folder:
         libraries = os.environ.get("LIBRARIES") or proved_below(graph, {crate for crate, _ in blocks}, folder)
         with concurrent.futures.ThreadPoolExecutor(2) as pool:
             found = list(pool.map(lambda it: wrong(graph, it[0], it[1], libraries), blocks))
+    found += [wrong_row(*row) for row in rows]
     for it in filter(None, found):
         print(it)
-    print(f"{len(blocks)} examples, {sum(map(bool, found))} differ")
-    sys.exit(1 if any(found) or not blocks else 0)
+    print(f"{len(found)} examples, {sum(map(bool, found))} differ")
+    sys.exit(1 if any(found) or not blocks or not rows else 0)
 
 
 if __name__ == "__main__":
