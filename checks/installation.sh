@@ -34,8 +34,10 @@ cmp again.frames sent.frames
 xdpvm-image --help > help
 refused grep -q "python3 tools/" help
 xdpvm-table --help > help
+xdpvm-expression --help > help
+grep -q "^usage: xdpvm-expression EXPRESSION" help
 xdpvm-kernel --help > help
-[[ ! -e bin/xdpvm-limits && ! -e bin/frames.py && -s share/xdpvm/docs/GUIDE.md && -s include/xdpvm.h && -s lib/libxdpvm_c.a ]]
+[[ ! -e bin/xdpvm-limits && ! -e bin/xdpvm-filter && ! -e bin/frames.py && -s share/xdpvm/docs/GUIDE.md && -s include/xdpvm.h && -s lib/libxdpvm_c.a ]]
 refused bash "$top/install.sh" "$work/wrong" /bin/true
 [[ ! -e $work/wrong ]]
 

@@ -21,6 +21,7 @@ class Check:
 
 CHECKS = (
     Check("guide", "python3 examples/guide.py", "every example of the pages, on the program; that links lead somewhere", 40),
+    Check("tour", "python3 examples/tour.py", "the changes of TOUR.md: what the prover says of each", 10),
     Check("cases", "python3 tests/commands.py", "the commands of the programs on cases that are written by hand: what is written to each output and file, and the status", 6),
     Check("programs", "python3 tests/programs.py", "texts: verdicts, bounds and runs of programs that are written by hand", 8),
     Check("messages", "python3 examples/messages.py", "what is said of wrong inputs", 4),

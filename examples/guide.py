@@ -13,7 +13,7 @@ The first word after the backquotes of a code block says how the block is tried:
     console     commands after `$`, each followed by its standard output
     tcpdump     the same, where tcpdump 4.99 with libpcap 1.10 is installed
     NAME.text   a program text; it is written to that file, for the commands that follow it on the page
-    NAME.maps   the same of a text of maps
+    NAME.maps   the same of a text of maps, NAME.cases of cases for tests/programs.py
     program     a program text; `asm` assembles it, and `verify` answers what the comment says
     trace       a program text; the first frame of examples/two.frames, traced, has the lines that the comment says
     image       an image in hexadecimal; `verify` answers what the comment says
@@ -22,15 +22,14 @@ The first word after the backquotes of a code block says how the block is tried:
     entries     the same as a text for tools/table.py
 
 The last six begin with a comment: the line of standard output, and after it what standard error gets. A refusal of
-`asm` counts as the answer. In hexadecimal `#` begins a comment. Blocks with any other word, or with none, are not
-tried. Each examples/NAME.text has to make NAME.image, each NAME.bpf.c too where clang 14 is installed, each NAME.table
-is what `prove` writes for NAME.image, and each NAME.report is what `run` prints for NAME.image and NAME.frames, into a
-pipe and into a file. The last rows read crates.txt, the crates and the pages: what `run` and
-`recheck` depend on, that each crate has its row, and that
-each link leads somewhere. Each NAME.frames is what frames.py makes from NAME.pcapng, if there is
-one; frame streams of XPF1 and XPF2 become texts and captures, and those the same streams again. Each
-filter of examples/filters is answered as it says (filters.py). The exit status is 0 if every result
-is the one wanted, else 1.
+`asm` counts as the answer. In hexadecimal `#` begins a comment. A block that begins with a crate's name is tried by
+tour.py; blocks with any other word, or with none, are not tried. Each examples/NAME.text has to make NAME.image, each
+NAME.bpf.c too where clang 14 is installed, each NAME.table is what `prove` writes for NAME.image, and each NAME.report
+is what `run` prints for NAME.image and NAME.frames, into a pipe and into a file. The last rows read crates.txt, the
+crates and the pages: what `run` and `recheck` depend on, that each crate has its row, and that each link leads somewhere.
+Each NAME.frames is what frames.py makes from NAME.pcapng, if there is one; frame streams of XPF1 and XPF2 become texts
+and captures, and those the same streams again. Each filter of examples/filters is answered as it says (filters.py). The
+exit status is 0 if every result is the one wanted, else 1.
 """
 import argparse
 import glob
@@ -145,7 +144,7 @@ def has_programs(body):
 
 def tries(kind, body):
     """The examples of a block: what is tried, what is wanted, and the result."""
-    if kind.endswith((".text", ".maps")):
+    if kind.endswith((".text", ".maps", ".cases")):
         write(kind, body)
     elif kind == "console" and has_programs(body) or kind == "tcpdump" and has_tcpdump():
         for command, wanted in COMMAND.findall(body):
@@ -289,7 +288,7 @@ def crates_on_pages():
         crates = {row.split(":")[0].split()[0] for row in rows if row.strip() and row[0] != "#"}
     with open(os.path.join(TOP, "docs/ARCHITECTURE.md")) as file:
         table = file.read().split("\n## Crates\n")[1].split("\n## ")[0]
-    named = {name for row in re.findall(r"^\| (`[^|]*) \|", table, re.M) for name in re.findall(r"`(\w+)`", row)}
+    named = {name for row in re.findall(r"^\| (\[?`[^|]*) \|", table, re.M) for name in re.findall(r"`(\w+)`", row)}
     yield "crates that differ in docs/ARCHITECTURE.md", "[]\n", f"{sorted(crates ^ named)}\n"
 
 

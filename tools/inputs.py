@@ -4,6 +4,8 @@ import re
 import sys
 from typing import Callable, Iterator
 
+# Tools that are not installed as xdpvm-NAME: xdpvm-filter would be xdpvm_filter, the program, but for one character.
+INSTALLED = {"filter": "expression"}
 
 
 def named(text: str) -> str:
@@ -11,7 +13,7 @@ def named(text: str) -> str:
     called = os.path.basename(sys.argv[0])
     if called.endswith((".py", ".sh")):
         return text
-    return re.sub(r"(?:python3|bash) (?:tools|examples)/(\w+)\.(?:py|sh)", r"xdpvm-\1", text)
+    return re.sub(r"(?:python3|bash) (?:tools|examples)/(\w+)\.(?:py|sh)", lambda it: f"xdpvm-{INSTALLED.get(it[1], it[1])}", text)
 
 
 LINE = 1 << 16  # no line of a text is longer, in bytes

@@ -1,0 +1,105 @@
+#!/usr/bin/env python3
+"""Runs the blocks of docs/TOUR.md that check a crate, and prints each whose result is not what the page says.
+
+usage: python3 examples/tour.py
+
+Such a block begins with the crate's name. Its commands stand after `$`: `sed -i` changes the crate, `rt check --only FUNCTION`
+checks it. Each block has a copy of the crate for itself. The lines after a check have to be among those that it prints, in
+their order; `..` in them stands for anything. A check without lines has to prove its function. The libraries below are those
+that the gate, or `rt check`, left in crates/*/out; where they are not there, they are proved first. Each row of the page's
+table of a frame names functions that its files have. The last line counts, and the exit status is 1 if any block or row differs.
+"""
+import concurrent.futures
+import os
+import re
+import shlex
+import shutil
+import subprocess
+import sys
+import tempfile
+
+TOP = os.path.dirname(os.path.dirname(os.path.abspath(__file__)))
+sys.path.insert(0, os.path.join(TOP, "assurance"))
+
+import run  # noqa: E402  pylint: disable=wrong-import-position
+
+PAGE = os.path.join(TOP, "docs/TOUR.md")
+COMMAND = re.compile(r"^\$ (.*)\n((?:(?!\$ ).*\n)*)", re.M)
+
+
+def text_of(path: str) -> str:
+    with open(path, encoding="utf-8") as file:
+        return file.read()
+
+
+def libraries_for(crates: set[str], room: str) -> str:
+    """The folder with the libraries below these crates: the repository, or a room in which they are proved."""
+    below = {it for crate in crates for it in run.all_below(crate)}
+    if all(os.path.exists(f"{TOP}/crates/{it}/out/rlib/{it}.rlib") for it in below):
+        return TOP
+    run.build_libraries(room, crates)
+    return room
+
+
+def checked(crate: str, functions: list[str], libraries: str, room: str) -> str:
+    """What a check of functions of the crate in the room prints."""
+    only = [word for it in functions for word in ("--only", f"{crate}::{it}")]
+    words = [f"{run.KIT}/bin/rattle", "check", *run.words(crate, libraries), *only]
+    how = {"stdin": subprocess.DEVNULL, "stdout": subprocess.PIPE, "stderr": subprocess.STDOUT, "text": True, "errors": "replace"}
+    return subprocess.run(words, cwd=room, check=False, **how).stdout
+
+
+def fits(wanted: list[str], said: list[str]) -> bool:
+    """Says whether the wanted lines are among those that were printed, in their order."""
+    rest = iter(said)
+    return all(any(re.fullmatch(".*".join(map(re.escape, line.split(".."))), it) for it in rest) for line in wanted)
+
+
+def wrong(crate: str, body: str, libraries: str) -> str:
+    """How a block differs from what is wanted; empty if it does not."""
+    with tempfile.TemporaryDirectory(prefix="tour-") as room:
+        for part in run.PARTS:
+            shutil.copytree(f"{TOP}/crates/{crate}/{part}", f"{room}/{part}")
+        for command, wanted in COMMAND.findall(body):
+            words = shlex.split(command)
+            if words[:2] == ["sed", "-i"]:
+                before = text_of(f"{room}/{words[-1]}")
+                subprocess.run(words, cwd=room, check=True)
+                if text_of(f"{room}/{words[-1]}") == before:
+                    return f"{command}: it changes nothing"
+            elif words[:3] == ["rt", "check", "--only"]:
+                said = checked(crate, words[3::2], libraries, room)
+                lines = wanted.splitlines() or [f"fn {crate}::{it}: proved" for it in words[3::2]]
+                if not fits(lines, said.splitlines()):
+                    return f"{command}\nwanted:\n" + "\n".join(lines) + f"\nanswered:\n{said[-3000:]}"
+            else:
+                return f"{command}: no command of such a block"
+    return ""
+
+
+def wrong_row(files: str, functions: str) -> str:
+    """The functions of a row that its files do not have; empty if they have all."""
+    paths = [f"{TOP}/crates/{it}" for it in re.findall(r"`([^`]+)`", files)]
+    code = "".join(text_of(it) for it in paths if os.path.isfile(it))
+    names = [it.split("::")[-1] for it in re.findall(r"`([^`]+)`", functions)]
+    lost = [it for it in names if not re.search(rf"\bfn {it}\b", code)]
+    return f"{files} has no function {', '.join(lost)}" if lost else ""
+
+
+def main() -> None:
+    page = text_of(PAGE)
+    blocks = [it for it in re.findall(r"^```(\w+)\n(.*?)^```$", page, re.M | re.S) if it[0] in run.BELOW]
+    rows = re.findall(r"^\| (`\w+/src/\S+.*?) \| (.*?) \|", page, re.M)
+    with tempfile.TemporaryDirectory(prefix="tour-libraries-") as room:
+        libraries = libraries_for({crate for crate, _ in blocks}, room)
+        with concurrent.futures.ThreadPoolExecutor(2) as pool:
+            found = list(pool.map(lambda it: wrong(it[0], it[1], libraries), blocks))
+    found += [wrong_row(*row) for row in rows]
+    for it in filter(None, found):
+        print(it)
+    print(f"{len(found)} examples, {sum(map(bool, found))} differ")
+    sys.exit(1 if any(found) or not blocks or not rows else 0)
+
+
+if __name__ == "__main__":
+    main()
