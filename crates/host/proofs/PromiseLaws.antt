@@ -1,5 +1,5 @@
 -- What a run of an accepted program over bytes in memory writes keeps the promise.
-use Rattle.std.proofs.Common.{◌≡◌, [], ℕ, List, Some, Ok, sym, subst}
+use Rattle.std.proofs.Common.{◌≡◌, [], ℕ, List, Some, Ok, subst}
 use Rattle.image.specs.Images.{image_bytes}
 use Rattle.isa_model.specs.Reporting.Streams.{Stream}
 use Rattle.isa_model.specs.Reporting.Reports.{IsReport, starting_contents}
