@@ -82,9 +82,9 @@ fn word_or_sign_len(text: &[u8], b: u8) -> Option<usize>
         return sign_len(b, byte_at(text, 1), byte_at(text, 2));
     }
     if b == b's' {
-        let sign = signed_sign(byte_at(text, 1), byte_at(text, 2), byte_at(text, 3));
-        if sign.is_some() {
-            return token_length(sign);
+        let signed = signed_sign(byte_at(text, 1), byte_at(text, 2), byte_at(text, 3));
+        if signed.is_some() {
+            return token_length(signed);
         }
     }
     Some(word_len(text))

@@ -153,7 +153,8 @@ fn number_len_after(skip: usize, text: &[u8], n: usize) -> Option<usize>
     if n == 0 {
         return None;
     }
-    if is_word_byte(byte_at(text, skip + n)) {
+    let next = byte_at(text, skip + n);
+    if is_word_byte(next) {
         return None;
     }
     Some(skip + n)
