@@ -6,14 +6,14 @@ use Rattle.lexer.specs.declared.tokens.Lexeme.TheVariants.{Blank, End, Solid}
 use Rattle.lexer.specs.Lexing.{lexeme_at, token_length}
 use Rattle.assembler.specs.declared.refusals.Refusal.{Refusal}
 use Rattle.assembler.specs.Assembling.{ReadSoFar, read_on}
-use Rattle.assembler.specs.Drafts.{Passes}
+use Rattle.assembler.specs.Drafts.{ChangesNothing}
 use Rattle.assembler.proofs.LongStatements.{pushed-full}
 use Rattle.assembler.proofs.ReadingLoop.{loop_turn-taken}
 use Rattle.assembler.proofs.SettledTexts.{GoesOn, goes-on}
 
 -- a space or a tab
 pub blank-passes : (s : ReadSoFar) (bs : List ℕ) (b : ℕ) → Some b ≡ slice_get bs 0
-    → (b ≡ 32) ⊎ (b ≡ 9) → Passes s bs 1
+    → (b ≡ 32) ⊎ (b ≡ 9) → ChangesNothing s bs 1
 blank-passes s [] b first is = absurd (cc)
 blank-passes s (c ∷ bs) b first (inl is) =
     let same : c ≡ 32 = cc in (Blank, rw same refl, λ span. refl)
@@ -22,10 +22,10 @@ blank-passes s (c ∷ bs) b first (inr is) =
 
 -- a token of a statement of which as many are kept as can matter
 pub token-passes : (s : ReadSoFar) (bs : List ℕ) (r : Option ℕ) → r ≡ token_length (lexeme_at bs)
-    → length s.tokens ≡ 16 → length s.spans ≡ 16 → IfSome r (λ n. Passes s bs n)
+    → length s.tokens ≡ 16 → length s.spans ≡ 16 → IfSome r (λ n. ChangesNothing s bs n)
 token-passes s bs r e tokens spans = of (lexeme_at bs) refl r e where
   of : (found : Option (Lexeme × ℕ)) → lexeme_at bs ≡ found → (r : Option ℕ)
-      → r ≡ token_length found → IfSome r (λ n. Passes s bs n)
+      → r ≡ token_length found → IfSome r (λ n. ChangesNothing s bs n)
   of found is None e = tt
   of None is (Some n) e = absurd (cc)
   of (Some (Blank, m)) is (Some n) e = absurd (cc)
@@ -36,7 +36,7 @@ token-passes s bs r e tokens spans = of (lexeme_at bs) refl r e where
 
 -- the loop over a text passes it over
 pub loop_turn-passed : (bs : List ℕ) (all : ℕ) (s : ReadSoFar) (n : ℕ) → 0 < length bs
-    → length bs ≤ all → Passes s bs n
+    → length bs ≤ all → ChangesNothing s bs n
     → read_on bs 0 (all - length bs) s
     ≡ read_on (drop (n - 1) (drop 1 bs)) 0 (all - length (drop (n - 1) (drop 1 bs))) s
 loop_turn-passed bs all s n more few (x, found, same) =
@@ -45,7 +45,7 @@ loop_turn-passed bs all s n more few (x, found, same) =
 -- and so does the loop over the first bytes of it
 pub goes-on-passed : (front rest : List ℕ) (s : ReadSoFar) (n : ℕ)
     → GoesOn front rest (length front - length rest) s → 4 ≤ length rest
-    → length rest ≤ length front → n < length rest → Passes s rest n
+    → length rest ≤ length front → n < length rest → ChangesNothing s rest n
     → GoesOn front (drop (n - 1) (drop 1 rest))
     (length front - length (drop (n - 1) (drop 1 rest))) s
 goes-on-passed front rest s n on some few less (x, found, same) =

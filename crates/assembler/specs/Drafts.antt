@@ -61,6 +61,6 @@ accept_short s Blank span = accept s Blank span
 accept_short s End span = accept s End span
 
 -- the bytes begin with a lexeme of that length, which changes nothing
-abbrev pub Passes : ReadSoFar → List ℕ → ℕ → Type 0
-Passes s bs n = (x : Lexeme) × (lexeme_at bs ≡ Some (x, n))
+abbrev pub ChangesNothing : ReadSoFar → List ℕ → ℕ → Type 0
+ChangesNothing s bs n = (x : Lexeme) × (lexeme_at bs ≡ Some (x, n))
     × ((span : TokenSpan) → accept_short s x span ≡ Ok s)

@@ -6,7 +6,7 @@ ghost use Rattle.assembler.specs.declared.errors.AsmErrorKind.TheVariants as Asm
 ghost use Rattle.assembler.specs.declared.readings.Statement.TheVariants as Statement;
 ghost use Rattle.assembler.specs.Labelled.{is_label, label_length, has_form};
 ghost use Rattle.assembler.specs.Assembling.{start, at_end, ended, added, named, is_first, with_use, refused_by, refusal_of, offset_or, IsAsWanted};
-ghost use Rattle.assembler.specs.Drafts.{span_of, progress_of, shortened, accept_short, Passes};
+ghost use Rattle.assembler.specs.Drafts.{span_of, progress_of, shortened, accept_short, ChangesNothing};
 ghost use Rattle.assembler.specs.Naming.{use_of};
 
 use super::code::AssembledCode;
@@ -88,7 +88,7 @@ impl<'a> Draft<'a> {
     /// Returns how many bytes the text's first lexeme has, if it surely changes nothing: a blank, an
     /// end of an empty statement, or one of too many tokens.
     pub fn passes(&self, text: &[u8]) -> Option<usize>
-        ensures { IfSome result (λ n. Passes (progress_of self.now) text.now n) }
+        ensures { IfSome result (λ n. ChangesNothing (progress_of self.now) text.now n) }
     {
         match text.first()? {
             b' ' | b'\t' => Some(1),
