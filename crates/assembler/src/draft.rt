@@ -85,8 +85,8 @@ impl<'a> Draft<'a> {
         }
     }
 
-    /// Returns how many bytes the text's first lexeme has, if it surely changes nothing: a blank, an
-    /// end of an empty statement, or one of too many tokens.
+    /// Returns how many bytes the text's first lexeme has, if it surely changes nothing: a blank,
+    /// an end of an empty statement, or one of too many tokens.
     pub fn passes(&self, text: &[u8]) -> Option<usize>
         ensures { IfSome result (λ n. ChangesNothing (progress_of self.now) text.now n) }
     {
