@@ -1,4 +1,5 @@
 pub mod Stops
 pub mod Turning
 pub mod Following
+pub mod ListingLaws
 pub mod ReasonLaws

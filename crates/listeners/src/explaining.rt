@@ -5,6 +5,8 @@ ghost use Rattle.isa_model.specs.Code.Instructions.{Program};
 ghost use Rattle.stack_state.specs.declared.states.State.{State as TheState};
 ghost use Rattle.walks.specs.Walks.{StepsTo};
 ghost use Rattle.walks.specs.Explained.{IsLed, IsTurnBefore, ComesThrough, Explains};
+ghost use Rattle.walks.specs.Refused.{IsRefused};
+ghost use Rattle.walks.specs.Accepting.{AcceptsAll};
 ghost use Rattle.explorer.specs.declared.moves.Halt.TheVariants.{Refused};
 ghost use Rattle.explorer.specs.Listening.{IsOutsideSearch};
 ghost use Rattle.listeners.specs.Followed.{HasFollowed};
@@ -179,11 +181,14 @@ fn refusal_in(ended: Result<u32, Halt<AllocError>>) -> Option<(Refusal, usize)>
 /// None: the refusal is one of control flow, memory ran out, or this is not what the program is
 /// refused for.
 pub fn explain(alloc: Global, image: &Image, refusal: Refusal, slot: usize) -> Option<Explanation>
-    ensures { IfSome result (Explains image.now refusal slot) }
+    ensures explains { IfSome result (Explains image.now refusal slot) }
+    ensures refused { IfSome result (λ _. IsRefused image.now refusal slot) }
+    ensures accepts { IfSome result (λ _. AcceptsAll image.now refusal) }
 {
     if !is_found_by_search(refusal) {
         return None;
     }
+    image.recall();
     let mut follower = Follower::new(alloc, image, slot);
     let searched = search_with(alloc, image, &mut follower);
     let is_cut_off = searched.is_cut_off;

@@ -1,11 +1,16 @@
 //! All instructions that a search explores.
 
-ghost use Rattle.std.specs.Prelude.{◌≡◌, IfErr, length, slice_get};
+ghost use Rattle.std.specs.Prelude.{◌≡◌, IfOk, IfErr, length, slice_get};
 ghost use Rattle.std.specs.Option.{option_copied};
 ghost use Rattle.isa_model.specs.Code.Instructions.{Program};
+ghost use Rattle.bounds.specs.Bounds.{IsVerified};
+ghost use Rattle.stack_state.specs.Starts.{start};
 ghost use Rattle.control_flow.specs.Flows.{IsFlow};
 ghost use Rattle.walks.specs.Refused.{IsRefused};
+ghost use Rattle.walks.specs.Accepting.{AcceptsAll, BoundsAll};
+ghost use Rattle.walks.specs.Counts.{HasNumber};
 ghost use Rattle.explorer.specs.Listening.{IfRefused, IfStopped};
+ghost use Rattle.listeners.specs.Listed.{OfStart};
 
 use arrayvec::ArrayVec;
 use explorer::{Halt, Kept, Listener, Searched, StoredState, search_with};
@@ -60,6 +65,15 @@ impl Explored {
         ensures { option_copied result ≡ slice_get self.now index }
     {
         self.insns.get(index)
+    }
+}
+
+/// Gives the first instruction, which is the start's, the number that a search ended with.
+fn number_start(insns: &mut Vec<ExploredInsn>, number: u32)
+    ensures { OfStart insns.new.items (λ n. n ≡ number) }
+{
+    if !insns.is_empty() {
+        insns[0].number = number;
     }
 }
 
@@ -220,10 +234,18 @@ fn refusal_of(halt: Halt<AllocError>) -> (Refusal, usize)
 }
 
 /// Explores a program as `verify` does. Returns all that was explored, or why and at which slot the
-/// program is refused.
+/// program is refused. The number of the first instruction is the bound.
 pub fn explore(alloc: Global, image: &Image) -> Result<Explored, (Refusal, usize)>
-    ensures { IfErr result (λ r. IsRefused image.now r.0 r.1) }
+    ensures verified { IfOk result (λ insns. OfStart insns (λ n. IsVerified (record {
+      program = image.now;
+      bound = n;
+    }))) }
+    ensures refused { IfErr result (λ r. IsRefused image.now r.0 r.1) }
+    ensures number { IfOk result (λ insns. OfStart insns (HasNumber image.now start)) }
+    ensures accepts { IfErr result (λ r. AcceptsAll image.now r.0) }
+    ensures bounds { IfOk result (λ insns. OfStart insns (BoundsAll image.now)) }
 {
+    image.recall();
     let mut lister = Lister::new(alloc);
     let Searched {
         result,
@@ -231,8 +253,9 @@ pub fn explore(alloc: Global, image: &Image) -> Result<Explored, (Refusal, usize
         is_cut_off: _,
     } = search_with(alloc, image, &mut lister);
     match result {
-        Ok(_) => {
+        Ok(number) => {
             lister.take_stored(stored.as_mut_slice());
+            number_start(&mut lister.insns, number);
             Ok(Explored {
                 insns: lister.insns,
             })

@@ -1,9 +1,13 @@
-use Rattle.std.proofs.Common.{◌≡◌, Option, Some, None, List, rules}
+use Rattle.std.proofs.Common.{◌≡◌, ℕ, Option, Some, None, List, rules, subst}
 use Rattle.std.specs.Prelude.{IfSome}
 use Rattle.stack_state.specs.declared.states.State.{State}
 use Rattle.isa_model.specs.Code.Instructions.{Program}
 use Rattle.walks.specs.declared.explained.Explanation.{Explanation}
+use Rattle.image.proofs.Programs.{IsProgram-IsImage}
+use Rattle.walks.specs.declared.refusals.Refusal.{Refusal}
 use Rattle.walks.specs.Refused.{IsRefused}
+use Rattle.walks.specs.Accepting.{AcceptsAll}
+use Rattle.walks.proofs.AcceptingLaws.{AcceptsAll-refused}
 use Rattle.walks.specs.Explained.{Explains}
 use Rattle.listeners.specs.Followed.{HasFollowed}
 use Rattle.explorer.specs.Listening.{EndsIn}
@@ -16,8 +20,39 @@ if_some : (o : Option Explanation) (P Q : Explanation → Type 0) → ((x : Expl
 if_some None P Q weaker h = h
 if_some (Some x) P Q weaker h = weaker x h
 
-pub returns-in-Some : goal.returns-in-Some
-returns-in-Some c =
+for_some : (o : Option Explanation) (P : Type 0) → P → IfSome o (λ _. P)
+for_some None P h = tt
+for_some (Some x) P h = h
+
+pub returns-in-Some-clause-refused : goal.returns-in-Some-clause-refused
+returns-in-Some-clause-refused c =
+    let p = c.args.image.now in
+    let searched = c.search_with-searched in
+    let e = c.in-Some.found in
+    let at = c.in-Some.at in
+    let refused = refused_with searched.result.result e at (IsRefused p) c.in-Some.ensures
+    searched.ensures.refused in
+    let is : e ≡ c.args.refusal = search rules in
+    let here : at ≡ c.args.slot = search rules in
+    for_some c.into_explanation.result (IsRefused p c.args.refusal c.args.slot)
+    (subst (λ (n : ℕ). IsRefused p c.args.refusal n) here
+    (subst (λ (r : Refusal). IsRefused p r at) is refused))
+
+pub returns-in-Some-clause-accepts : goal.returns-in-Some-clause-accepts
+returns-in-Some-clause-accepts c =
+    let p = c.args.image.now in
+    let searched = c.search_with-searched in
+    let e = c.in-Some.found in
+    let at = c.in-Some.at in
+    let refused = refused_with searched.result.result e at (IsRefused p) c.in-Some.ensures
+    searched.ensures.refused in
+    let is : e ≡ c.args.refusal = search rules in
+    for_some c.into_explanation.result (AcceptsAll p c.args.refusal)
+    (subst (λ (r : Refusal). AcceptsAll p r) is
+    (AcceptsAll-refused p e at (IsProgram-IsImage p c.recall.ensures) refused))
+
+pub returns-in-Some-clause-explains : goal.returns-in-Some-clause-explains
+returns-in-Some-clause-explains c =
     let p = c.args.image.now in
     let searched = c.search_with-searched in
     let f = searched.new.listener in

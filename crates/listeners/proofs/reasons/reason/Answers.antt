@@ -12,4 +12,4 @@ pub returns : goal.returns
 returns c =
     rw c.ok-2.ensures.value
     (of_state c.args.image.now c.args.refusal c.args.slot c.in_ok-found.found c.in_ok-insn.insn.now
-    c.lines_of.result c.in_ok-found.ensures (sym c.in_ok-insn.ensures) c.lines_of.ensures)
+    c.lines_of.result c.in_ok-found.ensures.explains (sym c.in_ok-insn.ensures) c.lines_of.ensures)

@@ -1,0 +1,10 @@
+-- What holds of the number that a search ended with, holds of the first instruction's.
+use Rattle.std.specs.Prelude.{◌≡◌, ℕ, List, [], ◌∷◌}
+use Rattle.std.proofs.Common.{sym, subst}
+use Rattle.listeners.specs.declared.listing.ExploredInsn.{ExploredInsn}
+use Rattle.listeners.specs.Listed.{OfStart}
+
+pub OfStart-number : (insns : List ExploredInsn) (number : ℕ) (fact : ℕ → Type 0)
+    → OfStart insns (λ n. n ≡ number) → fact number → OfStart insns fact
+OfStart-number [] number fact is h = tt
+OfStart-number (first ∷ insns) number fact is h = subst fact (sym is) h
