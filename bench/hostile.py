@@ -282,6 +282,66 @@ def many_slots():
                "if r8 < 60000 goto loop", "out: r0 = 2", "exit"])
 
 
+TESTED = ["r2", "r3", "r4", "r5", "r6", "r8", "r1", "r0"]
+
+
+def all_tested(registers, slots):
+    """Code in which each of these registers and stack slots is tested, or the slots are only read."""
+    return ([f"if {register} > 5 goto +0" for register in registers]
+            + [line for slot in slots for line in [f"r3 = *(u64 *)(r10 - {8 + 8 * slot})", "if r3 > 5 goto +0"]])
+
+
+def stores_and_tests(stores):
+    """A loop with that many stores before each test, into 60 stack slots that are all tested where the test leads."""
+    body = []
+    for test in range(3700 // (stores + 1)):
+        body += [f"*(u64 *)(r10 - {8 + 8 * (at * 7 % 60)}) = {at}" for at in range(stores * test, stores * test + stores)]
+        body.append(f"if r2 == {test * 7919 % 65536} goto out")
+    return START + spilled(60) + unknown("r2") + counted(100000, body) + ["out: r0 = 1"] + all_tested([], range(60)) + END
+
+
+def tests_in_turn(test, numbers, slots):
+    """A loop of 3,000 tests of that many numbers in turn, which are all tested where the tests lead."""
+    registers = TESTED[:numbers]
+    return (START + spilled(slots) + [line for register in registers for line in unknown(register)]
+            + counted(100000, [test(registers, turn) for turn in range(3000)])
+            + ["out: r7 = 0"] + all_tested(registers, [])
+            + [f"r3 = *(u64 *)(r10 - {8 + 8 * slot})" for slot in range(slots)] + END)
+
+
+def one_number(registers, turn):
+    return f"if {registers[turn % len(registers)]} == {turn + 1} goto out"
+
+
+def two_numbers(registers, turn):
+    count = len(registers)
+    other = (turn * 3 + 1 + turn // count) % count
+    return f"if {registers[turn % count]} > {registers[other if other != turn % count else (turn + 1) % count]} goto out"
+
+
+def two_ways(narrowed, first, second):
+    """A loop whose tests lead to two slots in turn."""
+    tests = [f"if r{2 + 2 * (turn % 2)} == {1 + turn // 2} goto {'first' if turn % 2 == 0 else 'second'}" for turn in range(3000)]
+    return (START + spilled(60) + unknown("r2") + unknown("r4") + narrowed + counted(100000, tests)
+            + ["goto first", "first: r7 = 0"] + first + END + ["second: r7 = 0"] + second + END)
+
+
+def pending():
+    """Images with up to 1,000,000 pending states."""
+    for stores in (1, 2, 8, 16):
+        yield f"{stores} {'store' if stores == 1 else 'stores'} before each test", stores_and_tests(stores)
+    yield "3,000 tests of 6 numbers", tests_in_turn(one_number, 6, 0)
+    yield "3,000 tests of 8 numbers, 60 slots beside", tests_in_turn(one_number, 8, 60)
+    yield "3,000 tests of two of 8 numbers", tests_in_turn(two_numbers, 8, 0)
+    yield "3,000 tests of two of 8 numbers, 60 slots beside", tests_in_turn(two_numbers, 8, 60)
+    yield "3,000 tests that lead to two slots, at which other stack slots are live", two_ways(
+        [], all_tested([], range(0, 60, 2)), all_tested([], range(1, 60, 2)))
+    yield "3,000 tests that lead to two slots, at one of which no stack slot is tested", two_ways(
+        [line for slot in range(60) for line in
+         [f"r3 = *(u64 *)(r10 - {8 + 8 * slot})", f"r3 &= {255 + slot}", f"*(u64 *)(r10 - {8 + 8 * slot}) = r3"]],
+        all_tested([], range(60)), [f"r3 = *(u64 *)(r10 - {8 + 8 * slot})" for slot in range(60)])
+
+
 def with_a_call(lines):
     """The program with a call of a function that does nothing: then no numbers are forgotten. None:
     it calls one already, or has no first line that keeps the context."""
@@ -292,7 +352,7 @@ def with_a_call(lines):
     return lines[:first] + ["call nothing"] + lines[first:] + ["nothing: r0 = 0", "exit"]
 
 
-FAMILIES = [bits, limits, signed_limits, low_halves, stack_slots, frames, identities, null_identities, calls, many_slots]
+FAMILIES = [bits, limits, signed_limits, low_halves, stack_slots, frames, identities, null_identities, calls, many_slots, pending]
 
 
 def of_both_sorts(images):

@@ -1,4 +1,7 @@
 pub mod ConstantsLaws
+pub mod ChangeLaws
+pub mod HeldLaws
+pub mod PendingLaws
 pub mod StoredStatesLaws
 pub mod GroupLaws
 pub mod Paths

@@ -2,7 +2,7 @@
 use Rattle.std.proofs.Common.{◌≡◌, ◌∙◌, ℕ, suc, ◌+◌, ◌≤◌, List, [], ◌∷◌, ◌++◌, take, set, get_or, length, length-append, Bool, true, false, Option, Some, None, refl, sym, ap, arith}
 use Rattle.std.specs.Prelude.{is_some, option_to_list}
 use Rattle.std.proofs.Math.Seq.{get_or-append_seam}
-use Rattle.std.proofs.lemmas.List.{set_split, set-get_or, drop_all}
+use Rattle.std.proofs.lemmas.List.{set_split, set-get_or, drop_all, take_all, take_more}
 use Rattle.stack_state.specs.declared.states.State.{State}
 use Rattle.explorer.specs.declared.trail.Visit.{Visit}
 use Rattle.explorer.specs.declared.trail.KeptVisit.{KeptVisit}
@@ -132,6 +132,17 @@ last_waits visits whole kept states longer fits =
     ap waiting_count longer ∙ waiting_count-append visits (kept ∷ []) in
     omega (arith, wait, fits)
 
+-- a visit whose pending state is taken
+pub waiting_count-taken : (visits whole now : List KeptVisit) (kept taken : KeptVisit)
+    → whole ≡ visits ++ kept ∷ [] → now ≡ visits ++ taken ∷ [] → kept.waits ≡ true
+    → taken.waits ≡ false → waiting_count whole ≡ waiting_count now + 1
+waiting_count-taken visits whole now kept taken before after waits idle =
+    let old : waiting_count whole ≡ waiting_count visits + waiting_count (kept ∷ []) =
+    ap waiting_count before ∙ waiting_count-append visits (kept ∷ []) in
+    let new : waiting_count now ≡ waiting_count visits + waiting_count (taken ∷ []) =
+    ap waiting_count after ∙ waiting_count-append visits (taken ∷ []) in
+    omega (arith, old, new, ap one_if waits, ap one_if idle)
+
 pub length-visits_of : (visits : List KeptVisit) (states : List State)
     → length (visits_of visits states) ≡ length visits
 unfolding visits_of
@@ -167,3 +178,38 @@ last_visit path others visit other same =
     ∙ ap (λ l. get_or l (length path) visit) same
     ∙ ap (λ (n : ℕ). get_or (others ++ other ∷ []) n visit) count
     ∙ get_or-append_seam others other [] visit
+
+-- a list that is not empty has a last element
+pub last_split : {X : Type 0} (x : X) (xs : List X) → x ∷ xs
+    ≡ take (length xs) (x ∷ xs) ++ get_or (x ∷ xs) (length xs) x ∷ []
+last_split x xs =
+    sym (take_all (length xs + 1) (x ∷ xs) (omega arith))
+    ∙ take_more (x ∷ xs) (length xs) x (omega arith)
+
+-- a last visit without a pending state does not wait
+pub last_idle : (visits whole : List KeptVisit) (kept : KeptVisit) (states : List State)
+    → whole ≡ visits ++ kept ∷ [] → waiting_count whole ≡ length states
+    → ((path : List Visit) (visit : Visit) → visits_of whole states ≡ path ++ visit ∷ []
+    → visit.pending ≡ None)
+    → (b : Bool) → kept.waits ≡ b → b ≡ false
+last_idle visits whole kept states longer fits idle false is = refl
+last_idle visits whole kept [] longer fits idle true is =
+    let some = last_waits visits whole kept [] longer fits in
+    absurd (omega (arith, some, ap one_if is))
+last_idle visits whole kept (s ∷ states) longer fits idle true is =
+    let all : List State = s ∷ states in
+    let front : List State = take (length states) all in
+    let last : State = get_or all (length states) s in
+    let split : all ≡ front ++ last ∷ [] = last_split s states in
+    let seen =
+    visits_of-more visits whole kept front all (Some last)
+    (waiting_count-less visits whole kept front all (Some last) fits longer split is)
+    longer split is in
+    absurd (cc (idle (visits_of visits front)
+    (record { pending = Some last; best = kept.best; stored = kept.stored }) seen))
+
+-- a state is taken, if there is one
+pub is_taken : (o : Option State) (states : List State) → 1 ≤ length states
+    → (o ≡ None → states ≡ []) → true ≡ is_some o
+is_taken None states some none = absurd (omega (arith, some, ap length (none refl)))
+is_taken (Some s) states some none = refl

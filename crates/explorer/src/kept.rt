@@ -1,10 +1,14 @@
 //! Abstract states, kept compactly.
 
-ghost use Rattle.std.specs.Prelude.{◌≡◌, IfOk, IfSome, IsTrue};
+ghost use Rattle.std.specs.Prelude.{◌≡◌, IfOk, IfErr, IsTrue};
 ghost use Rattle.state_index.specs.Parts.{AreBlankBeside, AreParts};
 ghost use Rattle.explorer.specs.ProvedBytes.{with_proved};
+ghost use Rattle.explorer.specs.Around.{state_around};
 
-use crate::kept_frames::{KeptFrame, are_frames, keep_all, restore_all};
+use crate::around::Around;
+use crate::callers::{Callers, keep_callers};
+use crate::groups::FEW;
+use crate::kept_frames::{KeptFrame, restore_all};
 use crate::proved_bytes::{NOTHING, ProvedBytes, give_proved, may_have_many, take_proved};
 use control_flow::SlotMask;
 use isa_model::STACK_SIZE;
@@ -20,80 +24,59 @@ pub const PLACES: usize = 10 + STACK_SIZE / 8;
 /// Says how many words a state takes besides its call frames.
 const STATE_WORDS: u32 = 16;
 
+/// Another state, with which a state may share what is the same.
+#[derive(Clone, Copy)]
+pub struct Other<'a> {
+    innermost: Option<&'a KeptFrame>,
+    callers: Option<&'a Callers>,
+}
+
+impl<'a> Other<'a> {
+    /// The state, if there is one.
+    pub fn of(state: Option<&'a Kept>) -> Self {
+        match state {
+            Some(state) => Other {
+                innermost: Some(&state.innermost),
+                callers: Some(&state.callers),
+            },
+            None => Other {
+                innermost: None,
+                callers: None,
+            },
+        }
+    }
+
+    /// A state of which only what is around its innermost call frame is kept so.
+    pub fn around(around: &'a Around) -> Self {
+        Other {
+            innermost: None,
+            callers: Some(&around.callers),
+        }
+    }
+}
+
 /// Two other states, with which a state may share what is the same.
 #[derive(Clone, Copy)]
 pub struct Others<'a> {
-    pub first: Option<&'a Kept>,
-    pub second: Option<&'a Kept>,
+    pub first: Other<'a>,
+    pub second: Other<'a>,
+    /// Says how many parts the innermost call frame has at most in no groups.
+    pub most: usize,
 }
 
 impl<'a> Others<'a> {
     /// One other state, if there is one.
     pub fn one(other: Option<&'a Kept>) -> Self {
         Others {
-            first: other,
-            second: None,
+            first: Other::of(other),
+            second: Other::of(None),
+            most: FEW,
         }
-    }
-}
-
-/// The innermost frame of a state, if there is one.
-fn innermost_in(other: Option<&Kept>) -> Option<&KeptFrame> {
-    match other {
-        Some(other) => Some(&other.innermost),
-        None => None,
-    }
-}
-
-/// The callers of a state, if there is one.
-fn callers_in(other: Option<&Kept>) -> &[KeptFrame] {
-    match other {
-        Some(other) => other.callers.as_ref().as_slice(),
-        None => &[],
-    }
-}
-
-/// The callers of another state once more, if they are the same.
-fn shared_callers(
-    frames: &[AbstractFrame],
-    other: Option<&Kept>,
-) -> Result<Option<Rc<Vec<KeptFrame>>>, AllocError>
-    ensures { IfOk result (λ found. IfSome found (λ kept. kept.value.items ≡ frames.now)) }
-{
-    if let Some(other) = other {
-        if are_frames(other.callers.as_ref().as_slice(), frames) {
-            let callers = other.callers.clone()?;
-            return Ok(Some(callers));
-        }
-    }
-    Ok(None)
-}
-
-/// Keeps the callers of a state: those of another state, where they are the same.
-fn keep_callers(
-    alloc: Global,
-    frames: &[AbstractFrame],
-    parts: &mut Vec<Part>,
-    others: Others<'_>,
-) -> Result<Rc<Vec<KeptFrame>>, AllocError>
-    ensures { IfOk result (λ kept. kept.value.items ≡ frames.now) }
-{
-    if let Some(callers) = shared_callers(frames, others.first)? {
-        return Ok(callers);
-    }
-    if let Some(callers) = shared_callers(frames, others.second)? {
-        return Ok(callers);
-    }
-    let others = (callers_in(others.first), callers_in(others.second));
-    let kept = keep_all(alloc, frames, parts, others)?;
-    match Rc::new(alloc, kept) {
-        Ok(kept) => Ok(kept),
-        Err(_) => Err(AllocError),
     }
 }
 
 /// Returns how many words a state takes that no other one shares.
-fn own_words(innermost: &KeptFrame, callers: &Rc<Vec<KeptFrame>>) -> u32 {
+fn own_words(innermost: &KeptFrame, callers: &Callers) -> u32 {
     let mut words = innermost.own_words().saturating_add(STATE_WORDS);
     if Rc::strong_count(callers) == 1 {
         for frame in callers.as_ref().as_slice() {
@@ -115,7 +98,7 @@ pub struct Kept {
     /// Says what is proved besides, of two identities.
     proved: ProvedBytes,
     also_proved: ProvedBytes,
-    callers: Rc<Vec<KeptFrame>>,
+    callers: Callers,
     innermost: KeptFrame,
 }
 
@@ -153,8 +136,20 @@ impl Kept {
     ) -> Result<Self, AllocError>
         ensures { IfOk result (λ kept. kept ≡ state.now) }
     {
+        Kept::of_others(alloc, state, parts, Others::one(other))
+    }
+
+    /// Keeps a state, which shares what it can with two other ones.
+    pub(crate) fn of_others(
+        alloc: Global,
+        state: &State,
+        parts: &mut Vec<Part>,
+        others: Others<'_>,
+    ) -> Result<Self, AllocError>
+        ensures { IfOk result (λ kept. kept ≡ state.now) }
+    {
         take_parts(parts, &state.innermost)?;
-        Kept::of_parts(alloc, state, parts, Others::one(other))
+        Kept::of_parts(alloc, state, parts, others)
     }
 
     /// Keeps a state whose innermost call frame has only these stack slots about which something
@@ -226,15 +221,18 @@ impl Kept {
         let Ok(slot) = u32::try_from(state.slot) else {
             return Err(AllocError);
         };
-        let like = (innermost_in(others.first), innermost_in(others.second));
+        let like = (others.first.innermost, others.second.innermost);
+        let most = others.most;
         let innermost = KeptFrame::with_parts(
             alloc,
             &state.innermost,
             parts.as_slice(),
             like,
-            true,
+            most,
+            most == FEW,
         )?;
-        let callers = keep_callers(alloc, state.callers.as_slice(), parts, others)?;
+        let other_callers = (others.first.callers, others.second.callers);
+        let callers = keep_callers(alloc, state.callers.as_slice(), parts, other_callers)?;
         let words = own_words(&innermost, &callers);
         Ok(Kept {
             slot,
@@ -244,6 +242,75 @@ impl Kept {
             callers,
             innermost,
         })
+    }
+
+    /// The slot of the code to which the exit of its innermost call frame leads.
+    pub(crate) fn return_slot(&self) -> usize {
+        self.innermost.return_slot()
+    }
+
+    /// The parts of its innermost call frame that are in no group.
+    pub(crate) fn parts(&self) -> &[Part] {
+        self.innermost.listed_parts()
+    }
+
+    /// What is kept besides its innermost call frame, if that is this one; else the state. A wrong
+    /// Err is possible.
+    pub(crate) fn into_around(self, frame: &AbstractFrame) -> Result<Around, Kept>
+        ensures around { IfOk result (λ a. state_around a frame.now ≡ self) }
+        ensures same { IfErr result (λ k. k ≡ self) }
+    {
+        if !self.innermost.is_frame(frame) {
+            return Err(self);
+        }
+        let Kept {
+            slot,
+            proved,
+            also_proved,
+            callers,
+            ..
+        } = self;
+        Ok(Around {
+            slot,
+            proved,
+            also_proved,
+            callers,
+        })
+    }
+
+    /// Keeps a state of which all is kept already but its innermost call frame. The parts of that
+    /// are in no groups then.
+    pub(crate) fn joined(
+        alloc: Global,
+        around: Around,
+        frame: &AbstractFrame,
+        parts: &mut Vec<Part>,
+    ) -> Result<Self, AllocError>
+        ensures { IfOk result (λ kept. kept ≡ state_around around frame.now) }
+    {
+        take_parts(parts, frame)?;
+        let none = (None, None);
+        let innermost = KeptFrame::with_parts(alloc, frame, parts.as_slice(), none, PLACES, false)?;
+        let words = own_words(&innermost, &around.callers);
+        let Around {
+            slot,
+            proved,
+            also_proved,
+            callers,
+        } = around;
+        Ok(Kept {
+            slot,
+            words,
+            proved,
+            also_proved,
+            callers,
+            innermost,
+        })
+    }
+
+    /// Returns whether many parts of its innermost call frame are in no groups.
+    pub(crate) fn is_listed(&self) -> bool {
+        self.parts().len() > FEW
     }
 
     /// Returns how many words it took that it did not share when it was kept.

@@ -50,12 +50,14 @@ fn groups_in(frame: Option<&KeptFrame>) -> &[SharedParts] {
 }
 
 impl KeptFrame {
-    /// Keeps a frame with these parts, in groups, some of which it may share with other frames.
+    /// Keeps a frame with these parts: in groups if they are more than `most`, some of which it may
+    /// share with other frames.
     pub fn with_parts(
         alloc: Global,
         frame: &AbstractFrame,
         parts: &[Part],
         others: (Option<&KeptFrame>, Option<&KeptFrame>),
+        most: usize,
         is_innermost: bool,
     ) -> Result<Self, AllocError>
         requires { AreParts parts.now frame.now }
@@ -66,7 +68,7 @@ impl KeptFrame {
             second: groups_in(others.1),
         };
         let named = u16::try_from(named_in(parts)).unwrap_or(u16::MAX);
-        let parts = KeptParts::of(alloc, parts, others, FEW, is_innermost)?;
+        let parts = KeptParts::of(alloc, parts, others, most, is_innermost)?;
         Ok(KeptFrame {
             return_slot: frame.return_slot,
             named,
@@ -122,6 +124,16 @@ impl KeptFrame {
         for index in 0..groups.len() {
             write_all(frame, groups[index].parts());
         }
+    }
+
+    /// The slot of the code to which its exit leads.
+    pub fn return_slot(&self) -> usize {
+        self.return_slot
+    }
+
+    /// Its parts that are in no group.
+    pub fn listed_parts(&self) -> &[Part] {
+        self.parts.others()
     }
 
     /// Puts its parts after others.
@@ -233,7 +245,7 @@ pub fn keep_all(
         take_parts(scratch, &frames[index])?;
         let parts = scratch.as_slice();
         let others = (others.0.get(index), others.1.get(index));
-        let frame = KeptFrame::with_parts(alloc, &frames[index], parts, others, false)?;
+        let frame = KeptFrame::with_parts(alloc, &frames[index], parts, others, FEW, false)?;
         kept.push(frame)?;
     }
     Ok(kept)

@@ -5,20 +5,29 @@
 //! `specs/Search.antt` says what a search knows.
 #![tactic(auto)]
 
+mod around;
 mod arrivals;
 mod blanks;
+mod callers;
+mod changes;
+mod changing;
 mod constants;
 mod groups;
+mod held_places;
 mod kept;
 mod kept_frames;
 mod latest;
 pub mod listened;
 mod listening;
 mod moves;
+mod pending;
 mod proved_bytes;
 mod search;
 mod shared_parts;
+mod short_parts;
+mod small_numbers;
 mod state_trees;
+mod stored_forms;
 mod stored_states;
 mod trail;
 pub mod verified;

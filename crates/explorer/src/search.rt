@@ -165,7 +165,7 @@ impl Search {
             best: 0,
             stored,
         };
-        let Ok(()) = self.path.push(visit) else {
+        let Ok(()) = self.path.push(alloc, visit) else {
             return Err(NO_MEMORY);
         };
         let made = self.come(alloc, flow, None)?;
@@ -187,7 +187,10 @@ impl Search {
         ensures explored { OnOk result (self.new.finished + length self.new.path.items
             ≡ self.old.finished + length self.old.path.items) }
     {
-        if let Some(other) = self.path.take_last_pending(ended) {
+        let Ok(taken) = self.path.take_last_pending(alloc, ended) else {
+            return Err(NO_MEMORY);
+        };
+        if let Some(other) = taken {
             other.restore(&mut self.current);
             let made = self.come(alloc, flow, Some(other))?;
             return Ok(Some(made));

@@ -6,8 +6,10 @@ ghost use Rattle.state_index.specs.Parts.{AreBlankBeside, AreParts};
 ghost use Rattle.state_index.specs.Rooms.{HasShapeRoom};
 ghost use Rattle.explorer.specs.StoredStates.{IsStored, IsCovered, IsRepeated, StoredAt, GetsNumber};
 
-use crate::kept::{Kept, Others, PLACES};
+use crate::groups::FEW;
+use crate::kept::{Kept, Other, Others, PLACES};
 use crate::state_trees::tree_of;
+use crate::stored_forms::stored_form;
 use control_flow::SlotMask;
 use stack_state::State;
 use state_cover::covers;
@@ -359,16 +361,12 @@ impl StoredStates {
             self.index
                 .add(alloc, state.slot, &self.key, self.own, &mut self.effort)?;
         }
-        let state = match kept.take() {
-            Some(kept) => kept,
-            None => {
-                let others = Others {
-                    first: last_of(&self.states),
-                    second: pending,
-                };
-                Kept::of_parts(alloc, state, &mut self.key.parts, others)?
-            }
+        let others = Others {
+            first: Other::of(last_of(&self.states)),
+            second: Other::of(pending),
+            most: FEW,
         };
+        let state = stored_form(alloc, state, kept.take(), &mut self.key.parts, others)?;
         let words = match self.index.has_trees() {
             true => state.words().saturating_add(TREE_WORDS),
             false => state.words(),

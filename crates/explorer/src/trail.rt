@@ -1,10 +1,11 @@
 //! The path from the start to the current state.
 
-ghost use Rattle.std.specs.Prelude.{◌≡◌, ◌≤◌, ◌+◌, ◌++◌, ◌∷◌, [], length, MatchOption, OnOk, OnErr, IfOk, option_to_list, is_some};
-ghost use Rattle.explorer.specs.Trail.{one_if, TakesLastPending};
+ghost use Rattle.std.specs.Prelude.{◌≡◌, ◌≤◌, ◌+◌, ◌++◌, ◌∷◌, [], length, List, None, MatchOption, OnOk, OnErr, IfOk, option_to_list};
+ghost use Rattle.explorer.specs.declared.trail.Visit.{Visit as TheVisit};
+ghost use Rattle.explorer.specs.Trail.{TakesLastPending};
 
 use crate::kept::{Kept, Others};
-use crate::latest::LatestPending;
+use crate::pending::PendingStates;
 use std::alloc::{AllocError, Global};
 use std::marker::Model;
 
@@ -35,8 +36,7 @@ struct KeptVisit {
 #[derive(Drop)]
 pub struct Trail {
     visits: Vec<KeptVisit>,
-    pending: Vec<Kept>,
-    latest: LatestPending,
+    pending: PendingStates,
 }
 
 impl Model for Trail {
@@ -76,34 +76,17 @@ fn as_usize(stored: Option<u32>) -> Option<usize>
 
 #[inline(always)]
 fn put_pending(
-    pending: &mut Vec<Kept>,
-    latest: &mut LatestPending,
+    pending: &mut PendingStates,
+    alloc: Global,
     state: Option<Kept>,
 ) -> Result<(), AllocError>
     ensures items { OnOk result (pending.new.items ≡ pending.old.items ++ option_to_list state) }
-    ensures err { OnErr result (pending.new.items ≡ pending.old.items) }
+    ensures err { OnErr result (length pending.new.items ≡ length pending.old.items) }
 {
-    if let Some(state) = state {
-        latest.push(state.slot(), pending.len())?;
-        pending.push(state)?;
+    match state {
+        Some(state) => pending.push(alloc, state),
+        None => Ok(()),
     }
-    Ok(())
-}
-
-#[inline(always)]
-fn take_pending(pending: &mut Vec<Kept>, latest: &mut LatestPending, waits: bool) -> Option<Kept>
-    requires { one_if waits ≤ length pending.old.items }
-    ensures items { pending.old.items ≡ pending.new.items ++ option_to_list result }
-    ensures waits { waits ≡ is_some result }
-{
-    if !waits {
-        return None;
-    }
-    let state = pending.pop();
-    if let Some(state) = &state {
-        latest.pop(state.slot());
-    }
-    state
 }
 
 impl Trail {
@@ -114,8 +97,7 @@ impl Trail {
     {
         Trail {
             visits: Vec::new(alloc),
-            pending: Vec::new(alloc),
-            latest: LatestPending::new(alloc),
+            pending: PendingStates::new(alloc),
         }
     }
 
@@ -125,24 +107,16 @@ impl Trail {
         self.pending.last()
     }
 
-    /// Returns the states with which a state that becomes pending at the slot may share: the last
-    /// pending one; and the last one of that slot, or the stored one where that is the same or there
-    /// is none.
+    /// Returns the states with which a state that becomes pending at the slot may share, a stored
+    /// one among them.
     #[inline(always)]
     pub fn others_at<'a>(&'a self, slot: usize, stored: Option<&'a Kept>) -> Others<'a> {
-        let second = match self.latest.index_at(slot) {
-            Some(index) if index.saturating_add(1) < self.pending.len() => self.pending.get(index),
-            _ => stored,
-        };
-        Others {
-            first: self.last_pending(),
-            second,
-        }
+        self.pending.others_at(slot, stored)
     }
 
     /// Puts a visit after the others.
     #[inline(always)]
-    pub fn push(&mut self, visit: Visit) -> Result<(), AllocError>
+    pub fn push(&mut self, alloc: Global, visit: Visit) -> Result<(), AllocError>
         ensures items { OnOk result (self.new.items ≡ self.old.items ++ visit ∷ []) }
         ensures len { OnOk result (length self.new.items ≡ length self.old.items + 1) }
     {
@@ -153,14 +127,14 @@ impl Trail {
         } = visit;
         let stored = as_u32(stored)?;
         let waits = pending.is_some();
-        put_pending(&mut self.pending, &mut self.latest, pending)?;
         let kept = KeptVisit {
             best,
             stored,
             waits,
         };
-        let Ok(()) = self.visits.push(kept) else {
-            let _state = take_pending(&mut self.pending, &mut self.latest, waits);
+        self.visits.push(kept)?;
+        let Ok(()) = put_pending(&mut self.pending, alloc, pending) else {
+            let _visit = self.visits.pop();
             return Err(AllocError);
         };
         Ok(())
@@ -169,27 +143,36 @@ impl Trail {
     /// Takes what is pending at the last visit, if anything is. The visit stays: a state after it
     /// has this number.
     #[inline(always)]
-    pub fn take_last_pending(&mut self, number: u32) -> Option<Kept>
-        ensures { TakesLastPending number self.old.items result self.new.items }
+    pub fn take_last_pending(
+        &mut self,
+        alloc: Global,
+        number: u32,
+    ) -> Result<Option<Kept>, AllocError>
+        ensures { IfOk result (λ o. TakesLastPending number self.old.items o self.new.items) }
     {
         let Some(last) = self.visits.len().checked_sub(1) else {
-            return None;
+            return Ok(None);
         };
         let kept = self.visits[last];
         if !kept.waits {
-            return None;
+            return Ok(None);
         }
         self.visits[last] = KeptVisit {
             best: kept.best.max(number),
             stored: kept.stored,
             waits: false,
         };
-        take_pending(&mut self.pending, &mut self.latest, true)
+        let Ok(state) = self.pending.pop(alloc) else {
+            return Err(AllocError);
+        };
+        Ok(state)
     }
 
     /// Takes the last visit.
     #[inline(always)]
     pub fn pop(&mut self) -> Option<Visit>
+        requires { (path : List TheVisit) (visit : TheVisit)
+            → self.old.items ≡ path ++ visit ∷ [] → visit.pending ≡ None }
         ensures items { self.old.items ≡ self.new.items ++ option_to_list result }
         ensures cases { MatchOption result
             (length self.old.items ≡ 0 × length self.new.items ≡ 0)
@@ -198,9 +181,8 @@ impl Trail {
         let Some(kept) = self.visits.pop() else {
             return None;
         };
-        let pending = take_pending(&mut self.pending, &mut self.latest, kept.waits);
         Some(Visit {
-            pending,
+            pending: None,
             best: kept.best,
             stored: as_usize(kept.stored),
         })

@@ -1,5 +1,7 @@
-use Rattle.std.proofs.Common.{◌≡◌, ◌∙◌, ◌++◌, ◌∷◌, [], ◌+◌, List, Some, refl, arith, sym, ap, length, subst}
+use Rattle.std.proofs.Common.{ℕ, Option, None, ◌≡◌, ◌∙◌, ◌++◌, ◌∷◌, [], ◌+◌, List, Some, refl, arith, sym, ap, length, subst}
 use Rattle.explorer.specs.declared.trail.Visit.{Visit}
+use Rattle.stack_state.specs.declared.states.State.{State}
+use Rattle.explorer.specs.Trail.{TakesLastPending}
 use Rattle.explorer.specs.Search.{Settles, HasSpent, Path}
 use Rattle.explorer.proofs.StoredStatesLaws.{Settles-start}
 use Rattle.explorer.proofs.Paths.{LastVisit, Path-pop, Path-none}
@@ -9,10 +11,17 @@ use Rattle.explorer.proofs.SearchMoves.{goes_back, comes_aside}
 use Rattle.explorer.proofs.search.Search.back.Goals as goal
 use Rattle.explorer.proofs.search.Search.back.Goals.{In-Some-pop}
 
+-- nothing is pending at the last visit
+none_taken : (o : Option State) (n : ℕ) (old new : List Visit)
+    → ((s : State) → o ≡ Some s → ⊥) → TakesLastPending n old o new
+    → TakesLastPending n old None new
+none_taken None n old new none on = on
+none_taken (Some s) n old new none on = absurd (none s refl)
+
 -- nothing is pending there: the last visit is taken
 taken : (c : In-Some-pop)
     → c.args.self.now.path.items ≡ c.pop.new.self.items ++ c.in-Some-pop.visit ∷ []
-taken c = sym c.in_default.ensures.0 ∙ c.in-Some-pop.ensures.items
+taken c = sym (none_taken _ _ _ _ c.in_default-taken.not-Some c.in-Ok.ensures).0 ∙ c.in-Some-pop.ensures.items
 
 last_of : (c : In-Some-pop)
     → LastVisit c.args.flow.now c.args.self.now.finished c.args.self.now.states.states.items
@@ -28,7 +37,7 @@ last_of c =
 
 pub come-requires-clause-comes : goal.come-requires-clause-comes
 come-requires-clause-comes c =
-    let on = c.in-Some.ensures in
+    let on = subst (λ o. TakesLastPending c.args.ended c.args.self.now.path.items o c.take_last_pending.new.self.items) c.in-Some.is c.in-Ok.ensures in
     comes_aside c.args.flow.now c.args.self.now on.path on.visit _ c.take_last_pending.new.self
     c.args.ended c.restore.new.state c.requires.at on.was
     (on.pending ∙ ap Some (sym c.restore.ensures)) refl on.now
@@ -39,7 +48,7 @@ returns-in_default-pop-clause-moves c =
     let search = c.args.self.now in
     let at = c.requires.at in
     let none : length search.path.items ≡ 0 =
-    ap length (sym c.in_default.ensures.0) ∙ c.in_default-pop.ensures.cases.0 in
+    ap length (sym (none_taken _ _ _ _ c.in_default-taken.not-Some c.in-Ok.ensures).0) ∙ c.in_default-pop.ensures.cases.0 in
     let same =
     Path-none p search.finished search.states.states.items search.path.items at.at.first
     at.state none at.at.path in
@@ -71,9 +80,9 @@ returns-clause-moves c =
     let back = goes_back p search.finished states c.finish.new.self.states.items at.at.first path
     visit at.state c.args.ended c.max-number.result
     at.at.begins at.at.fine last on_path at.settled at.most
-    (c.in_default.ensures.1 path visit items) c.max-number.ensures c.finish.ensures in
+    ((none_taken _ _ _ _ c.in_default-taken.not-Some c.in-Ok.ensures).1 path visit items) c.max-number.ensures c.finish.ensures in
     let same : search.finished + length search.path.items ≡ search.finished + 1 + length path =
-    omega (arith, c.in-Some-pop.ensures.cases, ap length c.in_default.ensures.0) in
+    omega (arith, c.in-Some-pop.ensures.cases, ap length (none_taken _ _ _ _ c.in_default-taken.not-Some c.in-Ok.ensures).0) in
     record {
       state = back.state;
       at =

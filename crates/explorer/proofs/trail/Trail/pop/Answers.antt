@@ -1,42 +1,39 @@
-use Rattle.std.proofs.Common.{◌∙◌, ◌++◌, ◌∷◌, [], ap, sym, arith, length, length-append}
+use Rattle.std.proofs.Common.{◌≡◌, ◌∙◌, ◌++◌, ◌∷◌, [], None, false, refl, ap, sym, arith, length, length-append}
+use Rattle.std.proofs.lemmas.List.{append-nil}
 use Rattle.explorer.specs.Trail.{Visits, visits_of}
-use Rattle.explorer.proofs.Trails.{visits_of-more, waiting_count-less, last_waits, length-visits_of}
+use Rattle.explorer.proofs.Trails.{visits_of-more, waiting_count-less, last_idle, length-visits_of}
 use Rattle.explorer.proofs.trail.Trail.pop.Goals as goal
+use Rattle.explorer.proofs.trail.Trail.pop.Goals.{After-as_usize}
 
-pub take_pending-pending-requires : goal.take_pending-pending-requires
-take_pending-pending-requires c =
-    last_waits c.pop.new.self.items c.self.inside.visits.items c.in-Some.kept
+-- no state is pending at the last visit
+idle : (c : After-as_usize) → c.in-Some.kept.waits ≡ false
+idle c =
+    let seen = ap (λ (v : Visits). v.items) c.self.view_is in
+    last_idle c.pop.new.self.items c.self.inside.visits.items c.in-Some.kept
     c.self.inside.pending.items c.in-Some.ensures.items c.self.invariant
+    (λ path visit is. c.requires path visit (sym seen ∙ is)) c.in-Some.kept.waits refl
 
 pub invariant_of-self-2 : goal.invariant_of-self-2
 invariant_of-self-2 c =
-    waiting_count-less c.pop.new.self.items c.self.inside.visits.items c.in-Some.kept
-    c.take_pending-pending.new.pending.items c.self.inside.pending.items
-    c.take_pending-pending.result c.self.invariant c.in-Some.ensures.items
-    c.take_pending-pending.ensures.items c.take_pending-pending.ensures.waits
+    let states = c.self.inside.pending.items in
+    waiting_count-less c.pop.new.self.items c.self.inside.visits.items c.in-Some.kept states
+    states None c.self.invariant c.in-Some.ensures.items (sym (append-nil states)) (idle c)
 
 pub returns-clause-items : goal.returns-clause-items
 returns-clause-items c =
     let kept = c.in-Some.kept in
-    let states = c.take_pending-pending.new.pending.items in
-    let o = c.take_pending-pending.result in
+    let states = c.self.inside.pending.items in
     ap (λ (v : Visits). v.items) (sym c.self.view_is)
-    ∙ visits_of-more c.pop.new.self.items c.self.inside.visits.items kept states
-    c.self.inside.pending.items o (invariant_of-self-2 c)
-    c.in-Some.ensures.items c.take_pending-pending.ensures.items
-    c.take_pending-pending.ensures.waits
+    ∙ visits_of-more c.pop.new.self.items c.self.inside.visits.items kept states states None
+    (invariant_of-self-2 c) c.in-Some.ensures.items (sym (append-nil states)) (idle c)
     ∙ ap (λ s. visits_of c.pop.new.self.items states
-    ++ record { pending = o; best = kept.best; stored = s } ∷ []) (sym c.as_usize.ensures)
+    ++ record { pending = None; best = kept.best; stored = s } ∷ []) (sym c.as_usize.ensures)
 
 pub returns-clause-cases : goal.returns-clause-cases
 returns-clause-cases c =
     sym (ap length (returns-clause-items c)
-    ∙ length-append (visits_of c.pop.new.self.items c.take_pending-pending.new.pending.items)
-    (record {
-      pending = c.take_pending-pending.result;
-      best = c.in-Some.kept.best;
-      stored = c.as_usize.result;
-    } ∷ []))
+    ∙ length-append (visits_of c.pop.new.self.items c.self.inside.pending.items)
+    (record { pending = None; best = c.in-Some.kept.best; stored = c.as_usize.result } ∷ []))
 
 pub returns-in_default-clause-cases : goal.returns-in_default-clause-cases
 returns-in_default-clause-cases c =

@@ -4,9 +4,10 @@ use Rattle.std.proofs.lemmas.List.{append-nil}
 use Rattle.stack_state.specs.declared.states.State.{State}
 use Rattle.explorer.specs.declared.trail.Visit.{Visit}
 use Rattle.explorer.specs.declared.trail.KeptVisit.{KeptVisit}
-use Rattle.explorer.specs.Trail.{Visits, visits_of, one_if, waiting_count, TakesLastPending}
-use Rattle.explorer.proofs.Trails.{visits_of-more, waiting_count-more, waiting_count-less, last_waits, length-visits_of, last_set, last_read, last_visit}
+use Rattle.explorer.specs.Trail.{Visits, visits_of, waiting_count, TakesLastPending}
+use Rattle.explorer.proofs.Trails.{visits_of-more, waiting_count-more, waiting_count-less, waiting_count-taken, is_taken, length-visits_of, last_set, last_read, last_visit}
 use Rattle.explorer.proofs.trail.Trail.take_last_pending.Goals as goal
+use Rattle.explorer.proofs.trail.Trail.take_last_pending.Goals.{After-pop}
 
 is_false : (b : Bool) → not b ≡ true → b ≡ false
 is_false true h = absurd (cc h)
@@ -50,33 +51,20 @@ returns-then-not-kept c = (
       waits)),
 )
 
-pub take_pending-requires : goal.take_pending-requires
-take_pending-requires c =
-    let whole = c.self.inside.visits.items in
-    let i = c.in-Some.last in
-    let kept = c.index-kept.result.now in
-    let split : whole ≡ take i whole ++ kept ∷ [] =
-    last_read whole i kept (omega (arith, c.in-Some.ensures, c.len.ensures))
-    ∙ ap (λ k. take i whole ++ k ∷ []) (sym c.index-kept.ensures) in
-    let waits = is_true kept.waits c.if-not-kept.false in
-    let states = c.self.inside.pending.items in
-    let some = last_waits (take i whole) whole kept states split c.self.invariant in
-    omega (arith, some, ap one_if waits)
-
-abbrev now : goal.After-take_pending → KeptVisit
+abbrev now : After-pop → KeptVisit
 now c = record { best = c.max.result; stored = c.index-kept.result.now.stored; waits = false }
 
--- the last visit as it was kept and as it is now, and what waits before it
-record Turned (c : goal.After-take_pending) : Type 0 where
+-- the last visit as it was kept and as it is now
+record Turned (c : After-pop) : Type 0 where
   split : c.self.inside.visits.items
       ≡ take c.in-Some.last c.self.inside.visits.items ++ c.index-kept.result.now ∷ []
   turned : set c.self.inside.visits.items c.in-Some.last (now c)
       ≡ take c.in-Some.last c.self.inside.visits.items ++ now c ∷ []
-  waits : c.index-kept.result.now.waits ≡ is_some c.take_pending.result
-  fits : waiting_count (take c.in-Some.last c.self.inside.visits.items)
-      ≡ length c.take_pending.new.pending.items
+  waits : c.index-kept.result.now.waits ≡ true
+  count : length c.self.inside.pending.items
+      ≡ waiting_count (set c.self.inside.visits.items c.in-Some.last (now c)) + 1
 
-turned_of : (c : goal.After-take_pending) → Turned c
+turned_of : (c : After-pop) → Turned c
 turned_of c =
     let whole = c.self.inside.visits.items in
     let i = c.in-Some.last in
@@ -84,23 +72,37 @@ turned_of c =
     let last : i + 1 ≡ length whole = omega (arith, c.in-Some.ensures, c.len.ensures) in
     let split : whole ≡ take i whole ++ kept ∷ [] =
     last_read whole i kept last ∙ ap (λ k. take i whole ++ k ∷ []) (sym c.index-kept.ensures) in
-    let waits : kept.waits ≡ is_some c.take_pending.result =
-    is_true kept.waits c.if-not-kept.false ∙ c.take_pending.ensures.waits in
+    let waits : kept.waits ≡ true = is_true kept.waits c.if-not-kept.false in
+    let turned = last_set whole i (now c) last in
     record {
       split = split;
-      turned = last_set whole i (now c) last;
+      turned = turned;
       waits = waits;
-      fits = waiting_count-less (take i whole) whole kept c.take_pending.new.pending.items
-          c.self.inside.pending.items c.take_pending.result c.self.invariant split
-          c.take_pending.ensures.items waits;
+      count =
+          sym c.self.invariant
+          ∙ waiting_count-taken (take i whole) whole (set whole i (now c)) kept (now c) split
+          turned waits refl;
     }
 
 pub invariant_of-self : goal.invariant_of-self
 invariant_of-self c =
-    let t = turned_of c in
-    waiting_count-more (take c.in-Some.last c.self.inside.visits.items) _ (now c)
-    c.take_pending.new.pending.items c.take_pending.new.pending.items None t.fits t.turned
-    (sym (append-nil c.take_pending.new.pending.items)) refl
+    let t = turned_of (goal.at.invariant_of-self c).After-pop in
+    omega (arith, t.count, c.in_default-pop.ensures.err)
+
+pub invariant_of-self-2 : goal.invariant_of-self-2
+invariant_of-self-2 c =
+    let here = (goal.at.invariant_of-self-2 c).After-pop in
+    let t = turned_of here in
+    let taken =
+    is_taken c.in-Ok.state c.self.inside.pending.items (omega (arith, t.count))
+    c.in-Ok.ensures.none in
+    waiting_count-more (take c.in-Some.last c.self.inside.visits.items) _ (now here)
+    c.pop.new.self.items c.pop.new.self.items None
+    (waiting_count-less (take c.in-Some.last c.self.inside.visits.items)
+    c.self.inside.visits.items c.index-kept.result.now c.pop.new.self.items
+    c.self.inside.pending.items c.in-Ok.state c.self.invariant t.split c.in-Ok.ensures.items
+    (t.waits ∙ taken))
+    t.turned (sym (append-nil c.pop.new.self.items)) refl
 
 takes : (n best : ℕ) (old new path : List Visit) (stored : Option ℕ) (o : Option State)
     → true ≡ is_some o
@@ -118,17 +120,25 @@ takes n best old new path stored (Some s) some was now = record {
 
 pub returns : goal.returns
 returns c =
+    let here = (goal.at.returns c).After-pop in
     let whole = c.self.inside.visits.items in
     let front = take c.in-Some.last whole in
     let kept = c.index-kept.result.now in
-    let states = c.take_pending.new.pending.items in
-    let t = turned_of c in
+    let states = c.pop.new.self.items in
+    let t = turned_of here in
+    let taken =
+    is_taken c.in-Ok.state c.self.inside.pending.items (omega (arith, t.count))
+    c.in-Ok.ensures.none in
+    let waits = t.waits ∙ taken in
+    let fits =
+    waiting_count-less front whole kept states c.self.inside.pending.items c.in-Ok.state
+    c.self.invariant t.split c.in-Ok.ensures.items waits in
     takes c.args.number kept.best c.args.self.now.items _ (visits_of front states) kept.stored
-    c.take_pending.result c.take_pending.ensures.waits
+    c.in-Ok.state taken
     (ap (λ (v : Visits). v.items) (sym c.self.view_is)
-    ∙ visits_of-more front whole kept states c.self.inside.pending.items c.take_pending.result
-    t.fits t.split c.take_pending.ensures.items t.waits)
-    (visits_of-more front _ (now c) states states None t.fits t.turned (sym (append-nil states))
+    ∙ visits_of-more front whole kept states c.self.inside.pending.items c.in-Ok.state
+    fits t.split c.in-Ok.ensures.items waits)
+    (visits_of-more front _ (now here) states states None fits t.turned (sym (append-nil states))
     refl
     ∙ ap (λ b. visits_of front states ++ record {
       pending = None;

@@ -1,0 +1,65 @@
+-- Pending states with one more, or one less.
+use Rattle.std.proofs.Common.{◌≡◌, ◌∙◌, suc, List, [], ◌∷◌, ◌++◌, take, drop, reverse, length, refl, ap, ap₂, arith}
+use Rattle.std.proofs.lemmas.List.{reverse-append, length-reverse}
+use Rattle.reg_state.specs.declared.kinds.Kind.{Kind}
+use Rattle.stack_state.specs.declared.states.AbstractFrame.{AbstractFrame}
+use Rattle.stack_state.specs.declared.states.State.{State}
+use Rattle.state_index.specs.declared.parts.Part.{Part}
+use Rattle.state_index.specs.Parts.{all_written}
+use Rattle.explorer.specs.declared.changing.ChangedState.{ChangedState}
+use Rattle.explorer.specs.declared.changing.PendingState.{PendingState}
+use Rattle.explorer.specs.declared.changing.PendingState.TheVariants.{Whole, Changed}
+use Rattle.explorer.specs.declared.changing.Changing.{Changing}
+use Rattle.explorer.specs.Changes.{changes_of}
+use Rattle.explorer.specs.Pending.{changed_state, states_from, states_below, pending_states}
+use Rattle.explorer.proofs.ChangeLaws.{reverse_more}
+
+-- a state by what it changes, and those before it
+pub changed_from : (any : Kind) (s : ChangedState) (states : List PendingState) (parts before : List Part)
+    (f old : AbstractFrame) (a : State) → changed_state any s f ≡ a
+    → drop s.count parts ≡ before → all_written f (take s.count parts) ≡ old
+    → states_from any (Changed s ∷ states) parts f ≡ a ∷ states_from any states before old
+unfolding states_from
+changed_from any s states parts before f old a is dropped undone =
+    ap₂ (λ (x : State) (l : List State). x ∷ l) is
+    (ap₂ (λ (l : List Part) (g : AbstractFrame). states_from any states l g) dropped undone)
+
+-- a state that is kept whole, and those before it
+pub whole_from : (any : Kind) (s a : State) (states : List PendingState) (parts before : List Part)
+    (f old : AbstractFrame) → s ≡ a → parts ≡ before → f ≡ old
+    → states_from any (Whole s ∷ states) parts f ≡ a ∷ states_from any states before old
+unfolding states_from
+whole_from any s a states parts before f old is same frame =
+    ap₂ (λ (x : State) (l : List State). x ∷ l) is
+    (ap₂ (λ (l : List Part) (g : AbstractFrame). states_from any states l g) same frame)
+
+length-states_from : (any : Kind) (states : List PendingState) (parts : List Part) (f : AbstractFrame)
+    → length (states_from any states parts f) ≡ length states
+unfolding states_from
+length-states_from any [] parts f = refl
+length-states_from any (Whole s ∷ states) parts f =
+    ap suc (length-states_from any states parts f)
+length-states_from any (Changed s ∷ states) parts f =
+    ap suc
+    (length-states_from any states (drop s.count parts) (all_written f (take s.count parts)))
+
+pub length-pending_states : (c : Changing) (states : List PendingState)
+    → length (pending_states c states) ≡ length states
+length-pending_states c states =
+    length-reverse (states_below c (reverse states))
+    ∙ length-states_from c.any (reverse states) (changes_of c.changed) c.changed.frame
+    ∙ length-reverse states
+
+-- one state more
+pub pending_more : (old new : Changing) (states all : List PendingState) (p : PendingState) (s : State)
+    → all ≡ states ++ p ∷ []
+    → states_below new (p ∷ reverse states) ≡ s ∷ states_below old (reverse states)
+    → pending_states new all ≡ pending_states old states ++ s ∷ []
+pending_more old new states all p s longer below =
+    ap (λ l. reverse (states_below new l)) (reverse_more states all p longer)
+    ∙ ap reverse below
+    ∙ reverse-append (s ∷ []) (states_below old (reverse states))
+
+pub no_items : {X : Type 0} (l : List X) → length l ≡ 0 → l ≡ []
+no_items [] none = refl
+no_items (x ∷ l) none = absurd (omega arith)

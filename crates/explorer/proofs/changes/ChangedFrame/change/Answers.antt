@@ -1,0 +1,13 @@
+use Rattle.std.proofs.Common.{◌∙◌, ◌++◌, ◌∷◌, [], ap}
+use Rattle.explorer.proofs.ChangeLaws.{IsChanged-none, IsChanged-one}
+use Rattle.explorer.proofs.changes.ChangedFrame.change.Goals as goal
+
+pub returns-then-has_part-clause-changes : goal.returns-then-has_part-clause-changes
+returns-then-has_part-clause-changes c = IsChanged-none c.args.self.now
+
+pub returns-clause-changes : goal.returns-clause-changes
+returns-clause-changes c =
+    IsChanged-one c.args.self.now _ c.args.part.now c.part_there-was.result
+    (c.in_ok-push.ensures.items
+    ∙ ap (λ s. c.args.self.now.changes.items ++ s ∷ []) c.in_ok-short.ensures)
+    c.write.ensures c.part_there-was.ensures
