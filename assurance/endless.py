@@ -5,8 +5,10 @@ usage: python3 assurance/endless.py [PROGRAM [SURVEY]]
 
 Proof tables, program texts and earlier surveys that are devices without an end, or files of
 terabytes on no disk, or a right one with such bytes behind it: each has to be refused as the bytes
-at its beginning are, within a second of the processor and 64 MB. A comparison with an earlier survey
-of 36 MB may take three times as much. PROGRAM and SURVEY are the programs
+at its beginning are, within a second of the processor and 64 MB. So is a text of 100 MB that its
+beginning decides, from a file, a pipe and standard input. One that only its end decides is read and
+kept as a whole: it may take 64 MB more than its size, and a few seconds. A comparison with an earlier
+survey of 36 MB may take three times as much. PROGRAM and SURVEY are the programs
 that `rt run` leaves in crates/xdpvm and crates/xdpvm_survey (the default: those in out/ there). The
 exit status is 0 if it is so, and 1 if not.
 """
@@ -14,6 +16,7 @@ import os
 import subprocess
 import sys
 import tempfile
+import threading
 
 TOP = os.path.dirname(os.path.dirname(os.path.abspath(__file__)))
 PROGRAM = os.path.abspath(sys.argv[1] if len(sys.argv) > 1 else os.path.join(TOP, "crates/xdpvm/out/xdpvm"))
@@ -25,13 +28,16 @@ TERABYTES = 1 << 42
 MEMORY = 64 * 1024
 SECONDS = 1
 LONGEST = 60
+# A text that is read as a whole: its bytes, and at most so many seconds.
+LONG = 100_000_000
+WHOLE = 4
 
 
-def run(words):
+def run(words, given=subprocess.DEVNULL):
     """A command's status, standard output and standard error, its memory in KiB and its seconds."""
     read, write = os.pipe()
     errors = tempfile.TemporaryFile()
-    program = subprocess.Popen(["timeout", "-s", "KILL", str(LONGEST), *words], stdin=subprocess.DEVNULL, stdout=write, stderr=errors)
+    program = subprocess.Popen(["timeout", "-s", "KILL", str(LONGEST), *words], stdin=given, stdout=write, stderr=errors)
     os.close(write)
     with os.fdopen(read, "rb") as file:
         out = file.read()
@@ -42,9 +48,9 @@ def run(words):
         return program.returncode, out.decode(), errors.read().decode(), used.ru_maxrss, used.ru_utime + used.ru_stime
 
 
-def tell(words, status, line, most=MEMORY, longest=SECONDS):
+def tell(words, status, line, most=MEMORY, longest=SECONDS, given=subprocess.DEVNULL):
     """Whether a command ends with this status, after this line of its output, within the limits."""
-    ended, out, errors, memory, seconds = run(words)
+    ended, out, errors, memory, seconds = run(words, given)
     said = (out + errors).splitlines()
     is_right = ended == status and line in said and memory <= most and seconds <= longest
     if not is_right:
@@ -109,6 +115,50 @@ def tell_texts(folder):
     yield is_right
 
 
+def long_texts():
+    """The bytes that a text of 100 MB repeats, the line it is refused with, and whether only its end decides that."""
+    yield b"r0 = 1 ; ", "refused A9 line 1 column 36865", False
+    yield b" ", "refused A9 line 1 column 1", True
+    yield b"\n", "refused A9 line 1 column 1", True
+    yield b"# a comment\n", "refused A9 line 1 column 1", True
+    yield b"#", "refused A9 line 1 column 1", True
+    yield b"a", "refused A2 line 1 column 1", True
+    yield b"7", "refused A2 line 1 column 1", True
+    yield b"(", "refused A2 line 1 column 1", True
+    yield b"r1 + 2 ", "refused A2 line 1 column 1", True
+
+
+def send(to, part):
+    """Sends a long text, or as much of it as is read."""
+    try:
+        with os.fdopen(to, "wb", buffering=0) as file:
+            for _ in range(LONG // len(part)):
+                file.write(part)
+    except BrokenPipeError:
+        pass
+
+
+def tell_long_texts(folder):
+    """Whether long texts are refused within the limits, from a pipe, a file and standard input."""
+    image = os.path.join(folder, "image")
+    path = os.path.join(folder, "long")
+    for unit, line, is_whole in long_texts():
+        limits = (LONG // 1024 + MEMORY, WHOLE) if is_whole else (MEMORY, SECONDS)
+        part = unit * (1_000_000 // len(unit))
+        read, write = os.pipe()
+        sender = threading.Thread(target=send, args=(write, part))
+        sender.start()
+        with os.fdopen(read, "rb") as given:
+            yield tell([PROGRAM, "asm", "/dev/stdin", image], 2, line, *limits, given)
+        sender.join()
+        if len(unit) != 1:
+            with open(path, "wb") as file:
+                file.writelines(part for _ in range(LONG // len(part)))
+            yield tell([PROGRAM, "asm", path, image], 2, line, *limits)
+            with open(path, "rb") as given:
+                yield tell([PROGRAM, "asm", "/dev/stdin", image], 2, line, *limits, given)
+
+
 def tell_comparison(folder):
     """Whether a comparison keeps little of an earlier survey whose images are gone."""
     path = os.path.join(folder, "gone")
@@ -130,7 +180,7 @@ def tell_surveys(folder):
 
 def main():
     with tempfile.TemporaryDirectory() as folder:
-        told = [*tell_tables(folder), *tell_texts(folder), *tell_surveys(folder), *tell_comparison(folder)]
+        told = [*tell_tables(folder), *tell_texts(folder), *tell_long_texts(folder), *tell_surveys(folder), *tell_comparison(folder)]
     return 0 if all(told) else 1
 
 

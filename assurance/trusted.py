@@ -3,8 +3,8 @@
 
 usage: python3 assurance/trusted.py [--print | --write]
 
-The main promise begins with the bytes of an image. So it begins here with the names in the clauses of `Image::parse` and
-`host::run`, in what holds of every `Image` and of every `Verified`, and in what `recheck` says of the `Verified` that it
+The main promise begins with the bytes of an image. So it begins here with the term that says it, and with the names in
+the clauses of `Image::parse` and `host::run`, in what holds of every `Image` and of every `Verified`, and in what `recheck` says of the `Verified` that it
 returns; and follows each name through the definitions of all crates/*/specs to the definitions, and to the types and
 constants of crates/*/src. What the calls of the library say with status 0 and with status 2, and what a row of the survey
 says, rest on more: these lists are of what comes beside the main one, and beside the one before.
@@ -27,6 +27,7 @@ Text = tuple[str, str, str]
 Rows = dict[str, int]
 
 PROMISES: list[Text] = [
+    ("crates/command_calls/src/streaming.rt", "    ensures promised {", "\n    ensures tally"),
     ("crates/image/src/images.rt", "pub fn parse(", "// All others"),
     ("crates/image/src/images.rt", "impl Model for Image {", "\n}"),
     ("crates/host/src/verified.rt", "pub fn run<", "\n{"),

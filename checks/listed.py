@@ -26,7 +26,7 @@ CHECKS = (
     Check("programs", "python3 tests/programs.py", "texts: verdicts, bounds and runs of programs that are written by hand", 8),
     Check("messages", "python3 examples/messages.py", "what is said of wrong inputs", 4),
     Check("edits_fit", "python3 assurance/run.py --fit", "whether the text that each edit replaces is still there", 2),
-    Check("near", "python3 -m checks near known_bits::Bits::below", "that one function is proved and its edits are tried by themselves", 15),
+    Check("near", "python3 -m checks near known_bits::Bits::below known_bits::Bits::meet known_bits::bits::ones", "that functions are proved and their edits tried by themselves", 15),
     Check("laws", "python3 assurance/laws.py", "which laws are in specs/ without need", 2),
     Check("names", "python3 assurance/names.py", "which public names mean different things in two crates", 2),
     Check("file_map", "python3 assurance/file_map.py --check", "whether the map of the crates agrees with the tree, and each file says what it has", 2),

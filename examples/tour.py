@@ -7,7 +7,7 @@ Such a block begins with the crate's name. Its commands stand after `$`: `sed -i
 checks it. Each block has a copy of the crate for itself. The lines after a check have to be among those that it prints, in
 their order; `..` in them stands for anything. A check without lines has to prove its function. The libraries below are those
 that the gate, or `rt check`, left in crates/*/out; where they are not there, they are proved first. Each row of the page's
-table of a frame names functions that its files have. The last line counts, and the exit status is 1 if any block or row differs.
+table of a frame names functions that its files have, and its table of costs has what bench/costs.py prints. The last line counts, and the exit status is 1 if any block or row differs.
 """
 import concurrent.futures
 import os
@@ -86,6 +86,20 @@ def wrong_row(files: str, functions: str) -> str:
     return f"{files} has no function {', '.join(lost)}" if lost else ""
 
 
+def costs(page: str) -> list[str]:
+    """How each row of what a change costs differs from what bench/costs.py prints; empty where it does not. A percent is the size of a crate
+    that is estimated."""
+    rows = re.findall(r"^\| `(\w+)` \| (\d+) of (\d+) \| ([\d,]+) \| ([\d,]+) \|$", page, re.M)
+    printed = subprocess.run([sys.executable, f"{TOP}/bench/costs.py", *(it[0] for it in rows)], capture_output=True, text=True, check=True).stdout
+    now = re.findall(r"^\| `(\w+)` \| (\d+) of (\d+) \| ([\d,]+) \| ([\d,]+) \|$", printed, re.M)
+
+    def is_near(one: str, other: str) -> bool:
+        a, b = (int(it.replace(",", "")) for it in (one, other))
+        return abs(a - b) * 100 <= b
+
+    return ["" if old[:3] == new[:3] and all(map(is_near, old[3:], new[3:])) else f"{old[0]}: costs.py prints {new}" for old, new in zip(rows, now)]
+
+
 def main() -> None:
     page = text_of(PAGE)
     blocks = [it for it in re.findall(r"^```(\w+)\n(.*?)^```$", page, re.M | re.S) if it[0] in run.BELOW]
@@ -94,7 +108,7 @@ def main() -> None:
         libraries = libraries_for({crate for crate, _ in blocks}, room)
         with concurrent.futures.ThreadPoolExecutor(2) as pool:
             found = list(pool.map(lambda it: wrong(it[0], it[1], libraries), blocks))
-    found += [wrong_row(*row) for row in rows]
+    found += [wrong_row(*row) for row in rows] + costs(page)
     for it in filter(None, found):
         print(it)
     print(f"{len(found)} examples, {sum(map(bool, found))} differ")

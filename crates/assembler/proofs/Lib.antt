@@ -26,3 +26,4 @@ pub mod SpellsRegisters
 pub mod SpellsTexts
 pub mod SpellsTokens
 pub mod SettledTexts
+pub mod PassedLexemes

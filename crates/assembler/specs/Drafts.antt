@@ -1,8 +1,9 @@
 -- What a draft has read so far: of a statement no more tokens than a label and a form have.
-use Rattle.std.specs.Prelude.{nat_lt, if◌then◌else◌, List, [], ◌∷◌, ◌++◌, length, take, map, Result, Ok, Err}
+use Rattle.std.specs.Prelude.{◌≡◌, ℕ, nat_lt, if◌then◌else◌, List, [], ◌∷◌, ◌++◌, length, take, map, Some, Result, Ok}
 use Rattle.lexer.specs.declared.tokens.Token.{Token}
 use Rattle.lexer.specs.declared.tokens.Lexeme.{Lexeme}
 use Rattle.lexer.specs.declared.tokens.Lexeme.TheVariants.{Blank, End, Solid}
+use Rattle.lexer.specs.Lexing.{lexeme_at}
 use Rattle.assembler.specs.declared.draft.Draft.{Draft}
 use Rattle.assembler.specs.declared.draft.Span.{Span}
 use Rattle.assembler.specs.declared.draft.TheConstants.{MOST_TOKENS}
@@ -58,3 +59,8 @@ abbrev pub accept_short : ReadSoFar → Lexeme → TokenSpan → Result ReadSoFa
 accept_short s (Solid t) span = Ok (shortened (pushed s t span))
 accept_short s Blank span = accept s Blank span
 accept_short s End span = accept s End span
+
+-- the bytes begin with a lexeme of that length, which changes nothing
+abbrev pub ChangesNothing : ReadSoFar → List ℕ → ℕ → Type 0
+ChangesNothing s bs n = (x : Lexeme) × (lexeme_at bs ≡ Some (x, n))
+    × ((span : TokenSpan) → accept_short s x span ≡ Ok s)

@@ -39,6 +39,10 @@ fn read_into<'a>(draft: &mut Draft<'a>, text: &'a [u8]) -> Result<(), Refusal>
 {
     let mut rest = text;
     while !rest.is_empty() {
+        if let Some(len) = draft.passes(rest) {
+            rest = after(rest, len);
+            continue;
+        }
         let offset = text.len().saturating_sub(rest.len());
         let (lexeme, len) = match lexeme_at(rest) {
             Ok(found) => found,

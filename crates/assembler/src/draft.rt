@@ -1,12 +1,12 @@
 //! A program while its text is read.
 
-ghost use Rattle.std.specs.Prelude.{◌≡◌, ◌==◌, ◌≤◌, if◌then◌else◌, length, map, drop, slice_get, Ok, IfErr, IsTrue, OnOk};
+ghost use Rattle.std.specs.Prelude.{◌≡◌, ◌==◌, ◌≤◌, if◌then◌else◌, length, map, drop, slice_get, [], Ok, IfErr, IfSome, IsTrue, OnOk};
 ghost use Rattle.lexer.specs.declared.tokens.Lexeme.TheVariants as Lexeme;
 ghost use Rattle.assembler.specs.declared.errors.AsmErrorKind.TheVariants as AsmErrorKind;
 ghost use Rattle.assembler.specs.declared.readings.Statement.TheVariants as Statement;
 ghost use Rattle.assembler.specs.Labelled.{is_label, label_length, has_form};
 ghost use Rattle.assembler.specs.Assembling.{start, at_end, ended, added, named, is_first, with_use, refused_by, refusal_of, offset_or, IsAsWanted};
-ghost use Rattle.assembler.specs.Drafts.{span_of, progress_of, shortened, accept_short};
+ghost use Rattle.assembler.specs.Drafts.{span_of, progress_of, shortened, accept_short, ChangesNothing};
 ghost use Rattle.assembler.specs.Naming.{use_of};
 
 use super::code::AssembledCode;
@@ -21,7 +21,7 @@ use super::statements::{fits_form, spelled_behind};
 use super::wrong::{Objection, Wrong};
 use indexmap::IndexMap;
 use isa_model::{MapDef, Version};
-use lexer::{Lexeme, Sign, Token};
+use lexer::{Lexeme, Sign, Token, line_len, token_len};
 use std::alloc::Global;
 
 // More tokens than a label and the longest form have, which are 15. Of a longer statement no more
@@ -83,6 +83,33 @@ impl<'a> Draft<'a> {
             Lexeme::End => self.close(),
             Lexeme::Solid(token) => self.take(token, span),
         }
+    }
+
+    /// Returns how many bytes the text's first lexeme has, if it surely changes nothing: a blank,
+    /// an end of an empty statement, or one of too many tokens.
+    pub fn passes(&self, text: &[u8]) -> Option<usize>
+        ensures { IfSome result (λ n. ChangesNothing (progress_of self.now) text.now n) }
+    {
+        match text.first()? {
+            b' ' | b'\t' => Some(1),
+            b'#' => Some(line_len(text)),
+            b'\n' | b';' => { if self.is_between() { Some(1) } else { None } }
+            _ => {
+                if self.is_full() {
+                    token_len(text)
+                } else {
+                    None
+                }
+            }
+        }
+    }
+
+    // Whether the statement has no tokens so far.
+    fn is_between(&self) -> bool
+        ensures { IsTrue result
+            → (self.now.tokens.items ≡ []) × (self.now.spans.items ≡ []) }
+    {
+        self.tokens.is_empty() && self.spans.is_empty()
     }
 
     fn take(&mut self, token: Token, span: Span<'a>) -> Result<(), Refusal>

@@ -1,15 +1,25 @@
 //! The hint for a text that is refused: a sentence for each case.
 
-ghost use Rattle.std.specs.Prelude.{◌≡◌};
+ghost use Rattle.std.specs.Prelude.{◌≡◌, false};
 ghost use Rattle.assembler.specs.Hints.{begins, has, begins_operator, names_byte_order, has_negation, names_no_register, names_action, begins_register, unknown_byte, no_jump, no_assignment, no_form, out_of_range, not_defined, wrong_map, hint};
 
 use super::errors::AsmErrorKind;
+
+// Whether bytes may begin with these, by the first byte of both.
+fn may_begin(bytes: &[u8], part: &[u8]) -> bool
+    ensures { result ≡ false → begins bytes.now part.now ≡ false }
+{
+    match (bytes.first(), part.first()) {
+        (Some(byte), Some(wanted)) => *byte == *wanted,
+        _ => true,
+    }
+}
 
 // Whether bytes begin with these.
 fn begins(bytes: &[u8], part: &[u8]) -> bool
     ensures { result ≡ begins bytes.now part.now }
 {
-    part.len() <= bytes.len() && &bytes[..part.len()] == part
+    may_begin(bytes, part) && part.len() <= bytes.len() && &bytes[..part.len()] == part
 }
 
 // Whether these occur somewhere in the bytes.

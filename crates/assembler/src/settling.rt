@@ -21,6 +21,12 @@ pub fn is_text_settled(alloc: Global, front: &[u8]) -> Result<bool, AllocError>
     let mut draft = Draft::new(alloc);
     let mut rest = front;
     while rest.len() >= LONGEST_SIGN {
+        if let Some(len) = draft.passes(rest) {
+            if len < rest.len() {
+                rest = after(rest, len);
+                continue;
+            }
+        }
         let offset = front.len().saturating_sub(rest.len());
         let (lexeme, len) = match lexeme_at(rest) {
             Ok(found) => found,

@@ -9,9 +9,10 @@ use Rattle.bounds.specs.Bounds.{Bounded}
 use Rattle.host.specs.declared.tallies.Tally.{Tally}
 use Rattle.frames.specs.Sources.{in_memory}
 use Rattle.host.specs.Accepted.{RunsWholeFrom, ShowsTallied}
+use Rattle.host.specs.Promise.{Promised, stream_in}
+use Rattle.host.specs.Tallies.{ShowsTally}
 use Rattle.command_calls.specs.declared.streaming.Streamed.{Streamed}
 use Rattle.verdict_calls.specs.Crossing.{filled}
-use Rattle.verdict_calls.specs.Verdicts.{IsAcceptedImage}
 
 abbrev pub fault_number : Fault → ℕ
 fault_number BadMagic = 1
@@ -61,16 +62,14 @@ WritesStream a source report sent tally =
     WritesStreamFrom a (starting_contents a.program.maps) source report sent tally
 
 -- the bytes are an accepted image, and the buffers hold what a run of its program over the stream
--- writes
+-- writes, with what its last line shows
 pub record RunsStream (bytes source old_report old_sent new_report new_sent : List ℕ)
     (out : Streamed) : Type 0 where
-  pub bound : ℕ
-  pub accepts : IsAcceptedImage bytes bound
   pub report : List ℕ
   pub sent : List ℕ
+  pub promised : Promised bytes source report sent
   pub tally : Tally
-  pub writes : WritesStream
-      (record { program = accepts.program; bound = bound }) source report sent tally
+  pub tells : ShowsTally (stream_in source) tally
   pub report_is : new_report ≡ filled old_report report
   pub sent_is : new_sent ≡ filled old_sent sent
   pub out_is : out ≡ streamed_of tally (length report) (length sent)

@@ -1,8 +1,11 @@
 //! The call that runs an accepted program over a frame stream.
 
-ghost use Rattle.std.specs.Prelude.{◌≡◌, ◌≢◌, length, IfSome};
+ghost use Rattle.std.specs.Prelude.{◌≡◌, ◌≢◌, length, Err, IfOk, IfSome};
+ghost use Rattle.host.specs.Promise.{Promised, stream_in};
+ghost use Rattle.host.specs.Tallies.{ShowsTally};
 ghost use Rattle.verdict_calls.specs.Crossing.{IsVerdictStatus, filled};
 ghost use Rattle.verdict_calls.specs.Verdicts.{IsRefusedImage};
+ghost use Rattle.verdict_calls.specs.declared.statuses.NotAccepted.TheVariants as NotAccepted;
 ghost use Rattle.command_calls.specs.Streams.{WritesStream, RunsStream, fault_number, streamed_of};
 
 use bounds::Verified;
@@ -97,6 +100,24 @@ fn stream_written(alloc: Global, verified: Verified, stream: &[u8]) -> Option<Wr
     }
 }
 
+/// Verifies an image, and runs its program on the packet frames of a stream. Returns the report and
+/// the frames out.
+pub fn run_image(alloc: Global, image: &[u8], stream: &[u8]) -> Result<Written, NotAccepted>
+    ensures promised { IfOk result
+        (λ w. Promised image.now stream.now w.report.items w.sent.items) }
+    ensures tally { IfOk result (λ w. ShowsTally (stream_in stream.now) w.tally) }
+    ensures refused { result ≡ Err NotAccepted.Refused → IsRefusedImage image.now }
+{
+    let verified = match verified_of(alloc, image) {
+        Ok(verified) => verified,
+        Err(reason) => return Err(reason),
+    };
+    match stream_written(alloc, verified, stream) {
+        Some(written) => Ok(written),
+        None => Err(NotAccepted::Memory),
+    }
+}
+
 /// Verifies an image, and runs its program on the packet frames of a stream. The report is written
 /// to `report` and the frames out to `sent`, as far as there is room; the maps keep their contents
 /// from frame to frame.
@@ -117,13 +138,10 @@ pub fn run_stream(
     ensures out_kept { result ≢ 0 → out.new ≡ out.old }
     ensures status { IsVerdictStatus result }
 {
-    let verified = match verified_of(alloc, image) {
-        Ok(verified) => verified,
+    let written = match run_image(alloc, image, stream) {
+        Ok(written) => written,
         Err(NotAccepted::Refused) => return REFUSED,
         Err(NotAccepted::Memory) => return MEMORY,
-    };
-    let Some(written) = stream_written(alloc, verified, stream) else {
-        return MEMORY;
     };
     *out = fill_streamed(&written, report, sent);
     OK

@@ -1,6 +1,9 @@
 //! Reads the records of a stream one by one.
-ghost use Rattle.std.specs.Prelude.{◌≡◌, ◌≢◌, ◌+◌, ◌*◌, ◌≤◌, Option};
+ghost use Rattle.std.specs.Prelude.{◌≡◌, ◌≢◌, ◌+◌, ◌*◌, ◌≤◌, length, true, Option};
+ghost use Rattle.isa_model.specs.Code.Versions.{head_size};
 ghost use Rattle.isa_model.specs.Machine.MachineStates.{AreBytes};
+ghost use Rattle.exact_io.specs.Transfers.{Fills};
+ghost use Rattle.frames.specs.Sources.{HasFailed};
 ghost use Rattle.frames.specs.Readers.{Position, Fresh, At};
 ghost use Rattle.frames.specs.Reading.{ReadsMagic, MayOpen, OpensStream, begun_at, Finds, finding_of, FindsNext, HasRoom, FitsBuffer, StaysDone};
 ghost use Rattle.frames.specs.Stages.{position_of, OffsetFits, max_record, HasRoomForRecord, IsStageAfter};
@@ -179,6 +182,20 @@ fn read_magic<R: Source>(source: &mut R) -> Result<Version, Fault>
     }
 }
 
+// Fills a buffer of the size of a head. The sizes are written out, so that each copy is of a number
+// of bytes that is known.
+#[inline(always)]
+fn fill_head<R: Source>(source: &mut R, version: Version, head: &mut [u8]) -> Filled
+    requires { length head.old ≡ head_size version }
+    ensures fills { Fills (R.remaining source.old) (R.remaining source.new) result head.new }
+    ensures fails { HasFailed result → R.may_fail ≡ true }
+{
+    match version {
+        Version::One => fill_at_once(source, &mut head[..20]),
+        Version::Two => fill_at_once(source, &mut head[..24]),
+    }
+}
+
 // Makes known to proofs what the type of a body says.
 fn in_range(body: &[u8])
     ensures { AreBytes body.now }
@@ -209,7 +226,7 @@ fn read_record<R: Source>(
         };
     }
     let head = &mut head_buffer[..version.head_size()];
-    match fill_at_once(source, head) {
+    match fill_head(source, version, head) {
         Filled::Whole => {}
         Filled::Ended(0) => return Next::End,
         Filled::Ended(_) => return Next::Fault(Fault::TruncatedHead, offset),

@@ -9,9 +9,8 @@ use Rattle.isa_model.specs.declared.map_defs.MapDef.{MapDef}
 use Rattle.isa_model.specs.Machine.States.{KeyValues}
 use Rattle.isa_model.specs.Reporting.Reports.{OutputPiece, ToReport, ToFrames, report_bytes, frames_out, map_line, map_pieces, maps_pieces, in_report_order}
 use Rattle.map_texts.specs.Listings.{text_of}
-use Rattle.host.specs.declared.errors.HostError.{HostError}
 use Rattle.host.specs.declared.errors.HostError.TheVariants as failure
-use Rattle.host.specs.Writing.{Outputs, Wrote, WroteBefore}
+use Rattle.host.specs.Writing.{Wrote, WroteBefore}
 use Rattle.host.proofs.Pieces.{Wrote-append, WroteBefore-append, WroteBefore-more, wrote_report, report_failed}
 
 -- pieces that are all for the report

@@ -1,8 +1,6 @@
 -- What a machine notes whose packet frames are counted too.
-use Rattle.std.specs.Prelude.{ℕ, List, Some, None}
+use Rattle.std.specs.Prelude.{Some, None}
 use Rattle.isa_model.specs.declared.versions.Version.{Version}
-use Rattle.isa_model.specs.declared.frames.FrameHead.{FrameHead}
-use Rattle.isa_model.specs.Machine.States.{KeyValues}
 use Rattle.bounds.specs.Bounds.{Bounded}
 use Rattle.host.specs.Counts.{Totals, with_end}
 use Rattle.host.specs.Stops.{Noting}

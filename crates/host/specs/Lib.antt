@@ -6,6 +6,7 @@ pub mod Writing
 pub mod Turns
 pub mod Reported
 pub mod Accepted
+pub mod Promise
 pub mod EndCounts
 pub mod Counts
 pub mod Counting

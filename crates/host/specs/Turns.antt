@@ -1,6 +1,6 @@
 -- How far a machine got in a stream: the packet frames that it took, one after another, and what
 -- was written of them.
-use Rattle.std.specs.Prelude.{◌≡◌, ℕ, List, ◌∷◌, length, Result, Ok, Err, ◌⊎◌}
+use Rattle.std.specs.Prelude.{◌≡◌, List, ◌∷◌, length, Result, Ok, Err, ◌⊎◌}
 use Rattle.isa_model.specs.declared.streams.Finish.{Finish}
 use Rattle.isa_model.specs.declared.versions.Version.{Version}
 use Rattle.isa_model.specs.Code.Versions.{stream_magic}

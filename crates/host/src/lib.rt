@@ -16,6 +16,7 @@ mod errors;
 mod forms;
 mod lines;
 mod magics;
+mod numbers;
 mod on_machines;
 mod reasons;
 mod reports;

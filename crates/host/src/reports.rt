@@ -8,7 +8,8 @@ ghost use Rattle.map_texts.specs.Listings.{text_of};
 ghost use Rattle.host.specs.Forms.{report_form_by};
 
 use super::forms::ReportForm;
-use super::lines::{line_of_finish, line_of_frame, line_of_skip};
+use super::lines::{line_of_finish, line_of_skip, make_line_of_frame};
+use super::numbers::ReportLine;
 use frames::{Unwritten, write_whole};
 use isa_model::{End, Finish};
 use map_texts::write_maps;
@@ -73,14 +74,15 @@ impl<W: Write> Report for W {
         end: End,
         length: usize,
     ) -> Result<(), Unwritten> {
-        let line = line_of_frame(form, number, end, length);
-        write_whole(self, line.as_str().as_bytes())
+        let mut line = ReportLine::new();
+        make_line_of_frame(&mut line, form, number, end, length);
+        write_whole(self, line.as_slice())
     }
 
     #[inline(always)]
     fn put_skip(&mut self, number: u32, length: usize, reason: u32) -> Result<(), Unwritten> {
         let line = line_of_skip(number, length, reason);
-        write_whole(self, line.as_str().as_bytes())
+        write_whole(self, line.as_slice())
     }
 
     fn put_maps(&mut self, maps: &mut Maps) -> Result<(), Unwritten> {
@@ -92,7 +94,7 @@ impl<W: Write> Report for W {
 
     fn put_finish(&mut self, frames: u32, finish: Finish) -> Result<(), Unwritten> {
         let line = line_of_finish(frames, finish);
-        write_whole(self, line.as_str().as_bytes())
+        write_whole(self, line.as_slice())
     }
 
     #[inline(always)]

@@ -86,3 +86,10 @@ lexeme_at bs =
 -- where there is no lexeme: the offset of the first byte that begins no token
 abbrev pub unknown_at : List ℕ → ℕ
 unknown_at bs = if is_digit (slice_index bs 0) 10 then number_end_from bs else 0
+
+-- how long the token is, if it is one
+abbrev pub token_length : Option (Lexeme × ℕ) → Option ℕ
+token_length (Some (Solid t, n)) = Some n
+token_length (Some (Blank, n)) = None
+token_length (Some (End, n)) = None
+token_length None = None

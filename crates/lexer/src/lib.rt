@@ -10,6 +10,6 @@ mod signs;
 pub mod tokens;
 mod words;
 
-pub use lexemes::lexeme_at;
+pub use lexemes::{lexeme_at, token_len};
 pub use numbers::line_len;
 pub use tokens::{Lexeme, Sign, Token, Word};

@@ -1,10 +1,10 @@
 //! Numbers, and how long words and lines are.
 
-ghost use Rattle.std.specs.Prelude.{◌≡◌, ◌+◌, ◌<◌, ◌≤◌, ◌^◌, length, slice_index, IfErr};
+ghost use Rattle.std.specs.Prelude.{ℕ, ◌≡◌, ◌+◌, ◌<◌, ◌≤◌, ◌^◌, length, slice_index, IfErr};
 ghost use Rattle.std.specs.List.{prefix_len};
 ghost use Rattle.std.specs.Char.{digit_value, is_digit};
 ghost use Rattle.std.specs.Result.{result_ok};
-ghost use Rattle.lexer.specs.Lexing.{is_word_byte, is_line_byte, add_digit, digits_number, number_after, number_at, number_from, number_end, number_end_at, number_end_from};
+ghost use Rattle.lexer.specs.Lexing.{is_word_byte, is_line_byte, add_digit, digits_number, number_after, number_at, number_from, number_end, number_end_at, number_end_from, token_length};
 
 use super::tokens::{Lexeme, Token};
 
@@ -142,5 +142,38 @@ pub fn number_from(text: &[u8]) -> Result<(Lexeme, usize), usize>
         number_at(text, 2, 16)
     } else {
         number_at(text, 0, 10)
+    }
+}
+
+// How long the number is whose `n` digits follow the skipped bytes.
+fn number_len_after(skip: usize, text: &[u8], n: usize) -> Option<usize>
+    requires within { skip + n ≤ length text.now }
+    ensures { (base : ℕ) → result ≡ token_length (number_after base skip text.now n) }
+{
+    if n == 0 {
+        return None;
+    }
+    let next = byte_at(text, skip + n);
+    if is_word_byte(next) {
+        return None;
+    }
+    Some(skip + n)
+}
+
+fn number_len_at(text: &[u8], skip: usize, base: u8) -> Option<usize>
+    requires within { skip ≤ length text.now }
+    ensures { result ≡ token_length (number_at base skip text.now) }
+{
+    number_len_after(skip, text, digits_len(&text[skip..], base))
+}
+
+/// Returns how long the number at the text's front is, which begins with a digit.
+pub fn number_len(text: &[u8]) -> Option<usize>
+    ensures { result ≡ token_length (number_from text.now) }
+{
+    if byte_at(text, 0) == b'0' && byte_at(text, 1) == b'x' {
+        number_len_at(text, 2, 16)
+    } else {
+        number_len_at(text, 0, 10)
     }
 }

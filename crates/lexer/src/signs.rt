@@ -1,9 +1,10 @@
 //! The longest sign that some bytes begin with.
 
-ghost use Rattle.std.specs.Prelude.{◌≡◌, ◌+◌, ◌<◌, Some};
+ghost use Rattle.std.specs.Prelude.{◌≡◌, ◌+◌, ◌<◌, ◌==◌, if◌then◌else◌, Some};
 ghost use Rattle.lexer.specs.declared.tokens.Lexeme.TheVariants as Lexeme;
 ghost use Rattle.lexer.specs.declared.tokens.Token.TheVariants as Token;
 ghost use Rattle.lexer.specs.Signs.{sign_of, signed_sign, with_equals, only_equals};
+ghost use Rattle.lexer.specs.Lexing.{token_length};
 
 use super::tokens::{Lexeme, Sign, Token};
 
@@ -73,6 +74,32 @@ pub fn sign_of(a: u8, b: u8, c: u8) -> Option<(Lexeme, usize)>
         }
         _ => None,
     }
+}
+
+/// Returns how long the sign is that `sign_of` finds.
+pub fn sign_len(a: u8, b: u8, c: u8) -> Option<usize>
+    ensures { result ≡ token_length (sign_of a b c) }
+{
+    match a {
+        b'(' | b')' | b',' | b':' => Some(1),
+        b'*' | b'+' | b'-' | b'&' | b'=' => len_with_equals(b),
+        b'/' | b'%' | b'|' | b'^' | b'!' => { if b == b'=' { Some(2) } else { None } }
+        b'<' | b'>' => {
+            if b == a && c == b'=' {
+                Some(3)
+            } else {
+                len_with_equals(b)
+            }
+        }
+        _ => None,
+    }
+}
+
+// How long a sign is that may have an `=` after its one byte.
+fn len_with_equals(next: u8) -> Option<usize>
+    ensures { result ≡ if next == 61 then Some 2 else Some 1 }
+{
+    if next == b'=' { Some(2) } else { Some(1) }
 }
 
 /// The longest sign that begins with `s` and goes on with these bytes, and its length.

@@ -6,6 +6,7 @@ use Rattle.assembler.specs.declared.errors.AsmErrorKind.TheVariants.{UnknownByte
 use Rattle.assembler.specs.declared.refusals.Refusal.{Refusal}
 use Rattle.assembler.specs.Assembling.{ReadSoFar, IsAsWanted, read_on}
 use Rattle.assembler.specs.Drafts.{progress_of, accept_short}
+use Rattle.assembler.proofs.PassedLexemes.{loop_turn-passed}
 use Rattle.assembler.proofs.ReadingLoop.{loop_turn-none, loop_turn-taken, loop_turn-end}
 use Rattle.assembler.proofs.assembly.read_into.Goals as goal
 
@@ -25,13 +26,26 @@ loop-rest-preserved c =
     ap₂ (λ (o : ℕ) (bs : List ℕ). accept_short (progress_of c.loop-rest.draft) c.in-Ok.found.0 (o, bs))
     (sym c.saturating_sub-offset.ensures) (sym bytes) ∙ c.in-Ok-accept.ensures
     in
-    let less = c.after-rest.ensures.less in (
+    let less = c.after-rest-in-loop-rest.ensures.less in (
       c.loop-rest.invariant.0
           ∙ loop_turn-taken c.loop-rest.rest.now (length c.args.text.now)
           (progress_of c.loop-rest.draft) c.in-Ok.found.0 c.in-Ok.found.1
           (progress_of c.accept.new.self) more few at taken
           ∙ ap (λ bs. read_on bs 0 (length c.args.text.now - length bs)
-          (progress_of c.accept.new.self)) (sym c.after-rest.ensures.value),
+          (progress_of c.accept.new.self)) (sym c.after-rest-in-loop-rest.ensures.value),
+      omega (arith, few, less),
+    )
+
+pub loop-rest-preserved-in-Some : goal.loop-rest-preserved-in-Some
+loop-rest-preserved-in-Some c =
+    let more : 0 < length c.loop-rest.rest.now = search rules in
+    let few : length c.loop-rest.rest.now ≤ length c.args.text.now = c.loop-rest.invariant.1 in
+    let less = c.after-rest.ensures.less in (
+      c.loop-rest.invariant.0
+          ∙ loop_turn-passed c.loop-rest.rest.now (length c.args.text.now)
+          (progress_of c.loop-rest.draft) c.in-Some.len more few c.in-Some.ensures
+          ∙ ap (λ bs. read_on bs 0 (length c.args.text.now - length bs)
+          (progress_of c.loop-rest.draft)) (sym c.after-rest.ensures.value),
       omega (arith, few, less),
     )
 

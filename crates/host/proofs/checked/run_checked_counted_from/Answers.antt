@@ -1,8 +1,8 @@
-use Rattle.std.proofs.Common.{Ok, Err, refl, ap, ◌∙◌, rules}
+use Rattle.std.proofs.Common.{Ok, Err, refl, ap, ◌∙◌}
 use Rattle.bounds.specs.Bounds.{Bounded}
 use Rattle.isa_model.specs.Reporting.Reports.{contents_after}
 use Rattle.maps.specs.Maps.{contents_of}
-use Rattle.host.specs.Stops.{Noted, noted_of, nothing_noted, noted_after, checked_notes, ShowsTracedFrom}
+use Rattle.host.specs.Stops.{Noted, noted_of, nothing_noted, noted_after, checked_notes}
 use Rattle.host.specs.Turns.{rule_of}
 use Rattle.host.specs.Counts.{Totals, ShowsTracedCounted}
 use Rattle.host.proofs.Reporting.{checked_whole, checked_front}

@@ -1,4 +1,4 @@
-use Rattle.std.proofs.Common.{rules, ◌≡◌, ◌<◌, ◌≤◌, nat_lt, true, false, length, get_or, sym, arith}
+use Rattle.std.proofs.Common.{rules, ◌<◌, ◌≤◌, length, get_or, sym, arith}
 use Rattle.std.proofs.lemmas.Bool.{lt-ltb, le-ltb}
 use Rattle.host.specs.Places.{place_of}
 use Rattle.host.proofs.Places.{no_frames, passes, stops, within}

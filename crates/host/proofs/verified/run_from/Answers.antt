@@ -1,7 +1,5 @@
-use Rattle.std.proofs.Common.{List, Ok, Err, subst, ap, ◌∙◌, rules}
+use Rattle.std.proofs.Common.{List, subst, ap, ◌∙◌, rules}
 use Rattle.isa_model.specs.declared.map_defs.MapDef.{MapDef}
-use Rattle.isa_model.specs.Code.Instructions.{Program}
-use Rattle.isa_model.specs.Code.Versions.{version_number}
 use Rattle.isa_model.specs.Machine.MachineStates.{FitRows}
 use Rattle.image.proofs.Programs.{IsProgram-IsImage}
 use Rattle.bounds.specs.Bounds.{Bounded}

@@ -1,4 +1,4 @@
-use Rattle.std.proofs.Common.{rules, ◌≡◌, ◌<◌, ◌≤◌, length, get_or, arith}
+use Rattle.std.proofs.Common.{rules, ◌≡◌, ◌<◌, length, get_or}
 use Rattle.host.specs.Counts.{totals_of}
 use Rattle.host.specs.EndCounts.{one_more}
 use Rattle.host.specs.Places.{place_of}
