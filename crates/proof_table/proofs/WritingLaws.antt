@@ -1,9 +1,10 @@
 -- Tables and their entries that were written, whole or in part.
-use Rattle.std.specs.Prelude.{◌≡◌, ℕ, ◌+◌, ◌-◌, ◌^◌, ◌<◌, ◌≤◌, List, [], ◌∷◌, ◌++◌, length, replicate, All, Option, Ok, refl}
+use Rattle.std.specs.Prelude.{◌≡◌, ℕ, zero, suc, ◌+◌, ◌-◌, ◌^◌, ◌<◌, ◌≤◌, List, [], ◌∷◌, ◌++◌, length, replicate, slice_get, All, Option, Some, Ok, refl}
 use Rattle.std.specs.Option.{is_some}
 use Rattle.std.specs.List.{flat_map}
 use Rattle.std.proofs.Common.{ap, sym, ◌∙◌, subst, append-nil, length-append, arith}
 use Rattle.std.proofs.lemmas.List.{length-replicate}
+use Rattle.std.proofs.lemmas.Option.{slice_get_within}
 use Rattle.std.proofs.lemmas.Grind.{flat_map-append}
 use Rattle.std.proofs.lemmas.List.Elements.{All-nil, All-cons, All-append, All-push, All-replicate, All-from_recursion}
 use Rattle.std.specs.Io.KnownBytes.{Appends}
@@ -17,12 +18,15 @@ use Rattle.stack_state.specs.declared.slots.StackSlot.TheVariants.{Written}
 use Rattle.stack_state.specs.declared.states.State.{State}
 use Rattle.stack_state.specs.Slots.{frame_slots}
 use Rattle.stack_state.specs.Starts.{start, first_registers}
+use Rattle.walks.specs.Counts.{HasNumber}
+use Rattle.listeners.specs.declared.listing.ExploredInsn.{ExploredInsn}
+use Rattle.listeners.specs.Listed.{OfStart}
 use Rattle.isa_model.specs.declared.limits.TheConstants.{MAX_EXPLORED}
 use Rattle.table_entries.specs.Entries.{Entry}
 use Rattle.table_entries.specs.Tables.{table_read}
 use Rattle.proof_table.specs.Spelling.{entry_bytes, head_bytes, table_bytes}
 use Rattle.proof_table.specs.Fitting.{KindFits, StackSlotFits, EntryFits, entry_said}
-use Rattle.proof_table.specs.Writing.{GainsTable, BeginsTable, GainsEntries, BeginsEntries, SpellsEntry}
+use Rattle.proof_table.specs.Writing.{GainsTable, BeginsTable, GainsEntries, BeginsEntries, SpellsEntry, IsNumberedAs, OfFirst}
 use Rattle.proof_table.proofs.FittingLaws.{entry_bytes-said}
 use Rattle.proof_table.proofs.TableLaws.{table_read-table_bytes}
 
@@ -87,14 +91,40 @@ nothing_yet : (old : Option (List ℕ)) (bytes : List ℕ) → 0 < length bytes
     → AppendsBeginning old old bytes
 nothing_yet old bytes some = (0, some, Appends-nil old)
 
-pub GainsEntries-none : (p : Program) (old : Option (List ℕ)) → GainsEntries p 0 old old
-GainsEntries-none p old =
-    record { entries = []; count_is = refl; fit = All-nil (EntryFits p); gained = Appends-nil old }
+-- one more entry is that of the next instruction
+IsNumberedAs-more : (insns : List ExploredInsn) (i : ℕ) (es : List Entry) (e : Entry)
+    (insn : ExploredInsn) → length es ≡ i → slice_get insns i ≡ Some insn → e.number ≡ insn.number
+    → IsNumberedAs insns es → IsNumberedAs insns (es ++ e ∷ [])
+IsNumberedAs-more [] i es e insn size found is h =
+    absurd (omega (arith, slice_get_within [] i insn found))
+IsNumberedAs-more (x ∷ insns) zero [] e insn size found is h = cc (is, found)
+IsNumberedAs-more (x ∷ insns) (suc i) [] e insn size found is h = absurd (omega (arith, size))
+IsNumberedAs-more (x ∷ insns) i (f ∷ es) e insn size found is h = h
 
-pub GainsEntries-more : (p : Program) (i : ℕ) (old mid new : Option (List ℕ)) (e : Entry)
-    (bytes : List ℕ) → GainsEntries p i old mid → SpellsEntry p e bytes → Appends mid new bytes
-    → GainsEntries p (i + 1) old new
-GainsEntries-more p i old mid new e bytes g s written =
+-- the number of the first entry is one of which this holds for the first instruction's
+OfFirst-numbered : (insns : List ExploredInsn) (es : List Entry) (fact : ℕ → Type 0)
+    → 1 ≤ length es → IsNumberedAs insns es → OfStart insns fact → OfFirst es fact
+OfFirst-numbered insns [] fact some is h = absurd (omega (arith, some))
+OfFirst-numbered [] (e ∷ es) fact some is h = absurd is
+OfFirst-numbered (x ∷ insns) (e ∷ es) fact some is h = subst fact (sym is) h
+
+pub GainsEntries-none : (p : Program) (insns : List ExploredInsn) (old : Option (List ℕ))
+    → GainsEntries p insns 0 old old
+GainsEntries-none p insns old =
+    record {
+      entries = [];
+      count_is = refl;
+      numbered = tt;
+      fit = All-nil (EntryFits p);
+      gained = Appends-nil old;
+    }
+
+pub GainsEntries-more : (p : Program) (insns : List ExploredInsn) (i : ℕ)
+    (old mid new : Option (List ℕ)) (e : Entry) (bytes : List ℕ) (insn : ExploredInsn)
+    → slice_get insns i ≡ Some insn → e.number ≡ insn.number
+    → GainsEntries p insns i old mid → SpellsEntry p e bytes → Appends mid new bytes
+    → GainsEntries p insns (i + 1) old new
+GainsEntries-more p insns i old mid new e bytes insn found is g s written =
     let all : flat_map entry_bytes (g.entries ++ e ∷ []) ≡ flat_map entry_bytes g.entries ++ bytes =
     flat_map-append entry_bytes g.entries (e ∷ [])
     ∙ ap (λ (l : List ℕ). flat_map entry_bytes g.entries ++ l)
@@ -102,6 +132,7 @@ GainsEntries-more p i old mid new e bytes g s written =
     record {
       entries = g.entries ++ e ∷ [];
       count_is = omega (arith, length-append g.entries (e ∷ []), g.count_is);
+      numbered = IsNumberedAs-more insns i g.entries e insn g.count_is found is g.numbered;
       fit = All-push (EntryFits p) g.entries e g.fit s.fits;
       gained =
           subst (Appends old new) (sym all)
@@ -109,10 +140,10 @@ GainsEntries-more p i old mid new e bytes g s written =
     }
 
 -- after some entries a part of the next one was written
-BeginsEntries-at : (p : Program) (i count : ℕ) (old mid new : Option (List ℕ)) (e : Entry)
-    → IsImage p → i < count → GainsEntries p i old mid → EntryFits p e
+BeginsEntries-at : (p : Program) (insns : List ExploredInsn) (i count : ℕ) (old mid new : Option (List ℕ)) (e : Entry)
+    → IsImage p → i < count → GainsEntries p insns i old mid → EntryFits p e
     → AppendsBeginning mid new (entry_bytes e) → BeginsEntries p count old new
-BeginsEntries-at p i count old mid new e image less g fits part =
+BeginsEntries-at p insns i count old mid new e image less g fits part =
     let others = replicate (count - (i + 1)) first_entry in
     record {
       entries = g.entries ++ e ∷ others;
@@ -136,18 +167,20 @@ BeginsEntries-at p i count old mid new e image less g fits part =
           (AppendsBeginning-first mid new (entry_bytes e) (flat_map entry_bytes others) part));
     }
 
-pub BeginsEntries-part : (p : Program) (i count : ℕ) (old mid new : Option (List ℕ)) (e : Entry)
-    (bytes : List ℕ) → IsImage p → i < count → GainsEntries p i old mid → SpellsEntry p e bytes
+pub BeginsEntries-part : (p : Program) (insns : List ExploredInsn) (i count : ℕ)
+    (old mid new : Option (List ℕ)) (e : Entry) (bytes : List ℕ) → IsImage p → i < count
+    → GainsEntries p insns i old mid → SpellsEntry p e bytes
     → AppendsBeginning mid new bytes → BeginsEntries p count old new
-BeginsEntries-part p i count old mid new e bytes image less g s part =
-    BeginsEntries-at p i count old mid new e image less g s.fits
+BeginsEntries-part p insns i count old mid new e bytes image less g s part =
+    BeginsEntries-at p insns i count old mid new e image less g s.fits
     (subst (AppendsBeginning mid new) s.spelled part)
 
 -- some entries were written, and not all
-pub BeginsEntries-some : (p : Program) (i count : ℕ) (old mid : Option (List ℕ)) → IsImage p
-    → i < count → GainsEntries p i old mid → BeginsEntries p count old mid
-BeginsEntries-some p i count old mid image less g =
-    BeginsEntries-at p i count old mid mid first_entry image less g (EntryFits-first p image)
+pub BeginsEntries-some : (p : Program) (insns : List ExploredInsn) (i count : ℕ)
+    (old mid : Option (List ℕ)) → IsImage p → i < count → GainsEntries p insns i old mid
+    → BeginsEntries p count old mid
+BeginsEntries-some p insns i count old mid image less g =
+    BeginsEntries-at p insns i count old mid mid first_entry image less g (EntryFits-first p image)
     (nothing_yet mid (entry_bytes first_entry) (entry_bytes-some first_entry))
 
 -- ---- tables
@@ -161,13 +194,17 @@ is_read : (p : Program) (n : ℕ) (es : List Entry) → length es ≡ n → 1 �
     → All (EntryFits p) es → table_read p (table_bytes es) ≡ Ok es
 is_read p n es size some few fit = table_read-table_bytes p es (omega arith) (omega arith) fit
 
-pub GainsTable-entries : (p : Program) (n : ℕ) (old mid new : Option (List ℕ)) → 1 ≤ n
-    → n ≤ MAX_EXPLORED → Appends old mid (head_bytes n) → GainsEntries p n mid new
-    → GainsTable p old new
-GainsTable-entries p n old mid new some few head g =
+pub GainsTable-entries : (p : Program) (insns : List ExploredInsn) (n : ℕ)
+    (old mid new : Option (List ℕ)) → 1 ≤ n → n ≤ MAX_EXPLORED
+    → OfStart insns (HasNumber p start) → Appends old mid (head_bytes n)
+    → GainsEntries p insns n mid new → GainsTable p old new
+GainsTable-entries p insns n old mid new some few number head g =
     record {
       entries = g.entries;
       read = is_read p n g.entries g.count_is some few g.fit;
+      number =
+          OfFirst-numbered insns g.entries (HasNumber p start)
+          (omega (arith, some, g.count_is)) g.numbered number;
       gained =
           subst (Appends old new) (sym (counted n g.entries g.count_is))
           (Appends-trans old mid new (head_bytes n)

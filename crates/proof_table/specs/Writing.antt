@@ -1,12 +1,15 @@
 -- What was written: a table, entries, or a part of them.
-use Rattle.std.specs.Prelude.{◌≡◌, ℕ, List, length, All, Option, Ok}
+use Rattle.std.specs.Prelude.{◌≡◌, ℕ, List, [], ◌∷◌, length, All, Option, Ok}
 use Rattle.std.specs.List.{flat_map}
 use Rattle.std.specs.Io.KnownBytes.{Appends}
 use Rattle.isa_model.specs.Code.Instructions.{Program}
 use Rattle.exact_io.specs.Transfers.{AppendsBeginning}
 use Rattle.control_flow.specs.declared.errors.FlowError.TheVariants as flow
+use Rattle.stack_state.specs.Starts.{start}
+use Rattle.walks.specs.Counts.{HasNumber}
 use Rattle.walks.specs.declared.refusals.Refusal.{Refusal}
 use Rattle.walks.specs.declared.refusals.Refusal.TheVariants as refusal
+use Rattle.listeners.specs.declared.listing.ExploredInsn.{ExploredInsn}
 use Rattle.table_entries.specs.declared.errors.WriteTableError.{WriteTableError}
 use Rattle.table_entries.specs.declared.errors.WriteTableError.TheVariants.{Memory, Explored, Writer}
 use Rattle.table_entries.specs.Entries.{Entry}
@@ -14,10 +17,16 @@ use Rattle.table_entries.specs.Tables.{table_read}
 use Rattle.proof_table.specs.Spelling.{entry_bytes, table_bytes}
 use Rattle.proof_table.specs.Fitting.{EntryFits}
 
--- a table, which is read as the entries that it spells
+-- there is a first entry, and the fact holds of its number
+abbrev pub OfFirst : List Entry → (ℕ → Type 0) → Type 0
+OfFirst [] fact = ⊥
+OfFirst (e ∷ entries) fact = fact e.number
+
+-- a table, which is read as the entries that it spells; the first one has the number of the start
 pub record GainsTable (p : Program) (old new : Option (List ℕ)) : Type 0 where
   pub entries : List Entry
   pub read : table_read p (table_bytes entries) ≡ Ok entries
+  pub number : OfFirst entries (HasNumber p start)
   pub gained : Appends old new (table_bytes entries)
 
 -- a beginning of such a table, which is not all of it
@@ -26,10 +35,19 @@ pub record BeginsTable (p : Program) (old new : Option (List ℕ)) : Type 0 wher
   pub read : table_read p (table_bytes entries) ≡ Ok entries
   pub begun : AppendsBeginning old new (table_bytes entries)
 
--- `count` entries, each of which a table can spell
-pub record GainsEntries (p : Program) (count : ℕ) (old new : Option (List ℕ)) : Type 0 where
+-- the first entry, if there is one, has the number of the first instruction
+abbrev pub IsNumberedAs : List ExploredInsn → List Entry → Type 0
+IsNumberedAs insns [] = Unit {0}
+IsNumberedAs [] (e ∷ entries) = ⊥
+IsNumberedAs (insn ∷ insns) (e ∷ entries) = e.number ≡ insn.number
+
+-- `count` entries, each of which a table can spell; the first one's number is that of the first
+-- instruction
+pub record GainsEntries (p : Program) (insns : List ExploredInsn) (count : ℕ)
+    (old new : Option (List ℕ)) : Type 0 where
   pub entries : List Entry
   pub count_is : length entries ≡ count
+  pub numbered : IsNumberedAs insns entries
   pub fit : All (EntryFits p) entries
   pub gained : Appends old new (flat_map entry_bytes entries)
 

@@ -85,7 +85,8 @@ fn write_entries<W: Write>(
     writer: &mut W,
 ) -> Result<(), WriteTableError>
     ensures ok { OnOk result
-        (GainsEntries image.now count (W.contents writer.old) (W.contents writer.new)) }
+        (GainsEntries image.now explored.now count (W.contents writer.old)
+        (W.contents writer.new)) }
     ensures err { OnErr result
         (BeginsEntries image.now count (W.contents writer.old) (W.contents writer.new)) }
 {
@@ -122,7 +123,7 @@ pub fn write_table<W: Write>(
     verified: &Verified,
     writer: &mut W,
 ) -> Result<(), WriteTableError>
-    // A table, which is read as the entries that it spells.
+    // A table, which is read as the entries that it spells, and says the number of the start.
     ensures ok { OnOk result
         (GainsTable verified.now.program (W.contents writer.old) (W.contents writer.new)) }
 

@@ -49,8 +49,9 @@ returns-clause-ok g c =
     subst (λ (p : Program). OnOk c.write_entries.result (GainsTable p old new))
     c.image-image.ensures.program
     (on_ok_weaker c.write_entries.result
-    (λ (h : GainsEntries c.image-image.result.now n mid new). GainsTable-entries
-    c.image-image.result.now n old mid new (omega arith) (omega arith) head h)
+    (λ (h : GainsEntries c.image-image.result.now c.in-Ok.explored n mid new). GainsTable-entries
+    c.image-image.result.now c.in-Ok.explored n old mid new (omega arith) (omega arith)
+    c.in-Ok.ensures.number head h)
     c.write_entries.ensures.ok)
 
 pub returns-clause-err : goal.returns-clause-err
