@@ -5,7 +5,7 @@ ghost use Rattle.std.specs.Prelude.{◌≤◌, length};
 use crate::callers::Callers;
 use crate::proved_bytes::ProvedBytes;
 
-/// What is kept of a state besides its innermost call frame.
+/// Says what is kept of a state besides its innermost call frame.
 #[derive(Drop)]
 pub struct Around {
     pub slot: u32,

@@ -4,7 +4,7 @@ ghost use Rattle.std.specs.Prelude.{◌≡◌, ◌<◌, ◌^◌, ◌≤ℤ◌, p
 
 use ranges::Low;
 
-/// What is known of a number of 32 bits: the limits of its low half are its own.
+/// Says what is known of a number of 32 bits: the limits of its low half are its own.
 #[derive(Clone, Copy, Drop)]
 pub struct SmallNumbers {
     pub low: Low,
