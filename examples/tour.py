@@ -1,15 +1,19 @@
 #!/usr/bin/env python3
 """Runs the blocks of docs/TOUR.md that check a crate, and prints each whose result is not what the page says.
 
-usage: python3 examples/tour.py
+usage: python3 examples/tour.py [--whole]
 
 Such a block begins with the crate's name. Its commands stand after `$`: `sed -i` changes the crate, `rt check --only FUNCTION`
 checks it. Each block has a copy of the crate for itself. The lines after a check have to be among those that it prints, in
 their order; `..` in them stands for anything. A check without lines has to prove its function. The libraries below are those
 that the gate, or `rt check`, left in crates/*/out; where they are not there, they are proved first. Each row of the page's
-table of a frame names functions that its files have, and its table of costs has what bench/costs.py prints. The last line counts, and the exit status is 1 if any block or row differs.
+table of a frame names functions that its files have, its table of costs has what bench/costs.py prints, and the code and the edit
+that it shows stand in the crate. The last line counts, and the exit status is 1 if any block or row differs.
+
+--whole runs the blocks `sh` and no others, in a fresh clone, with no program that was built before: some four minutes.
 """
 import concurrent.futures
+import glob
 import os
 import re
 import shlex
@@ -17,6 +21,7 @@ import shutil
 import subprocess
 import sys
 import tempfile
+from typing import NoReturn
 
 TOP = os.path.dirname(os.path.dirname(os.path.abspath(__file__)))
 sys.path.insert(0, os.path.join(TOP, "assurance"))
@@ -100,19 +105,57 @@ def costs(page: str) -> list[str]:
     return ["" if old[:3] == new[:3] and all(map(is_near, old[3:], new[3:])) else f"{old[0]}: costs.py prints {new}" for old, new in zip(rows, now)]
 
 
+def told(found: list[str]) -> NoReturn:
+    """Prints what differs, and the count, and ends."""
+    for it in filter(None, found):
+        print(it)
+    print(f"{len(found)} examples, {sum(map(bool, found))} differ")
+    sys.exit(1 if any(found) or not found else 0)
+
+
+def shown(page: str) -> list[str]:
+    """How the code and the edit that the page shows differ from the crate's; one empty text where they do not."""
+    code = [it.strip() for it in text_of(f"{TOP}/crates/known_bits/src/bits.rt").splitlines()]
+    lines = [it.strip() for body in re.findall(r"^```rust\n(.*?)^```$", page, re.M | re.S) for it in body.splitlines()]
+    edits = {text_of(it).strip() for it in glob.glob(f"{TOP}/crates/known_bits/must-fail/*.edit")}
+    bodies = re.findall(r"^```text\n(.*?)^```$", page, re.M | re.S)
+    lost = [it for it in lines if it not in code] + [it for it in bodies if it.strip() not in edits]
+    return [f"this is not in known_bits: {it}" for it in lost] or [""]
+
+
+def whole(page: str) -> list[str]:
+    """How the blocks `sh` differ from what is wanted, one after the other in a fresh clone; empty where they do not."""
+    found = []
+    with tempfile.TemporaryDirectory(prefix="tour-clone-") as room:
+        trusted = {"GIT_CONFIG_COUNT": "1", "GIT_CONFIG_KEY_0": "safe.directory", "GIT_CONFIG_VALUE_0": "*"}
+        own = {**os.environ, **trusted, "XDG_CACHE_HOME": f"{room}/cache"}
+        wanted = iter([r"(?m)^logic=proved functions=54\b", r"(?m)^\d+ cases, 0 differ$"])
+        for kind, body in re.findall(r"^```(sh|known_bits)\n(.*?)^```$", page, re.M | re.S):
+            at = f"{room}/xdpvm" if os.path.isdir(f"{room}/xdpvm") else room
+            if kind == "known_bits":
+                for command in re.findall(r"^\$ (sed -i .*)$", body, re.M):
+                    subprocess.run(shlex.split(command), cwd=f"{at}/crates/known_bits", check=True)
+                continue
+            script = "set -e\n" + body.replace("git clone URL", f"git clone -q {shlex.quote(TOP)}")
+            how = {"stdin": subprocess.DEVNULL, "stdout": subprocess.PIPE, "stderr": subprocess.STDOUT, "text": True, "errors": "replace"}
+            ran = subprocess.run(["bash", "-c", script], cwd=at, env=own, check=False, **how)
+            is_fine = ran.returncode == 0 and re.search(next(wanted), ran.stdout)
+            found.append("" if is_fine else f"{body}ended with status {ran.returncode}:\n{ran.stdout[-3000:]}")
+    return found
+
+
 def main() -> None:
     page = text_of(PAGE)
+    if sys.argv[1:] == ["--whole"]:
+        told(whole(page))
     blocks = [it for it in re.findall(r"^```(\w+)\n(.*?)^```$", page, re.M | re.S) if it[0] in run.BELOW]
     rows = re.findall(r"^\| (`\w+/src/\S+.*?) \| (.*?) \|", page, re.M)
     with tempfile.TemporaryDirectory(prefix="tour-libraries-") as room:
         libraries = libraries_for({crate for crate, _ in blocks}, room)
         with concurrent.futures.ThreadPoolExecutor(2) as pool:
             found = list(pool.map(lambda it: wrong(it[0], it[1], libraries), blocks))
-    found += [wrong_row(*row) for row in rows] + costs(page)
-    for it in filter(None, found):
-        print(it)
-    print(f"{len(found)} examples, {sum(map(bool, found))} differ")
-    sys.exit(1 if any(found) or not blocks or not rows else 0)
+    found += [wrong_row(*row) for row in rows] + costs(page) + shown(page)
+    told(found if blocks and rows else ["the page has no blocks or no rows"])
 
 
 if __name__ == "__main__":
