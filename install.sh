@@ -80,6 +80,7 @@ mkdir -p "$home/tools" "$home/examples/filters" "$home/docs/pictures"
 for tool in "$top"/tools/*; do
     case $(basename "$tool") in
         limits.py | manual.py | pictures.py | unproved.py | version.py | test_*) ;;
+        README.md) install -m 644 "$tool" "$home/tools" ;;
         *.py | *.sh)
             if [ "$(head -c 2 "$tool")" = '#!' ]; then
                 install "$tool" "$home/tools"
