@@ -8,6 +8,8 @@ mod MaskLemmas
 mod StackPlaces
 mod StackUses
 mod LiveMasks
+mod LoopBodies
+mod KeptMasks
 mod InputLaws
 mod EndingMarks
 mod Graphs

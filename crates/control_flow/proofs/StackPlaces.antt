@@ -1,6 +1,6 @@
 -- The byte and the stack slot of a call frame at a place, by what `byte_of` returns of it.
 use Rattle.std.proofs.Common.{◌≡◌, ℕ, ◌*◌, ◌/◌, ◌%◌, ◌<◌, Option, Some, sym, ap, ◌∙◌, arith, inl, inr}
-use Rattle.std.specs.Prelude.{◌↔◌, ◌≢◌, ℤ, pos, ◌-ℤ◌}
+use Rattle.std.specs.Prelude.{◌↔◌, ℤ, pos, ◌-ℤ◌}
 use Rattle.std.proofs.lemmas.Option.{same_Some}
 use Rattle.isa_model.specs.declared.registers.Reg.{Reg}
 use Rattle.isa_model.specs.declared.registers.Reg.TheVariants.{R10}

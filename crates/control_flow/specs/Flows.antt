@@ -2,6 +2,7 @@
 use Rattle.std.specs.Prelude.{◌≡◌, ℕ, ◌<◌, ◌≤◌, ◌⊎◌, Option, Some, None, List, length, Bool, IsTrue, ◌↔◌, slice_index_or, false}
 use Rattle.isa_model.specs.Code.Instructions.{Program}
 use Rattle.control_flow.specs.declared.homes.HomeMask.{HomeMask}
+use Rattle.control_flow.specs.declared.kept_numbers.KeptNumbers.{KeptNumbers}
 use Rattle.control_flow.specs.declared.errors.FlowError.{FlowError}
 use Rattle.control_flow.specs.declared.errors.FlowError.TheVariants.{TargetOutside, SecondHalf, OtherFunction, FallsOff, Unreachable, Memory}
 use Rattle.control_flow.specs.Graph.{BeginsInsn, IsSecondHalf, jump_to, call_to, fall_to, Reached}
@@ -101,3 +102,8 @@ pub record DescribesFlow (p : Program) (joins : List Bool) (masks : List HomeMas
   -- these are empty where no number may be forgotten
   pub tests : MayForgetNumbers p → AreTestedMasks p tested
   pub ends : MayForgetNumbers p → MarksEndings p endings
+
+-- what is kept at each slot is tested from there on
+abbrev pub KeepsTested : Program → KeptNumbers → Type 0
+KeepsTested p kept =
+    (h : Home) (slot : ℕ) → HasHome (mask_at kept.masks.items slot) h → IsNumberTested p h slot

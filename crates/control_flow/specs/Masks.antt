@@ -35,3 +35,8 @@ HasHome mask (InSlot j) = HasSlot mask.slots j
 -- the mask of a slot of the code
 abbrev pub mask_at : List HomeMask → ℕ → HomeMask
 mask_at masks slot = slice_index_or masks slot no_homes
+
+-- what the masks have, the others have at the same slots
+abbrev pub AreWithin : List HomeMask → List HomeMask → Type 0
+AreWithin masks others =
+    (h : Home) (slot : ℕ) → HasHome (mask_at masks slot) h → HasHome (mask_at others slot) h

@@ -3,7 +3,7 @@
 ghost use Rattle.std.specs.Prelude.{◌≡◌, ◌↔◌, ℕ, IsTrue, IfOk, IfErr};
 ghost use Rattle.isa_model.specs.declared.registers.Reg.{Reg as TheReg};
 ghost use Rattle.control_flow.specs.Endings.{EndsPlainly};
-ghost use Rattle.control_flow.specs.Flows.{IsFlow, IsJoin, IsRefusal, Fails, AreTestedMasks, MarksEndings};
+ghost use Rattle.control_flow.specs.Flows.{IsFlow, IsJoin, IsRefusal, Fails, AreTestedMasks, MarksEndings, KeepsTested};
 ghost use Rattle.control_flow.specs.Liveness.{InRegister, InSlot, IsLive, IsSlotLive};
 ghost use Rattle.control_flow.specs.StackUse.{FrameAddressIsTaken};
 ghost use Rattle.control_flow.specs.TestedNumbers.{MayForgetNumbers, IsNumberTested};
@@ -13,6 +13,7 @@ use crate::endings::endings_of;
 use crate::errors::FlowError;
 use crate::functions::{first_falling_off, first_leaving, functions_of};
 use crate::homes::{HomeMask, mask_of};
+use crate::kept_numbers::{KeptNumbers, kept_numbers};
 use crate::liveness::{live_homes, tested_homes};
 use crate::marks::is_marked;
 use crate::masks::RegisterMask;
@@ -197,5 +198,10 @@ impl<'a> Flow<'a> {
         ensures { MayForgetNumbers self.now → (IsTrue result ↔ EndsPlainly self.now slot) }
     {
         is_marked(&self.endings, slot)
+    }
+
+    /// Which numbers a verifier keeps once its search is long; a part of those that are tested.
+    pub fn kept_numbers(&self, alloc: Global) -> Result<KeptNumbers, AllocError> {
+        kept_numbers(alloc, self.image, &self.tested)
     }
 }

@@ -12,7 +12,9 @@ pub mod errors;
 pub mod flows;
 mod functions;
 mod homes;
+pub mod kept_numbers;
 mod liveness;
+mod loops;
 mod marks;
 pub mod masks;
 mod nodes;
@@ -27,5 +29,6 @@ mod wanted;
 
 pub use errors::FlowError;
 pub use flows::Flow;
+pub use kept_numbers::KeptNumbers;
 pub use masks::RegisterMask;
 pub use slot_masks::SlotMask;

@@ -27,7 +27,7 @@ pub struct Node {
 }
 
 /// A slot that wants and writes nothing, with its successors.
-fn blank_node(image: &Image, slot: usize) -> Node
+pub fn blank_node(image: &Image, slot: usize) -> Node
     requires { slot < 2 ^ 63 }
     ensures { IsBlankNode image.now slot result }
 {

@@ -69,7 +69,7 @@ fn falling(nodes: &[Node], slot: usize, back: usize) -> Option<usize>
 }
 
 /// Finds the predecessors of a slot.
-fn go_back(
+pub fn go_back(
     work: &mut SlotSearch,
     nodes: &[Node],
     sources: &Sources,
