@@ -34,6 +34,7 @@ mkdir -p "$out"
 read -ra flags <<< "${CFLAGS:--O2 -Wall -Wextra}"
 "${CC:-cc}" -std=c11 "${flags[@]}" -o "$out/embed" "$here/embed.c" "$archive" "$heap"
 "${CC:-cc}" -std=c11 "${flags[@]}" -o "$out/maps" "$here/maps.c" "$archive" "$heap"
+"${CC:-cc}" -std=c11 "${flags[@]}" -o "$out/walk" "$here/walk.c" "$archive" "$heap"
 "${CC:-cc}" -std=c11 "${flags[@]}" -o "$out/fail" "$here/fail.c" "$archive"
 "${CC:-cc}" -std=c11 "${flags[@]}" -DDRIVE -o "$out/fuzz" "$here/fuzz.c" "$archive" "$heap"
 callers=(embed)
@@ -70,6 +71,8 @@ for image in "$top"/examples/*.image; do
 done
 # A session whose map the host fills and reads.
 "$out/maps" > "$work/said" && printf 'interface %d: 3 packets\n' 1 2 | cmp -s - "$work/said" || { echo "maps differs"; differ=$((differ + 1)); }
+# A walk through a large map.
+"$out/walk" > "$work/said" || { echo "walk differs: $(cat "$work/said")"; differ=$((differ + 1)); }
 
 # The examples of the page, each a whole program.
 block() {

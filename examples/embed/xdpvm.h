@@ -254,7 +254,8 @@ uint32_t xdpvm_update(struct xdpvm_session *session, size_t map, const uint8_t *
 uint32_t xdpvm_delete(struct xdpvm_session *session, size_t map, const uint8_t *key, size_t key_len, struct xdpvm_changed *out);
 
 /* The key at a rank, from 0, with its value: of an array by its index, of a hash map by the bytes of the keys. XDPVM_ABSENT
-   where the map has fewer keys. Each call takes time for all keys of the map. */
+   where the map has fewer keys. The first call after a map has changed, or of another map, takes time for all keys; the next
+   ones do not. */
 uint32_t xdpvm_next(struct xdpvm_session *session, size_t map, size_t rank, uint8_t *key, size_t key_len, uint8_t *value,
                     size_t value_len);
 

@@ -717,7 +717,8 @@ impl Session {
     }
 
     /// Reads the key at a rank, from 0, with its value, and returns whether there is one: of an array by its index, of a
-    /// hash map by the bytes of the keys. Each call takes time for all keys of the map.
+    /// hash map by the bytes of the keys. The first call after a map has changed, or of another map, takes
+    /// time for all keys; the next ones do not.
     pub fn key_at(
         &mut self,
         map: usize,

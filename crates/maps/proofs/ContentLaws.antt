@@ -14,7 +14,7 @@ use Rattle.map_indexes.specs.PlaceKeys.{Places, TakesPlace}
 use Rattle.map_indexes.proofs.PlaceKeysLaws.{is_key-itself}
 use Rattle.map_indexes.specs.PlaceKeyLaws.{is_key-equal}
 use Rattle.maps.specs.Contents.{content}
-use Rattle.maps.specs.ContentLaws.{changed, find-changed, is_sorted-changed, length-changed}
+use Rattle.maps.specs.ContentLaws.{find-changed, is_sorted-changed, length-changed}
 
 -- two contents in order that have the same at each key are equal
 pub same_contents : {X : Type 0} (es fs : List (List ℕ × X)) → T (is_sorted key_order es)

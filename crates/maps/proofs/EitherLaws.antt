@@ -1,7 +1,6 @@
 -- The keys of an index of either map type are keys of its size.
 use Rattle.std.specs.Prelude.{◌≡◌, ℕ, List, Some}
 use Rattle.std.specs.FinMap.{get}
-use Rattle.isa_model.specs.declared.map_defs.MapType.TheVariants.{Array}
 use Rattle.maps.specs.declared.either.EitherIndex.{EitherIndex}
 use Rattle.maps.specs.declared.either.EitherIndex.TheVariants as either
 use Rattle.map_indexes.proofs.KeyBytes.{key_found, index_found}

@@ -59,7 +59,7 @@ impl Model for Maps {
     ghost use Rattle.std.specs.Coded.{coded_list};
     ghost use Rattle.maps.specs.Either.{places_of};
     ghost use Rattle.maps.specs.Maps.{MapState, map_code};
-    ghost use Rattle.maps.specs.StoreStates.{state_by, HaveRoom};
+    ghost use Rattle.maps.specs.StoreStates.{state_by, AreKept};
 
     ghost Value = { List MapState };
 
@@ -67,8 +67,8 @@ impl Model for Maps {
 
     ghost view = { λ maps. map (state_by places_of) maps.stores.all.items };
 
-    ghost invariant = { λ maps. HaveRoom (vec_capacity maps.stores.list)
-        (vec_capacity maps.stores.all) maps.stores.all.items };
+    ghost invariant = { λ maps. AreKept maps.stores.listed maps.stores.list.items
+        (vec_capacity maps.stores.list) (vec_capacity maps.stores.all) maps.stores.all.items };
 }
 
 impl Maps {
@@ -96,7 +96,11 @@ impl Maps {
         }
         let all = stores;
         Ok(Maps {
-            stores: Stores { all, list },
+            stores: Stores {
+                all,
+                list,
+                listed: None,
+            },
         })
     }
 
@@ -152,6 +156,7 @@ impl Maps {
             (map_at self.new map) }
         ensures others { self.new ≡ slice_set self.old map (map_at self.new map) }
     {
+        self.stores.listed = None;
         helpers::update(&mut self.stores.all[map], key, value, flags)
     }
 
@@ -162,6 +167,7 @@ impl Maps {
         ensures deleted { Deleted key.now result (map_at self.old map) (map_at self.new map) }
         ensures others { self.new ≡ slice_set self.old map (map_at self.new map) }
     {
+        self.stores.listed = None;
         helpers::delete(&mut self.stores.all[map], key)
     }
 
@@ -198,6 +204,7 @@ impl Maps {
             (map_at self.new map) }
         ensures others { self.new ≡ slice_set self.old map (map_at self.new map) }
     {
+        self.stores.listed = None;
         self.stores.all[map].write_value(place, at, bytes);
     }
 
@@ -236,6 +243,7 @@ impl Maps {
         ensures* lends { sem 𝓛 (LendsMapBlock self.entry map result) }
         ensures value { result.now ≡ (map_at self.old map).block }
     {
+        self.stores.listed = None;
         let store = &mut self.stores.all[map];
         store.block_mut()
     }

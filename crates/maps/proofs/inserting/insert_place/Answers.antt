@@ -1,8 +1,7 @@
-use Rattle.std.proofs.Common.{◌≡◌, ℕ, ◌+◌, ◌-◌, ◌<◌, ◌≤◌, ◌∙◌, List, length, Some, Bool, true, sym, ap, arith}
-use Rattle.std.specs.Prelude.{if◌then◌else◌, is_ok, IsOk, vec_len, vec_capacity}
-use Rattle.std.specs.FinMap.{get, len-entries, values}
+use Rattle.std.proofs.Common.{ℕ, ◌-◌, ◌<◌, ◌∙◌, List, length, Bool, sym, ap, arith}
+use Rattle.std.specs.Prelude.{if◌then◌else◌, vec_len, vec_capacity}
+use Rattle.std.specs.FinMap.{len-entries}
 use Rattle.std.specs.List.{insert}
-use Rattle.std.proofs.lemmas.List.{length-map}
 use Rattle.map_indexes.specs.ScanLaws.{scan_few}
 use Rattle.map_indexes.specs.PlaceKeys.{places}
 use Rattle.maps.proofs.InsertLaws.{length-inserted, length-values_of}

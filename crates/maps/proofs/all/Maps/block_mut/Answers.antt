@@ -30,5 +30,8 @@ invariant_of-self-lent c w =
     let i = c.self.inside.stores in
     let x = c.index_mut-store.result.now in
     let low = inside c.args.self.now i.all.items c.self.view_is c.args.map c.requires in
-    HaveRoom-set (vec_capacity i.list) (vec_capacity i.all) i.all.items c.args.map x
-    (with_values x w) low c.index_mut-store.ensures.value refl c.self.invariant
+    record {
+      room = HaveRoom-set (vec_capacity i.list) (vec_capacity i.all) i.all.items c.args.map x
+          (with_values x w) low c.index_mut-store.ensures.value refl c.self.invariant.room;
+      kept = tt;
+    }

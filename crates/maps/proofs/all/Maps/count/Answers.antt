@@ -11,5 +11,5 @@ returns-clause-maps c =
     subst (λ (ms : List MapState). All IsMap ms) c.self.view_is
     (All-map IsMap state stores
     (λ (k : ℕ) (d : EitherStore) (l : k < length stores). IsMap-state
-    (slice_index_or stores k d) (c.self.invariant.listed k d l).is_row
+    (slice_index_or stores k d) (c.self.invariant.room.listed k d l).is_row
     (c.count.ensures.bytes k d l)))

@@ -30,6 +30,9 @@ pub invariant_of-self : goal.invariant_of-self
 invariant_of-self c =
     let i = c.self.inside.stores in
     let low = inside c.args.self.now i.all.items c.self.view_is c.args.map c.requires.map in
-    HaveRoom-set (vec_capacity i.list) (vec_capacity i.all) i.all.items c.args.map
-    c.index_mut.result.now c.delete.new.store low c.index_mut.ensures.value c.delete.ensures.row
-    c.self.invariant
+    record {
+      room = HaveRoom-set (vec_capacity i.list) (vec_capacity i.all) i.all.items c.args.map
+          c.index_mut.result.now c.delete.new.store low c.index_mut.ensures.value c.delete.ensures.row
+          c.self.invariant.room;
+      kept = tt;
+    }

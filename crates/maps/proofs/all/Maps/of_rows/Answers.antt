@@ -66,14 +66,17 @@ invariant_of-result c =
     ∙ rows_of-starting (take c.loop-i.i rows) ∙ all in
     let room = c.in_ok-list.ensures.exact in
     record {
-      listed = inv.listed;
-      least =
-          λ n few. let m =
-          c.most_keys.ensures.least n
-          (subst (All (λ (row : MapDef). row.kind ≡ Hash → row.entries ≤ n)) are
-          few) in omega arith;
-      exact =
-          let r = inv.room in
-          let n = inv.count in
-          let end = c.loop-i-test.false in let within = c.loop-i.auto.i-end in omega arith;
+      room = record {
+        listed = inv.listed;
+        least =
+            λ n few. let m =
+            c.most_keys.ensures.least n
+            (subst (All (λ (row : MapDef). row.kind ≡ Hash → row.entries ≤ n)) are
+            few) in omega arith;
+        exact =
+            let r = inv.room in
+            let n = inv.count in
+            let end = c.loop-i-test.false in let within = c.loop-i.auto.i-end in omega arith;
+      };
+      kept = tt;
     }

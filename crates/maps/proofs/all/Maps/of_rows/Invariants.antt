@@ -1,4 +1,4 @@
-use Rattle.std.proofs.Common.{◌≡◌, ◌≤◌, length, map, take, All}
+use Rattle.std.proofs.Common.{◌≡◌, length, map, take, All}
 use Rattle.std.specs.Prelude.{vec_capacity}
 use Rattle.maps.specs.Either.{places_of}
 use Rattle.maps.specs.Maps.{starting_map}
