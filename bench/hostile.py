@@ -300,10 +300,26 @@ def stores_and_tests(stores):
     return START + spilled(60) + unknown("r2") + counted(100000, body) + ["out: r0 = 1"] + all_tested([], range(60)) + END
 
 
-def tests_in_turn(test, numbers, slots):
+def of_32_bits(registers):
+    """Unknown numbers of 32 bits in these registers."""
+    return [line for register in registers for line in unknown(register)]
+
+
+def of_64_bits(registers):
+    """Unknown numbers of 64 bits in these registers."""
+    return (unknown("r2") + ["*(u32 *)(r10 - 512) = r2", "*(u32 *)(r10 - 508) = r2"]
+            + [f"{register} = *(u64 *)(r10 - 512)" for register in registers])
+
+
+def multiples(registers):
+    """Unknown multiples of 256 in these registers."""
+    return of_64_bits(registers) + [f"{register} &= -256" for register in registers]
+
+
+def tests_in_turn(test, numbers, slots, known=of_32_bits):
     """A loop of 3,000 tests of that many numbers in turn, which are all tested where the tests lead."""
     registers = TESTED[:numbers]
-    return (START + spilled(slots) + [line for register in registers for line in unknown(register)]
+    return (START + spilled(slots) + known(registers)
             + counted(100000, [test(registers, turn) for turn in range(3000)])
             + ["out: r7 = 0"] + all_tested(registers, [])
             + [f"r3 = *(u64 *)(r10 - {8 + 8 * slot})" for slot in range(slots)] + END)
@@ -334,6 +350,8 @@ def pending():
     yield "3,000 tests of 8 numbers, 60 slots beside", tests_in_turn(one_number, 8, 60)
     yield "3,000 tests of two of 8 numbers", tests_in_turn(two_numbers, 8, 0)
     yield "3,000 tests of two of 8 numbers, 60 slots beside", tests_in_turn(two_numbers, 8, 60)
+    yield "3,000 tests of two of 8 numbers of 64 bits", tests_in_turn(two_numbers, 8, 0, of_64_bits)
+    yield "3,000 tests of two of 8 multiples of 256", tests_in_turn(two_numbers, 8, 0, multiples)
     yield "3,000 tests that lead to two slots, at which other stack slots are live", two_ways(
         [], all_tested([], range(0, 60, 2)), all_tested([], range(1, 60, 2)))
     yield "3,000 tests that lead to two slots, at one of which no stack slot is tested", two_ways(

@@ -1,5 +1,5 @@
 -- Parts of call frames, in few bytes.
-use Rattle.std.specs.Prelude.{pos}
+use Rattle.std.specs.Prelude.{◌-◌, ◌%◌, ◌^◌, pos}
 use Rattle.reg_state.specs.declared.scalars.Scalar.{Scalar}
 use Rattle.reg_state.specs.declared.kinds.Kind.{Kind}
 use Rattle.reg_state.specs.declared.kinds.Kind.TheVariants.{Unset, Number, Packet}
@@ -9,9 +9,10 @@ use Rattle.state_index.specs.declared.parts.Part.TheVariants.{InRegister, InSlot
 use Rattle.explorer.specs.declared.short_parts.ShortPlace.{ShortPlace}
 use Rattle.explorer.specs.declared.short_parts.ShortPlace.TheVariants.{Register, Slot}
 use Rattle.explorer.specs.declared.small_numbers.SmallNumbers.{SmallNumbers}
+use Rattle.explorer.specs.LargeNumbers.{large_numbers}
 use Rattle.explorer.specs.declared.short_parts.ShortPacket.{ShortPacket}
 use Rattle.explorer.specs.declared.short_parts.Form.{Form}
-use Rattle.explorer.specs.declared.short_parts.Form.TheVariants.{UnsetRegister, WrittenSlot, SmallNumber, PacketPlace, WholePart}
+use Rattle.explorer.specs.declared.short_parts.Form.TheVariants.{UnsetRegister, WrittenSlot, SmallNumber, LargeNumber, MaskedNumber, PacketPlace, WholePart}
 
 -- the part that says that a register, or a stack slot, has a value of the kind
 abbrev pub part_at : ShortPlace → Kind → Part
@@ -44,5 +45,7 @@ abbrev pub part_of : Form → Part
 part_of (UnsetRegister n) = InRegister n Unset
 part_of (WrittenSlot n marks) = InSlot n (Written marks)
 part_of (SmallNumber place s) = part_at place (Number (small_numbers s))
+part_of (LargeNumber place l) = part_at place (Number (large_numbers (2 ^ 32 - 1) l))
+part_of (MaskedNumber place l) = part_at place (Number (large_numbers (l.mask % 2 ^ 32) l))
 part_of (PacketPlace place p) = part_at place (packet_kind p)
 part_of (WholePart part) = part.value

@@ -254,8 +254,8 @@ impl Kept {
         self.innermost.listed_parts()
     }
 
-    /// Returns what is kept besides its innermost call frame, if that is this one; else the state. A
-    /// wrong Err is possible.
+    /// Returns what is kept besides its innermost call frame, if that is this one; else the state.
+    /// A wrong Err is possible.
     pub(crate) fn into_around(self, frame: &AbstractFrame) -> Result<Around, Kept>
         ensures around { IfOk result (λ a. state_around a frame.now ≡ self) }
         ensures same { IfErr result (λ k. k ≡ self) }

@@ -16,6 +16,7 @@ mod groups;
 mod held_places;
 mod kept;
 mod kept_frames;
+mod large_numbers;
 mod latest;
 pub mod listened;
 mod listening;

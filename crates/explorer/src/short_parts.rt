@@ -3,6 +3,7 @@
 ghost use Rattle.std.specs.Prelude.{◌≡◌, IfOk, IfSome};
 ghost use Rattle.explorer.specs.ShortParts.{part_at, packet_kind, small_numbers};
 
+use crate::large_numbers::LargeNumbers;
 use crate::small_numbers::SmallNumbers;
 use known_bits::Bits;
 use ranges::{Range, Wide};
@@ -35,6 +36,8 @@ enum Form {
     UnsetRegister(u8),
     WrittenSlot(u8, u8),
     SmallNumber(ShortPlace, SmallNumbers),
+    LargeNumber(ShortPlace, LargeNumbers),
+    MaskedNumber(ShortPlace, LargeNumbers),
     PacketPlace(ShortPlace, ShortPacket),
     WholePart(Box<Part>),
 }
@@ -121,7 +124,13 @@ fn short_kind(place: ShortPlace, kind: &Kind) -> Option<Form> {
     match *kind {
         Kind::Number(numbers) => match small_of(&numbers) {
             Some(small) => Some(Form::SmallNumber(place, small)),
-            None => None,
+            None => match LargeNumbers::of(&numbers) {
+                Some(large) if numbers.range.low.greatest == u32::MAX => {
+                    Some(Form::LargeNumber(place, large))
+                }
+                Some(large) => Some(Form::MaskedNumber(place, large)),
+                None => None,
+            },
         },
         Kind::Packet {
             fixed,
@@ -179,6 +188,12 @@ impl ShortPart {
             Form::UnsetRegister(number) => Part::InRegister(*number, Kind::Unset),
             Form::WrittenSlot(index, marks) => Part::InSlot(*index, StackSlot::Written(*marks)),
             Form::SmallNumber(place, numbers) => part_at(*place, Kind::Number(scalar_of(numbers))),
+            Form::LargeNumber(place, numbers) => {
+                part_at(*place, Kind::Number(numbers.scalar(u32::MAX)))
+            }
+            Form::MaskedNumber(place, numbers) => {
+                part_at(*place, Kind::Number(numbers.scalar(numbers.low_mask())))
+            }
             Form::PacketPlace(place, pointer) => part_at(*place, packet_kind(pointer)),
             Form::WholePart(part) => **part,
         }
