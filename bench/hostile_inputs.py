@@ -175,25 +175,26 @@ def short_relations(weights):
 
 def one_chain_keys(count, size=16):
     """Keys of one size that all have the same hash, whatever the number of chains."""
-    weights = [pow(SPREAD, size - at, ALL) for at in range(size)]
+    words = size // 4
+    weights = [pow(SPREAD, words - at, ALL) for at in range(words)]
     relations = sorted(short_relations(weights), key=lambda row: max(map(abs, row)))
-    keys, level = {bytes([128] * size)}, 0
+    keys, level = {(1 << 31,) * words}, 0
     while len(keys) < count:
         for row in relations:
             more = {tuple(a + sign * b for a, b in zip(key, row)) for key in keys for sign in (1, -1)}
-            keys |= {bytes(key) for key in more if all(0 <= byte <= 255 for byte in key)}
+            keys |= {key for key in more if all(0 <= word < 1 << 32 for word in key)}
             if len(keys) >= count:
                 break
         level += 1
         if level > 20:
             sys.exit("no more keys")
-    return sorted(keys)[:count]
+    return sorted(struct.pack(f"<{words}I", *key) for key in keys)[:count]
 
 
 def hash_of(key):
     value = 0
-    for byte in key:
-        value = (value + byte) * SPREAD % ALL
+    for at in range(0, len(key), 4):
+        value = (value + int.from_bytes(key[at : at + 4], "little")) * SPREAD % ALL
     return value
 
 

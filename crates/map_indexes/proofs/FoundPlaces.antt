@@ -1,8 +1,8 @@
 -- Laws of where keys are found: at links, and at places in the list of those whose chains were full.
-use Rattle.std.proofs.Common.{◌≡◌, ℕ, ◌<◌, List, length, Option, Some, None, Bool, true, false, if◌then◌else◌, refl, sym, ap, ap₂, ◌∙◌}
+use Rattle.std.proofs.Common.{◌≡◌, ℕ, List, Option, Some, None, Bool, true, false, if◌then◌else◌, refl, sym, ap, ap₂, ◌∙◌}
 use Rattle.std.proofs.Math.Logic.{∥∥₁_elim}
 use Rattle.std.specs.Option.{option_map, option_or}
-use Rattle.std.specs.Prelude.{is_some, slice_set}
+use Rattle.std.specs.Prelude.{slice_set}
 use Rattle.std.specs.FinMap.{get}
 use Rattle.map_indexes.specs.declared.chains.Link.{Link}
 use Rattle.map_indexes.specs.ChainIndexes.{HasKey, IsChainIndex}

@@ -8,6 +8,7 @@ pub mod ListedLinks
 pub mod OverflowLaws
 pub mod KeyBytes
 pub mod FoundPlaces
+pub mod HashingLaws
 pub mod IndexChanges
 pub mod KeyLaws
 pub mod KeyOrderLaws

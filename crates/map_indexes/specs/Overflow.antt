@@ -1,5 +1,5 @@
 -- The list of the places whose chains were full, in the order of their keys.
-use Rattle.std.proofs.Common.{◌≡◌, ℕ, ◌<◌, List, length, Option, None, Some, Bool, true, if◌then◌else◌}
+use Rattle.std.proofs.Common.{◌≡◌, ℕ, ◌<◌, List, length, Option, None, Bool, true, if◌then◌else◌}
 use Rattle.std.specs.Option.{option_map, option_or}
 use Rattle.std.specs.List.{list_any}
 use Rattle.std.specs.Prelude.{is_some, nat_eq, slice_index_or}

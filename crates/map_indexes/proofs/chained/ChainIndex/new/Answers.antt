@@ -1,10 +1,10 @@
-use Rattle.std.proofs.Common.{◌≡◌, ◌<◌, ℕ, List, [], length, None, Some, true, sym, ap, subst, ◌∙◌, arith}
+use Rattle.std.proofs.Common.{ℕ, sym, ap, subst, ◌∙◌}
 use Rattle.map_indexes.specs.PlaceKeys.{PlaceKeys, places, AreKeys}
 use Rattle.map_indexes.proofs.KeyBytes.{AreKeys-none}
 use Rattle.map_indexes.proofs.ScanLaws.{places-none}
 use Rattle.map_indexes.specs.Chains.{link_in}
 use Rattle.map_indexes.specs.ChainIndexes.{IsChainIndex}
-use Rattle.map_indexes.specs.Overflow.{found_places, is_listed, AreRising, AreUnlinked}
+use Rattle.map_indexes.specs.Overflow.{found_places, AreRising}
 use Rattle.map_indexes.proofs.ChainIndexesLaws.{chain_index-none, key_in-none}
 use Rattle.map_indexes.proofs.FoundPlaces.{found_nothing}
 use Rattle.map_indexes.proofs.OverflowLaws.{rising-nil}

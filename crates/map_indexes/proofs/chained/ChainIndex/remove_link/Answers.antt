@@ -1,4 +1,4 @@
-use Rattle.std.proofs.Common.{◌≡◌, ◌<◌, ◌-◌, ◌++◌, ◌∷◌, [], ℕ, List, length, Option, Some, None, sym, ap, subst, ◌∙◌, arith}
+use Rattle.std.proofs.Common.{◌≡◌, ◌-◌, ◌++◌, ◌∷◌, [], ℕ, List, length, Some, None, sym, subst, arith}
 use Rattle.std.specs.Prelude.{slice_set}
 use Rattle.map_indexes.specs.declared.chains.Link.{Link}
 use Rattle.map_indexes.specs.PlaceKeys.{PlaceKeys, key_in, AreKeys}
@@ -9,7 +9,7 @@ use Rattle.map_indexes.specs.Chains.{link_in}
 use Rattle.map_indexes.specs.ChainIndexes.{IsChainIndex}
 use Rattle.map_indexes.specs.Overflow.{found_places, AreRising}
 use Rattle.map_indexes.proofs.IndexChanges.{some_link, linked_key, link_removed, rising_without, unlinked_without}
-use Rattle.map_indexes.proofs.ListedLinks.{link_in-is, link_own}
+use Rattle.map_indexes.proofs.ListedLinks.{link_own}
 use Rattle.map_indexes.proofs.chained.ChainIndex.remove_link.Goals as goal
 use Rattle.map_indexes.proofs.chained.ChainIndex.remove_link.Goals.{After-remove}
 

@@ -1,5 +1,4 @@
-use Rattle.std.proofs.Common.{◌≡◌, ◌<◌, ◌-◌, ◌++◌, ◌∷◌, [], ℕ, List, length, Option, Some, None, true, sym, ap, subst, ◌∙◌, arith}
-use Rattle.std.specs.List.{remove}
+use Rattle.std.proofs.Common.{◌≡◌, ◌<◌, ◌-◌, ◌++◌, ◌∷◌, [], ℕ, List, length, Some, None, true, sym, subst, arith}
 use Rattle.std.specs.Prelude.{slice_set}
 use Rattle.map_indexes.specs.PlaceKeys.{PlaceKeys, key_in, AreKeys}
 use Rattle.map_indexes.proofs.KeyBytes.{AreKeys-cleared}
@@ -7,7 +6,7 @@ use Rattle.map_indexes.specs.ScanLaws.{key_inside}
 use Rattle.map_indexes.proofs.ScanLaws.{scan_some}
 use Rattle.map_indexes.specs.Chains.{link_in}
 use Rattle.map_indexes.specs.ChainIndexes.{IsChainIndex}
-use Rattle.map_indexes.specs.Overflow.{place_at, is_listed, found_places, AreRising, AreUnlinked}
+use Rattle.map_indexes.specs.Overflow.{is_listed, found_places, AreRising, AreUnlinked}
 use Rattle.map_indexes.proofs.IndexChanges.{listed_key, listed_removed, rising_fewer, unlinked_fewer}
 use Rattle.map_indexes.proofs.ListedLinks.{link_own}
 use Rattle.map_indexes.proofs.OverflowLaws.{listed_at}

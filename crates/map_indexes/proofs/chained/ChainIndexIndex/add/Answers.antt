@@ -1,4 +1,4 @@
-use Rattle.std.proofs.Common.{◌≡◌, ◌<◌, ℕ, ◌++◌, ◌∷◌, [], List, length, Option, Some, None, refl, sym, ap, subst, ◌∙◌, arith}
+use Rattle.std.proofs.Common.{◌≡◌, ◌<◌, ℕ, List, length, Option, Some, None, sym, ap, subst, ◌∙◌, arith}
 use Rattle.std.proofs.lemmas.List.Elements.{All-from_get_or}
 use Rattle.std.specs.Prelude.{slice_set}
 use Rattle.map_indexes.specs.PlaceKeys.{PlaceKeys, TakesPlace, key_in, places, AreKeys}
@@ -8,7 +8,7 @@ use Rattle.map_indexes.proofs.PlaceKeysLaws.{places-added, set_here}
 use Rattle.map_indexes.specs.Hashing.{chain_of}
 use Rattle.map_indexes.specs.Chains.{link_in}
 use Rattle.map_indexes.specs.ChainIndexes.{IsChainIndex}
-use Rattle.map_indexes.specs.Overflow.{found_places, is_listed, AreRising, AreUnlinked}
+use Rattle.map_indexes.specs.Overflow.{found_places, AreRising}
 use Rattle.map_indexes.proofs.ListedLinks.{link_own}
 use Rattle.map_indexes.proofs.ChainIndexesLaws.{last_inside, last_free}
 use Rattle.map_indexes.proofs.IndexChanges.{link_free, still_rising, unlisted, link_added, still_unlinked, listed_added, more_unlinked}

@@ -1,7 +1,6 @@
-use Rattle.std.proofs.Common.{◌≡◌, ◌+◌, ◌<◌, ◌≤◌, ℕ, List, length, Option, Some, None, true, false, sym, ap, subst, ◌∙◌, arith}
-use Rattle.std.specs.Prelude.{nat_le}
+use Rattle.std.proofs.Common.{◌≡◌, ℕ, Some, sym, ap, ◌∙◌, arith}
 use Rattle.map_indexes.specs.declared.chains.Link.{Link}
-use Rattle.map_indexes.specs.LastBelow.{last_below, count_below}
+use Rattle.map_indexes.specs.LastBelow.{last_below}
 use Rattle.map_indexes.specs.Chains.{in_chain, link_in}
 use Rattle.map_indexes.proofs.LastBelowLaws.{last_is, count_below-none, count_below-some}
 use Rattle.map_indexes.proofs.ChainLaws.{link_of}

@@ -1,7 +1,3 @@
-use Rattle.std.proofs.Common.{◌≡◌, ◌<◌, ◌≤◌, ℕ, List, length, Some, None, true, sym, ap, subst, ◌∙◌, arith, inl, inr}
-use Rattle.std.proofs.lemmas.Bool.{cases_lt}
-use Rattle.map_indexes.specs.KeyOrder.{key_or_none}
-use Rattle.map_indexes.specs.Overflow.{place_at, is_listed}
 use Rattle.map_indexes.proofs.OverflowLaws.{key_at, never, searchable}
 use Rattle.map_indexes.proofs.overflow.Overflow.find.Goals as goal
 
