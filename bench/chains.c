@@ -23,9 +23,12 @@ struct map {
 
 static uint32_t chain_of(const uint8_t *key, uint32_t size, uint32_t chains) {
     uint64_t hash = 0;
-    for (uint32_t i = 0; i < size; i++)
-        hash = (hash + key[i]) * 0xd6e8feb86659fd93u;
-    return (uint32_t)(hash >> 32) % chains;
+    for (uint32_t i = 0; i < size; i += 4) {
+        uint32_t word = 0;
+        memcpy(&word, key + i, size - i < 4 ? size - i : 4);
+        hash = (hash + word) * 0xd6e8feb86659fd93u;
+    }
+    return (hash >> 32) * chains >> 32;
 }
 
 static struct map make(uint32_t key_size, uint32_t value_size, uint32_t entries) {

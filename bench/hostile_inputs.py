@@ -5,10 +5,11 @@ bench/hostile.py has those of `verify`.
 usage: python3 bench/hostile_inputs.py [PROGRAM [FAMILY ..]]
 
 PROGRAM is an optimized xdpvm (the default: crates/xdpvm/out/xdpvm). The families are texts of `asm`, images of `dis`,
-tables of `recheck`, maps whose keys are all in one chain, and captures of tools/frames.py. For each
-input it prints the size, the processor seconds, the peak megabytes and the last line. A run that
-takes longer than LIMIT seconds (the default: 120) is ended. The exit status is 1 if one ended by a
-signal or, without a limit having passed, by a status that is not one of the program's.
+tables of `recheck`, maps whose keys have one hash (`chains`, and `worst_keys` with the limits that
+the gate holds), and captures of tools/frames.py. For each input it prints the size, the processor seconds, the peak
+megabytes and the last line. A run that takes longer than LIMIT seconds (the default: 120) is ended. The exit status is 1 if
+one took longer than its own limit, ended by a signal or, without a limit having passed, by a status that is not one of the
+program's.
 """
 import os
 import resource
@@ -24,7 +25,9 @@ import table
 PROGRAM = os.path.abspath((sys.argv[1:] or [f"{HERE}/../crates/xdpvm/out/xdpvm"])[0])
 CHOSEN = sys.argv[2:]
 LIMIT = int(os.environ.get("LIMIT", "120"))
-MOST_SLOTS, MOST_TEXT = 4096, 16 << 20
+MOST_SLOTS, MOST_TEXT, MOST_KEYS = 4096, 16 << 20, 65536
+# At most so many seconds for a full map of the worst keys, and for a frame with a call on it, by a proved build.
+FILLED, CALL = 0.3, 3e-6
 FRAMES = [sys.executable, f"{HERE}/../tools/frames.py"]
 
 
@@ -40,7 +43,7 @@ def asked(*words):
         sys.exit(f"{' '.join(words)}: {ended.stdout}")
 
 
-# ---- families: a name, and the words of a command with its input second
+# ---- families: a name, the words of a command with its input second, and at most how many seconds it may take, if that is said
 
 def texts():
     """Texts for `asm`."""
@@ -172,25 +175,26 @@ def short_relations(weights):
 
 def one_chain_keys(count, size=16):
     """Keys of one size that all have the same hash, whatever the number of chains."""
-    weights = [pow(SPREAD, size - at, ALL) for at in range(size)]
+    words = size // 4
+    weights = [pow(SPREAD, words - at, ALL) for at in range(words)]
     relations = sorted(short_relations(weights), key=lambda row: max(map(abs, row)))
-    keys, level = {bytes([128] * size)}, 0
+    keys, level = {(1 << 31,) * words}, 0
     while len(keys) < count:
         for row in relations:
             more = {tuple(a + sign * b for a, b in zip(key, row)) for key in keys for sign in (1, -1)}
-            keys |= {bytes(key) for key in more if all(0 <= byte <= 255 for byte in key)}
+            keys |= {key for key in more if all(0 <= word < 1 << 32 for word in key)}
             if len(keys) >= count:
                 break
         level += 1
         if level > 20:
             sys.exit("no more keys")
-    return sorted(keys)[:count]
+    return sorted(struct.pack(f"<{words}I", *key) for key in keys)[:count]
 
 
 def hash_of(key):
     value = 0
-    for byte in key:
-        value = (value + byte) * SPREAD % ALL
+    for at in range(0, len(key), 4):
+        value = (value + int.from_bytes(key[at : at + 4], "little")) * SPREAD % ALL
     return value
 
 
@@ -203,20 +207,38 @@ out: r0 = 1; exit
 """
 
 
+def counting(count, size):
+    """An image that updates a map by keys from frames, and as many keys that all have one hash."""
+    copies = "".join(f"r3 = *(u64 *)(r6 + {at}); *(u64 *)(r10 - {size - at}) = r3\n" for at in range(0, size, 8))
+    write("text", COUNTS.format(size=size, entries=count, copies=copies))
+    asked("asm", "text", "image")
+    same = one_chain_keys(count, size)
+    assert len({hash_of(key) for key in same}) == 1 and len(set(same)) == count
+    return same
+
+
+def of_keys(keys):
+    """A stream of frames, each of which is a key."""
+    return b"XPF1" + b"".join(struct.pack("<QIII", at, 0, 0, len(key)) + key for at, key in enumerate(keys))
+
+
 def chains():
     """Maps whose keys are all in one chain, beside keys that are not."""
     size = 16
     for count in 4096, 16384, 65536:
-        copies = "".join(f"r3 = *(u64 *)(r6 + {at}); *(u64 *)(r10 - {size - at}) = r3\n" for at in range(0, size, 8))
-        write("text", COUNTS.format(size=size, entries=count, copies=copies))
-        asked("asm", "text", "image")
-        same = one_chain_keys(count, size)
-        assert len({hash_of(key) for key in same}) == 1 and len(set(same)) == count
+        same = counting(count, size)
         for name, keys in ("of one hash", same), ("of any hash", [struct.pack("<QQ", at * SPREAD % ALL, at) for at in range(count)]):
-            stream = b"XPF1" + b"".join(struct.pack("<QIII", at, 0, 0, size) + key for at, key in enumerate(keys))
-            yield f"{count} keys {name}", [PROGRAM, "run", "image", write("frames", stream), "sent"]
+            yield f"{count} keys {name}", [PROGRAM, "run", "image", write("frames", of_keys(keys)), "sent"]
             if count == 4096:
                 yield f"{count} keys {name}, by `trace`", [PROGRAM, "trace", "image", "frames", "sent"]
+
+
+def worst_keys():
+    """A full map of keys of one hash, from the greatest on, so that each is put before all others; then calls with these keys."""
+    keys = counting(MOST_KEYS, 16)[::-1]
+    yield "a map is filled", [PROGRAM, "run", "image", write("frames", of_keys(keys)), "sent"], FILLED
+    rounds = 4
+    yield f"and {rounds} calls with each key", [PROGRAM, "run", "image", write("frames", of_keys(keys * (rounds + 1))), "sent"], FILLED + rounds * len(keys) * CALL
 
 
 def block(kind, body):
@@ -250,7 +272,7 @@ def captures():
     yield "a gzip of 2 GB of zeros behind a head", [*FRAMES, write("capture", gzip.compress(begin + interface) + gzip.compress(bytes(1 << 26)) * 32), "out.frames"]
 
 
-FAMILIES = [texts, images, tables, chains, captures]
+FAMILIES = [texts, images, tables, chains, worst_keys, captures]
 
 
 # ---- measuring
@@ -273,6 +295,14 @@ def measured(words):
     return lines[-1][-70:], ended.returncode, float(user) + float(system), int(peak) / 1024
 
 
+def least(words, most):
+    """The same, of the quickest of three runs where there is a limit that the first ones do not keep."""
+    runs = [measured(words)]
+    while len(runs) < 3 and any(runs[-1][2] > limit for limit in most):
+        runs.append(measured(words))
+    return min(runs, key=lambda run: run[2])
+
+
 def main():
     wrong = 0
     print(f"{'bytes in':>10} {'seconds':>8} {'MB':>6}  status")
@@ -281,12 +311,14 @@ def main():
         for family in FAMILIES:
             if CHOSEN and family.__name__ not in CHOSEN:
                 continue
-            for name, words in family():
+            for name, words, *most in family():
                 given = words[3 if words[1] in ("run", "trace", "recheck") else 2]
-                said, status, seconds, peak = measured(words)
+                said, status, seconds, peak = least(words, most)
                 late = seconds >= LIMIT
-                wrong += not late and status > 5
-                print(f"{os.path.getsize(given):10} {seconds:8.2f} {peak:6.0f}  {status:6}  {family.__name__}: {name}: {'ended at the limit' if late else said}", flush=True)
+                over = any(seconds > limit for limit in most)
+                wrong += over or not late and status > 5
+                said = "ended at the limit" if late else f"over {most[0]:.2f} seconds" if over else said
+                print(f"{os.path.getsize(given):10} {seconds:8.2f} {peak:6.0f}  {status:6}  {family.__name__}: {name}: {said}", flush=True)
         os.chdir("/")
     return 1 if wrong else 0
 

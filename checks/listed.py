@@ -54,6 +54,7 @@ CHECKS = (
     Check("devices", "python3 assurance/devices.py", "that files on two devices are two", 1, skips=True),
     Check("pipes", "python3 assurance/pipes.py", "that each frame is handed on before the next one is waited for, with a slow writer within 50 ms", 3, alone=True),
     Check("endless", "python3 assurance/endless.py", "that tables, texts and earlier surveys without an end are refused as their first bytes are, within a second and 64 MB", 6, alone=True),
+    Check("worst_keys", "python3 bench/hostile_inputs.py crates/xdpvm/out/xdpvm worst_keys", "that a map of 65,536 keys of one hash is filled within 0.3 seconds, and a call with one takes 3 microseconds", 8, alone=True),
     Check("failures", "bash assurance/break.sh --few", "what happens where memory, a read or a write fails, on three programs", 12),
     Check("survey_failures", "python3 assurance/break_survey.py", "the same of the survey", 8),
     Check("filter_failures", "python3 assurance/break_filter.py", "the same of xdpvm_filter", 8),

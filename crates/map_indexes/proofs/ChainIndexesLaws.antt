@@ -2,7 +2,7 @@
 use Rattle.std.proofs.Common.{◌≡◌, ℕ, zero, suc, ◌+◌, ◌-◌, ◌<◌, ◌≤◌, List, [], ◌∷◌, ◌++◌, length, Option, Some, None, true, refl, sym, ap, subst, ◌∙◌, arith, inl, inr}
 use Rattle.std.proofs.lemmas.Bool.{cases_lt}
 use Rattle.std.proofs.lemmas.List.{get_or_append_left, length-append, length-set, length-replicate}
-use Rattle.std.proofs.Math.Logic.{∥∥₁_elim, ∥∥₁_map}
+use Rattle.std.proofs.Math.Logic.{∥∥₁_map}
 use Rattle.std.proofs.Math.Seq.{get_or-append_seam}
 use Rattle.std.specs.Option.{option_map}
 use Rattle.std.specs.Prelude.{slice_set, replicate}
@@ -10,15 +10,17 @@ use Rattle.std.specs.FinMap.{get}
 use Rattle.map_indexes.specs.declared.chains.Link.{Link}
 use Rattle.map_indexes.specs.LastBelow.{last_below}
 use Rattle.map_indexes.proofs.LastBelowLaws.{last_is, none_below}
-use Rattle.map_indexes.specs.Chains.{in_chain, chain_place}
+use Rattle.map_indexes.specs.Chains.{in_chain}
 use Rattle.map_indexes.proofs.ChainLaws.{link_of, in_chain-is}
 use Rattle.map_indexes.specs.Hashing.{chain_of}
 use Rattle.map_indexes.specs.PlaceKeys.{PlaceKeys, key_in, places, IsScan}
-use Rattle.map_indexes.proofs.PlaceKeysLaws.{same_or_not, set_here, set_else, get_here, get_none}
+use Rattle.map_indexes.proofs.PlaceKeysLaws.{same_or_not, set_here, set_else, get_here}
 use Rattle.map_indexes.specs.ScanLaws.{key_inside}
 use Rattle.map_indexes.proofs.ScanLaws.{scan-added, scan-emptied, scan_some}
 use Rattle.map_indexes.proofs.ScanLaws.{scan-none}
 use Rattle.map_indexes.specs.ChainIndexes.{HasKey, IsChainIndex, free_at}
+use Rattle.map_indexes.specs.Overflow.{found_places}
+use Rattle.map_indexes.proofs.FoundPlaces.{found_link}
 
 -- equal pairs have equal parts
 first_is : (a b c d : ℕ) → ◌≡◌ {A = Option (ℕ × ℕ)} (Some (a, b)) (Some (c, d)) → a ≡ c
@@ -288,12 +290,13 @@ pub record Left (keys : PlaceKeys) (chains : ℕ) (links : ℕ → Option Link) 
   pub is_next : next ≡ last_below (in_chain links (chain_of key chains)) m
   pub passed : (j : ℕ) → m ≤ j → HasKey keys links key j → ⊥
 
-module _ (keys : PlaceKeys) (free : List ℕ) (chains : ℕ) (links : ℕ → Option Link)
-    (is : IsChainIndex keys free chains (λ k. chain_place (links k))) (key : List ℕ) where
+module _ (keys : PlaceKeys) (free : List ℕ) (chains : ℕ) (listed : List ℕ) (links : ℕ → Option Link)
+    (is : IsChainIndex keys free chains (found_places keys chains listed links))
+    (key : List ℕ) where
   link_sound : (k : ℕ) (l : Link) → links k ≡ Some l
       → (q : List ℕ) × (key_in keys l.place ≡ Some q) × (l.chain ≡ chain_of q chains)
   link_sound k l e =
-      key_of chains (key_in keys l.place) l.chain (is.sound k l.chain l.place (ap chain_place e))
+      key_of chains (key_in keys l.place) l.chain (is.sound k l.chain l.place (found_link keys chains listed links k l e))
 
   -- the next link is there, and its place has a key
   pub next_there : (next : Option ℕ) → Left keys chains links key next → (k : ℕ) → next ≡ Some k
@@ -342,21 +345,12 @@ module _ (keys : PlaceKeys) (free : List ℕ) (chains : ℕ) (links : ℕ → Op
       → get (places keys) key ≡ Some (h.link.place)
   found at h = get_here keys h.link.place key is.scan.distinct h.has
 
-  -- at the end of the chain, no place has the key
-  pub not_found : Left keys chains links key None → get (places keys) key ≡ None
-  not_found left = get_none keys key (λ p e. ∥∥₁_elim (is.complete p key e) (λ x y. absurd x) (λ r.
-      elim (links r.0) as (λ o. links r.0 ≡ o → chain_place o ≡ Some (chain_of key chains, p) → ⊥) [
-        | None ↦ λ f g. cc
-        | Some l ↦ λ f g.
-            let same : l.place ≡ p = second_is l.chain l.place (chain_of key chains) p g in
-            let h : HasKey keys links key r.0 =
-            record { link = l; there = f; has = ap (key_in keys) same ∙ e } in
-            elim (cases_lt r.0 left.m) [
-              | inl a ↦
-                  let no =
-                  none_below (in_chain links (chain_of key chains)) left.m
-                  (sym left.is_next) r.0 a in
-                  let yes = in_its_chain r.0 h in cc
-              | inr a ↦ left.passed r.0 a h
-            ]
-      ] refl r.1))
+  -- at the end of the chain, no link has the key
+  pub not_found : Left keys chains links key None → (k : ℕ) → HasKey keys links key k → ⊥
+  not_found left k h = elim (cases_lt k left.m) [
+    | inl a ↦
+        let no =
+        none_below (in_chain links (chain_of key chains)) left.m (sym left.is_next) k a in
+        let yes = in_its_chain k h in cc
+    | inr a ↦ left.passed k a h
+  ]

@@ -1,7 +1,7 @@
--- Laws of the greatest number below another that passes a test.
-use Rattle.std.proofs.Common.{◌≡◌, ℕ, zero, suc, ◌<◌, ◌≤◌, Bool, true, false, cond, Some, None, refl, sym, ap, ◌∙◌, arith, inl, inr}
+-- Laws of the greatest number below another that passes a test, and of how many do.
+use Rattle.std.proofs.Common.{◌≡◌, ℕ, zero, suc, ◌+◌, ◌<◌, ◌≤◌, Bool, true, false, cond, Some, None, refl, sym, ap, ◌∙◌, arith, inl, inr}
 use Rattle.std.proofs.lemmas.Bool.{cases_lt}
-use Rattle.map_indexes.specs.LastBelow.{last_below}
+use Rattle.map_indexes.specs.LastBelow.{last_below, count_below}
 
 -- it is below m and passes, and no number between it and m does
 pub last_is : (test : ℕ → Bool) (m k : ℕ) → last_below test m ≡ Some k
@@ -80,3 +80,26 @@ last_above test test' k (suc m) h t f = elim (cases_lt k m) [
       (f m (omega arith) (omega arith) ∙ here)
       ∙ sym (ap (λ (b : Bool). cond b (Some m) (last_below test m)) here)
 ]
+
+-- ---- how many pass the test
+
+pub count_below-none : (test : ℕ → Bool) (m : ℕ) → last_below test m ≡ None
+    → count_below test m ≡ 0
+count_below-none test zero e = refl
+count_below-none test (suc m) e =
+    elim (test m) as (λ b. cond b (Some m) (last_below test m) ≡ None
+    → cond b (count_below test m + 1) (count_below test m) ≡ 0) [
+      | true ↦ λ f. absurd (cc)
+      | false ↦ λ f. count_below-none test m f
+    ] e
+
+-- one more than below the greatest of them
+pub count_below-some : (test : ℕ → Bool) (m k : ℕ) → last_below test m ≡ Some k
+    → count_below test m ≡ count_below test k + 1
+count_below-some test zero k e = absurd (cc)
+count_below-some test (suc m) k e =
+    elim (test m) as (λ b. cond b (Some m) (last_below test m) ≡ Some k
+    → cond b (count_below test m + 1) (count_below test m) ≡ count_below test k + 1) [
+      | true ↦ λ f. let same : m ≡ k = cc in ap (λ (n : ℕ). count_below test n + 1) same
+      | false ↦ λ f. count_below-some test m k f
+    ] e

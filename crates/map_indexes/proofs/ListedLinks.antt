@@ -51,6 +51,11 @@ pub link_in-is : (chains nexts : List (Option ℕ)) (k : ℕ) (l : Link) → lin
 link_in-is chains nexts k l e = link_is k (slice_index_or chains k None)
     (slice_index_or nexts k None) l e
 
+-- the place of a link is its own
+pub link_own : (chains nexts : List (Option ℕ)) (k : ℕ) (l : Link) → link_in chains nexts k
+    ≡ Some l → l.place ≡ k
+link_own chains nexts k l e = (link_in-is chains nexts k l e).1
+
 -- a link that is led elsewhere
 link_in-led : (chains nexts : List (Option ℕ)) (from to : Option ℕ) → ((k : ℕ) → from ≡ Some k
     → k < length nexts) → (j : ℕ)

@@ -10,4 +10,5 @@ pub mod LastBelow
 pub mod Chains
 pub mod Hashing
 pub mod OptionalNumbers
+pub mod Overflow
 pub mod ChainIndexes

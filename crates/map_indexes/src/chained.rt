@@ -1,17 +1,19 @@
-//! An index of a hash map that finds keys by chains.
+//! An index of a hash map that finds keys by chains, and by their order where a chain is long.
 
-ghost use Rattle.std.specs.Prelude.{◌≡◌, ℕ, ◌+◌, ◌-◌, ◌<◌, ◌≤◌, length, None, IfOk, IfSome, slice_index_or, vec_capacity, is_some, true, Some};
+ghost use Rattle.std.specs.Prelude.{◌≡◌, ℕ, ◌+◌, ◌-◌, ◌<◌, ◌≤◌, length, None, IfOk, IfSome, IsSome, slice_index_or, slice_set, vec_capacity, is_some, true, Some};
 ghost use Rattle.std.specs.FinMap as map;
 ghost use Rattle.isa_model.specs.declared.map_defs.MapType.TheVariants.{Hash};
 ghost use Rattle.map_indexes.specs.PlaceKeys.{places, key_in, AreKeys};
 ghost use Rattle.map_indexes.specs.KeyOrder.{used_places};
-ghost use Rattle.map_indexes.specs.Chains.{chain_place, link_in};
+ghost use Rattle.map_indexes.specs.Chains.{link_in};
 ghost use Rattle.map_indexes.specs.ChainIndexes.{IsChainIndex, HasKey};
+ghost use Rattle.map_indexes.specs.Overflow.{place_at, found_places, AreRising, AreUnlinked};
 
 use crate::chains::Chains;
 use crate::hashing::chain_of;
 use crate::index::Index;
 use crate::keys::{Keys, are_same};
+use crate::overflow::Overflow;
 use std::alloc::{AllocError, Global};
 
 // All places, the first at the end.
@@ -28,19 +30,24 @@ fn all_places(alloc: Global, count: u32) -> Result<Vec<u32>, AllocError>
     Ok(places)
 }
 
-/// Says which place each key of a hash map has: a link of the key's chain names it. The place of a
-/// removed key is the next to be given.
+/// Says which place each key of a hash map has: a link of the key's chain names it, or, if that
+/// chain was long when the key came, a list in the order of the keys. The place of a removed key is
+/// the next to be given.
 #[derive(Drop)]
 pub struct ChainIndex {
     keys: Keys,
     chains: Chains,
+    overflow: Overflow,
     free: Vec<u32>,
-    ghost index: { IsChainIndex keys.by_place free.items chains.count
-        (λ k. chain_place (link_in chains.chains chains.nexts k)) },
+    ghost index: { IsChainIndex keys.by_place free.items chains.count (found_places keys.by_place
+        chains.count overflow.places.items (link_in chains.chains chains.nexts)) },
+    ghost rising: { AreRising keys.by_place overflow.places.items },
+    ghost unlinked: { AreUnlinked (link_in chains.chains chains.nexts) overflow.places.items },
     ghost sized: { AreKeys keys.size keys.by_place },
     ghost some_chains: { 0 < chains.count },
     ghost enough: { length keys.by_place ≤ chains.count },
     ghost links_room: { length chains.chains ≡ length keys.by_place },
+    ghost overflow_room: { vec_capacity overflow.places ≡ length keys.by_place },
     ghost free_room: { vec_capacity free ≡ length keys.by_place },
 }
 
@@ -53,8 +60,14 @@ impl ChainIndex {
     {
         let keys = Keys::new(alloc, key_size, entries)?;
         let chains = Chains::new(alloc, entries.max(1), entries)?;
+        let overflow = Overflow::new(alloc, entries)?;
         let free = all_places(alloc, entries)?;
-        Ok(ChainIndex { keys, chains, free })
+        Ok(ChainIndex {
+            keys,
+            chains,
+            overflow,
+            free,
+        })
     }
 
     /// The key of a place that has one.
@@ -95,7 +108,8 @@ impl ChainIndex {
         requires { length key.now ≡ self.now.keys.size }
         ensures found { IfSome result (HasKey self.now.keys.by_place
             (link_in self.now.chains.chains self.now.chains.nexts) key.now) }
-        ensures absent { result ≡ None → map.get (places self.now.keys.by_place) key.now ≡ None }
+        ensures absent { result ≡ None → (k : ℕ) → HasKey self.now.keys.by_place
+            (link_in self.now.chains.chains self.now.chains.nexts) key.now k → ⊥ }
     {
         let mut next = self.chains.first(chain_of(key, self.chains.count()));
         while let Some(at) = next {
@@ -105,6 +119,31 @@ impl ChainIndex {
             next = self.chains.next(at);
         }
         None
+    }
+
+    // Takes the key of a place that has a link away.
+    fn remove_link(&mut self, place: usize)
+        requires { IsSome (link_in self.old.chains.chains self.old.chains.nexts place) }
+        ensures keys { self.new.keys.by_place ≡ slice_set self.old.keys.by_place place None }
+        ensures size { self.new.keys.size ≡ self.old.keys.size }
+    {
+        self.chains.remove(place);
+        self.keys.clear(place);
+        self.free.push_reserved(place as u32);
+    }
+
+    // Takes the key of the place at an index of the list away, and returns the place.
+    fn remove_listed(&mut self, i: usize) -> usize
+        requires { i < length self.old.overflow.places.items }
+        ensures place { result ≡ place_at self.old.overflow.places.items i }
+        ensures keys { self.new.keys.by_place ≡ slice_set self.old.keys.by_place result None }
+        ensures size { self.new.keys.size ≡ self.old.keys.size }
+    {
+        let place = self.overflow.at(i);
+        self.overflow.remove(i);
+        self.keys.clear(place);
+        self.free.push_reserved(place as u32);
+        place
     }
 }
 
@@ -120,7 +159,13 @@ impl Index for ChainIndex {
     ghost room = { λ s. length s.keys.by_place };
 
     fn find(&self, key: &[u8]) -> Option<usize> {
-        self.find_link(key)
+        match self.find_link(key) {
+            Some(place) => Some(place),
+            None => match self.overflow.find(&self.keys, key) {
+                Some(i) => Some(self.overflow.at(i)),
+                None => None,
+            },
+        }
     }
 
     fn is_full(&self) -> bool {
@@ -131,16 +176,25 @@ impl Index for ChainIndex {
         let place = self.free.pop()?;
         let chain = chain_of(key, self.chains.count());
         self.keys.put(place as usize, key);
+        if self.chains.is_long(chain) && self.overflow.has_room() {
+            self.overflow.add(&self.keys, place, key);
+            return Some(place as usize);
+        }
         self.chains.add(chain, place as usize);
         Some(place as usize)
     }
 
     fn remove(&mut self, key: &[u8]) -> Option<usize> {
-        let place = self.find_link(key)?;
-        self.chains.remove(place);
-        self.keys.clear(place);
-        self.free.push_reserved(place as u32);
-        Some(place)
+        match self.find_link(key) {
+            Some(place) => {
+                self.remove_link(place);
+                Some(place)
+            }
+            None => {
+                let i = self.overflow.find(&self.keys, key)?;
+                Some(self.remove_listed(i))
+            }
+        }
     }
 
     ghost in_range = { λ s k p e. scan_in_range s.keys.by_place k p e };

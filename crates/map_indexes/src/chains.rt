@@ -1,11 +1,14 @@
 //! Chains of links.
 
-ghost use Rattle.std.specs.Prelude.{◌≡◌, ◌≢◌, ◌+◌, ◌<◌, ◌^◌, ℕ, length, None, Some, IfOk, IfSome, IsSome, replicate, slice_index_or};
-ghost use Rattle.map_indexes.specs.LastBelow.{last_below};
+ghost use Rattle.std.specs.Prelude.{◌≡◌, ◌≢◌, ◌+◌, ◌<◌, ◌^◌, ℕ, length, None, Some, IfOk, IfSome, IsSome, nat_le, replicate, slice_index_or};
+ghost use Rattle.map_indexes.specs.LastBelow.{last_below, count_below};
 ghost use Rattle.map_indexes.specs.Chains.{in_chain, chain_place, IsChained, IsBehind, heads_led, nexts_led, led_from, link_in};
 
 use crate::numbers::OptionalNumbers;
 use std::alloc::{AllocError, Global};
+
+// As many links as a look-up follows at most.
+const LONGEST_CHAIN: u32 = 8;
 
 /// A link: its chain, its place, and the place of the next link.
 #[derive(Clone, Copy)]
@@ -90,6 +93,23 @@ impl Chains {
         ensures { result ≡ slice_index_or self.now.nexts at None }
     {
         self.nexts.at(at)
+    }
+
+    /// Returns whether a chain has as many links as a look-up may have to follow.
+    pub fn is_long(&self, chain: u32) -> bool
+        requires { chain < self.now.count }
+        ensures { result ≡ nat_le LONGEST_CHAIN (count_below
+            (in_chain (link_in self.now.chains self.now.nexts) chain)
+            (length self.now.chains)) }
+    {
+        let mut next = self.first(chain);
+        for followed in 0..LONGEST_CHAIN {
+            let Some(at) = next else {
+                return false;
+            };
+            next = self.nexts.at(at);
+        }
+        true
     }
 
     // The link of a chain right behind which a link at a place belongs. None: at the front of the

@@ -1,27 +1,55 @@
 //! Which chain a key is in.
 
-ghost use Rattle.std.specs.Prelude.{◌≡◌, ◌<◌};
-ghost use Rattle.map_indexes.specs.Hashing.{hash_of as the_hash_of, chain_of as the_chain_of};
+ghost use Rattle.std.specs.Prelude.{◌≡◌, ◌<◌, length};
+ghost use Rattle.byteorder.specs.Endian.{little_number};
+ghost use Rattle.map_indexes.specs.Hashing.{mixed, hash_of as the_hash_of, chain_of as the_chain_of};
+
+use byteorder::{ByteOrder, LittleEndian};
 
 const SPREAD: u64 = 0xd6e8_feb8_6659_fd93;
 
-#[tactic(auto, unfolding(crate::specs::Hashing::hash_of))]
+#[inline(always)]
+fn mixed(hash: u64, word: u64) -> u64
+    ensures { result ≡ mixed hash word }
+{
+    hash.wrapping_add(word).wrapping_mul(SPREAD)
+}
+
+// The number in fewer than four bytes, the lowest first.
+fn last_word(bytes: &[u8]) -> u64
+    requires { length bytes.now < 4 }
+    ensures { result ≡ little_number 4 bytes.now }
+{
+    match bytes {
+        [] => 0,
+        [a] => u64::from(*a),
+        [a, b] => u64::from(*a) + 256 * u64::from(*b),
+        [a, b, c, ..] => u64::from(*a) + 256 * (u64::from(*b) + 256 * u64::from(*c)),
+    }
+}
+
 fn hash_of(key: &[u8]) -> u64
     ensures { result ≡ the_hash_of key.now }
 {
     let mut hash = 0u64;
-    for byte in key {
-        hash = hash.wrapping_add(u64::from(*byte)).wrapping_mul(SPREAD);
+    let mut rest = key;
+    while rest.len() >= 4 {
+        hash = mixed(hash, u64::from(LittleEndian::read_u32(rest)));
+        rest = &rest[4..];
     }
-    hash
+    if rest.is_empty() {
+        hash
+    } else {
+        mixed(hash, last_word(rest))
+    }
 }
 
 /// The chain of a key, among this number of chains.
-#[tactic(auto, unfolding(crate::specs::Hashing::chain_of))]
 pub fn chain_of(key: &[u8], chains: u32) -> u32
     requires { 0 < chains }
     ensures chain { result ≡ the_chain_of key.now chains }
     ensures in_range { result < chains }
 {
-    (hash_of(key) >> 32) as u32 % chains
+    let upper = hash_of(key) >> 32;
+    ((upper * u64::from(chains)) >> 32) as u32
 }

@@ -12,6 +12,7 @@ mod hashing;
 pub mod index;
 pub mod keys;
 mod numbers;
+mod overflow;
 pub mod rooms;
 pub mod scan;
 

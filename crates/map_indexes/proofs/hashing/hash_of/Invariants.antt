@@ -1,7 +1,11 @@
-use Rattle.std.proofs.Common.{◌≡◌, ◌+◌, ◌*◌, ◌%◌, ◌^◌, take}
-use Rattle.std.specs.Prelude.{fold}
-use Rattle.map_indexes.specs.Hashing.{spread}
+use Rattle.std.proofs.Common.{◌≡◌, ◌+◌, ◌/◌, length}
+use Rattle.map_indexes.specs.Hashing.{words_mixed}
 use Rattle.map_indexes.proofs.hashing.hash_of.Given as goal
 
-abbrev pub invariant-loop-byte : goal.invariant-loop-byte
-invariant-loop-byte l = l.hash ≡ fold (λ h b. (h + b) * spread % 2 ^ 64) 0 (take l.byte-index l.key)
+abbrev pub invariant-loop-rest : goal.invariant-loop-rest
+invariant-loop-rest l =
+    words_mixed ((length l.rest + 3) / 4) l.rest l.hash
+    ≡ words_mixed ((length l.key + 3) / 4) l.key 0
+
+abbrev pub decreases-loop-rest : goal.decreases-loop-rest
+decreases-loop-rest l = length l.rest

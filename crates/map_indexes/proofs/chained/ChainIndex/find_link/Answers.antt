@@ -17,7 +17,7 @@ here : (c : In-Some) → (l : Link) × (link_in c.args.self.now.chains.chains
 here c =
     let s = c.args.self.now in
     let links = link_in s.chains.chains s.chains.nexts in
-    let n = next_there s.keys.by_place s.free.items s.chains.count links s.index c.args.key.now
+    let n = next_there s.keys.by_place s.free.items s.chains.count s.overflow.places.items links s.index c.args.key.now
     c.loop-next.next c.loop-next.invariant c.in-Some.at c.in-Some.is in
     let place = (link_in-is s.chains.chains s.chains.nexts c.in-Some.at n.0 n.1).1 in
     (n.0, n.1, n.3, sym (ap (key_in s.keys.by_place) place) ∙ n.4)
@@ -64,7 +64,7 @@ loop-next-preserved c =
     let is = link_in-is s.chains.chains s.chains.nexts c.in-Some.at h.0 h.1 in
     subst (λ (o : Option ℕ). Left s.keys.by_place s.chains.count links c.args.key.now o) (is.2
     ∙ sym c.next-next.ensures)
-    (left_next s.keys.by_place s.free.items s.chains.count links s.index c.args.key.now
+    (left_next s.keys.by_place s.free.items s.chains.count s.overflow.places.items links s.index c.args.key.now
     c.loop-next.next c.loop-next.invariant c.in-Some.at h.0 c.in-Some.is h.1
     (λ e.
     let f : Some c.key.result.now ≡ Some c.args.key.now = sym c.key.ensures.key ∙ ap
@@ -81,6 +81,7 @@ pub returns-clause-absent : goal.returns-clause-absent
 returns-clause-absent c = λ e.
     let s = c.args.self.now in
     let links = link_in s.chains.chains s.chains.nexts in
-    not_found s.keys.by_place s.free.items s.chains.count links s.index c.args.key.now
+    not_found s.keys.by_place s.free.items s.chains.count s.overflow.places.items links s.index
+    c.args.key.now
     (subst (Left s.keys.by_place s.chains.count links c.args.key.now) c.in_default.is
     c.loop-next.invariant)

@@ -1,26 +1,33 @@
-use Rattle.std.proofs.Common.{◌≡◌, ℕ, List, Option, Some, None, refl, sym, ap, ◌∙◌}
-use Rattle.std.specs.Prelude.{IfSome}
-use Rattle.std.specs.FinMap as map
-use Rattle.map_indexes.specs.PlaceKeys.{PlaceKeys, places}
-use Rattle.map_indexes.specs.Chains.{chain_place, link_in}
-use Rattle.map_indexes.specs.ChainIndexes.{IsChainIndex, HasKey}
-use Rattle.map_indexes.proofs.ListedLinks.{link_in-is}
+use Rattle.std.proofs.Common.{ℕ, List, Some, refl, sym, ap, ◌∙◌}
+use Rattle.map_indexes.specs.Chains.{link_in}
+use Rattle.map_indexes.specs.Overflow.{place_at}
+use Rattle.map_indexes.proofs.ListedLinks.{link_own}
 use Rattle.map_indexes.proofs.ChainIndexesLaws.{found}
+use Rattle.map_indexes.proofs.FoundPlaces.{nowhere}
+use Rattle.map_indexes.proofs.PlaceKeysLaws.{get_here}
 use Rattle.map_indexes.proofs.chained.ChainIndexIndex.find.Goals as goal
 
 -- where a key's link is, the key has its place
-placed : (keys : PlaceKeys) (free : List ℕ) (count : ℕ) (chains nexts : List (Option ℕ))
-    → IsChainIndex keys free count (λ k. chain_place (link_in chains nexts k))
-    → (key : List ℕ) (at : Option ℕ) → IfSome at (HasKey keys (link_in chains nexts) key) → (at
-    ≡ None → map.get (places keys) key ≡ None)
-    → at ≡ map.get (places keys) key
-placed keys free count chains nexts is key None has absent = sym (absent refl)
-placed keys free count chains nexts is key (Some k) h absent =
-    ap Some (sym (link_in-is chains nexts k h.link h.there).1) ∙ sym (found keys free count
-    (link_in chains nexts) is key k h)
-
-pub returns : goal.returns
-returns c =
+pub returns-in-Some : goal.returns-in-Some
+returns-in-Some c =
     let s = c.args.self.now in
-    placed s.keys.by_place s.free.items s.chains.count s.chains.chains s.chains.nexts s.index
-    c.args.key.now c.find_link.result c.find_link.ensures.found c.find_link.ensures.absent
+    let links = link_in s.chains.chains s.chains.nexts in
+    let h = c.in-Some.ensures.found in
+    ap Some (sym (link_own s.chains.chains s.chains.nexts c.in-Some.place h.link h.there))
+    ∙ sym (found s.keys.by_place s.free.items s.chains.count s.overflow.places.items links s.index
+    c.args.key.now c.in-Some.place h)
+
+pub returns-in-Some-find : goal.returns-in-Some-find
+returns-in-Some-find c =
+    let s = c.args.self.now in
+    let listed : List ℕ = s.overflow.places.items in
+    ap Some c.at.ensures
+    ∙ sym (get_here s.keys.by_place (place_at listed c.in-Some-find.i) c.args.key.now
+    s.index.scan.distinct c.in-Some-find.ensures.found)
+
+pub returns-in-None-find : goal.returns-in-None-find
+returns-in-None-find c =
+    let s = c.args.self.now in
+    sym (nowhere s.keys.by_place s.chains.count s.overflow.places.items
+    (link_in s.chains.chains s.chains.nexts) s.free.items s.index c.args.key.now
+    (c.in-None.ensures.absent refl) (c.in-None-find.ensures.absent refl))

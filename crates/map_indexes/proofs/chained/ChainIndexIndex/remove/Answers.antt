@@ -1,88 +1,47 @@
-use Rattle.std.proofs.Common.{◌≡◌, ℕ, ◌-◌, List, [], ◌∷◌, ◌++◌, length, Some, None, refl, sym, ap, subst, ◌∙◌, arith, rules}
-use Rattle.std.specs.Prelude.{slice_set}
+use Rattle.std.proofs.Common.{◌≡◌, ℕ, List, Some, None, refl, sym, ap, ◌∙◌}
 use Rattle.std.specs.FinMap as map
-use Rattle.map_indexes.specs.PlaceKeys.{PlaceKeys, key_in, places, AreKeys}
-use Rattle.map_indexes.proofs.KeyBytes.{AreKeys-cleared}
-use Rattle.map_indexes.proofs.PlaceKeysLaws.{places-emptied, remove_absent}
+use Rattle.map_indexes.specs.PlaceKeys.{PlaceKeys, key_in, places}
 use Rattle.map_indexes.specs.ScanLaws.{key_inside}
-use Rattle.map_indexes.proofs.ScanLaws.{scan_some}
-use Rattle.map_indexes.specs.Chains.{chain_place, link_in}
-use Rattle.map_indexes.specs.ChainIndexes.{IsChainIndex}
-use Rattle.map_indexes.proofs.ListedLinks.{link_in-is}
-use Rattle.map_indexes.proofs.ChainIndexesLaws.{chain_index-removed, found}
+use Rattle.map_indexes.specs.Chains.{link_in}
+use Rattle.map_indexes.proofs.ListedLinks.{link_own}
+use Rattle.map_indexes.proofs.ChainIndexesLaws.{found}
+use Rattle.map_indexes.proofs.FoundPlaces.{nowhere}
+use Rattle.map_indexes.proofs.PlaceKeysLaws.{get_here, places-emptied, remove_absent}
 use Rattle.map_indexes.proofs.chained.ChainIndexIndex.remove.Goals as goal
-use Rattle.map_indexes.proofs.chained.ChainIndexIndex.remove.Goals.{In_ok-place}
 
--- the key has the link's place
-has : (c : In_ok-place)
-    → key_in c.args.self.now.keys.by_place c.in_ok-place.place ≡ Some c.args.key.now
-has c =
+pub returns-in_err-i-in-None-clause-hash : goal.returns-in_err-i-in-None-clause-hash
+returns-in_err-i-in-None-clause-hash c = λ kind.
     let s = c.args.self.now in
-    let h = c.in_ok-place.ensures.found in
-    sym (ap (key_in s.keys.by_place) (link_in-is s.chains.chains s.chains.nexts c.in_ok-place.place
-    h.link h.there).1) ∙ h.has
+    let absent : map.get (places s.keys.by_place) c.args.key.now ≡ None =
+    nowhere s.keys.by_place s.chains.count s.overflow.places.items
+    (link_in s.chains.chains s.chains.nexts) s.free.items s.index c.args.key.now
+    (c.in-None.ensures.absent refl) (c.in_err-i-in-None.ensures.absent refl) in
+    (c.from_residual.ensures ∙ sym absent, sym (remove_absent (places s.keys.by_place) c.args.key.now absent))
 
-pub returns-in_err-place-clause-hash : goal.returns-in_err-place-clause-hash
-returns-in_err-place-clause-hash c = λ kind.
-    let absent : map.get (places c.args.self.now.keys.by_place) c.args.key.now
-    ≡ None = c.in_err-place.ensures.absent refl in
-    (search rules, sym (remove_absent (places c.args.self.now.keys.by_place) c.args.key.now absent))
-
-pub invariant_of-self-clause-index : goal.invariant_of-self-clause-index
-invariant_of-self-clause-index c =
+pub returns-in-Some-clause-hash : goal.returns-in-Some-clause-hash
+returns-in-Some-clause-hash c = λ kind.
     let s = c.args.self.now in
     let keys : PlaceKeys = s.keys.by_place in
-    let free : List ℕ = s.free.items in
-    let t = c.remove.new.self in
-    let h = c.in_ok-place.ensures.found in
-    let p : ℕ = c.in_ok-place.place in
-    let e = c.remove.ensures in
-    let at = (link_in-is s.chains.chains s.chains.nexts p h.link h.there).1 in
-    let new = λ (k : ℕ). chain_place (link_in t.chains t.nexts k) in
-    subst (λ (x : PlaceKeys). IsChainIndex x c.push_reserved.new.self.items t.count new)
-    (sym c.clear.ensures.keys)
-    (subst (λ (x : List ℕ). IsChainIndex (slice_set keys p None) x t.count new)
-    (sym c.push_reserved.ensures.items)
-    (subst (λ (x : ℕ). IsChainIndex (slice_set keys p None) (free ++ p ∷ []) x new) (sym e.count)
-    (chain_index-removed keys free s.chains.count (λ (k : ℕ). chain_place
-    (link_in s.chains.chains s.chains.nexts k)) s.index c.args.key.now p p h.link.chain
-    (ap chain_place h.there ∙ (λ i. Some (h.link.chain, at i))) (has
-    (goal.at.invariant_of-self-clause-index c).In_ok-place) new (ap chain_place e.removed)
-    (λ j d. e.others j d))))
-
-pub invariant_of-self-clause-sized : goal.invariant_of-self-clause-sized
-invariant_of-self-clause-sized c =
-    let s = c.args.self.now in
-    let keys : PlaceKeys = s.keys.by_place in
-    let p : ℕ = c.in_ok-place.place in
-    let new = c.clear.new.self in
-    subst (λ (n : ℕ). AreKeys n new.by_place) (sym c.clear.ensures.size)
-    (subst (λ (x : PlaceKeys). AreKeys s.keys.size x) (sym c.clear.ensures.keys)
-    (AreKeys-cleared s.keys.size keys s.sized p (key_inside keys p c.args.key.now (has
-    (goal.at.invariant_of-self-clause-sized c).In_ok-place))))
-
-pub returns-clause-hash : goal.returns-clause-hash
-returns-clause-hash c = λ kind.
-    let s = c.args.self.now in
-    let keys : PlaceKeys = s.keys.by_place in
-    let h = c.in_ok-place.ensures.found in
-    let p : ℕ = c.in_ok-place.place in
-    let is = has (goal.at.returns-clause-hash c).In_ok-place in
-    let at = (link_in-is s.chains.chains s.chains.nexts p h.link h.there).1 in (
-      ap Some (sym at) ∙ sym (found keys s.free.items s.chains.count
-          (link_in s.chains.chains s.chains.nexts) s.index c.args.key.now p h),
-      ap (λ (x : PlaceKeys). places x) c.clear.ensures.keys
-          ∙ places-emptied keys p c.args.key.now (key_inside keys p c.args.key.now is)
-          s.index.scan.distinct is,
+    let key : List ℕ = c.args.key.now in
+    let p : ℕ = c.in-Some.place in
+    let h = c.in-Some.ensures.found in
+    let own = link_own s.chains.chains s.chains.nexts p h.link h.there in
+    let present : key_in keys p ≡ Some key = sym (ap (key_in keys) own) ∙ h.has in (
+      ap Some (sym own) ∙ sym (found keys s.free.items s.chains.count s.overflow.places.items
+          (link_in s.chains.chains s.chains.nexts) s.index key p h),
+      ap (λ (x : PlaceKeys). places x) c.remove_link.ensures.keys
+          ∙ places-emptied keys p key (key_inside keys p key present) s.index.scan.distinct present,
     )
 
-pub push_reserved-requires : goal.push_reserved-requires
-push_reserved-requires c =
+pub returns-in_ok-i-in-None-clause-hash : goal.returns-in_ok-i-in-None-clause-hash
+returns-in_ok-i-in-None-clause-hash c = λ kind.
     let s = c.args.self.now in
     let keys : PlaceKeys = s.keys.by_place in
-    let some = scan_some keys (length keys - length s.free.items) s.index.scan c.args.key.now
-    c.in_ok-place.place (has (goal.at.push_reserved-requires c).In_ok-place) in
-    let few = s.index.few in
-    let room = s.free_room in
-    let n = s.free.ok.0 in
-    omega arith
+    let key : List ℕ = c.args.key.now in
+    let p : ℕ = c.remove_listed.result in
+    let present : key_in keys p ≡ Some key =
+    ap (key_in keys) c.remove_listed.ensures.place ∙ c.in_ok-i-in-None.ensures.found in (
+      sym (get_here keys p key s.index.scan.distinct present),
+      ap (λ (x : PlaceKeys). places x) c.remove_listed.ensures.keys
+          ∙ places-emptied keys p key (key_inside keys p key present) s.index.scan.distinct present,
+    )
