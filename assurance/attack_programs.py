@@ -2,6 +2,7 @@
 FAMILIES makes one from a random generator, with the numbers that its frames should be near. They
 are right except for a limit, a size or an offset that may be wrong by one, or of the wrong sign,
 width or call frame."""
+# fmt: off   (the alternatives are tables, with more than one on a line)
 
 SIZES = {"u8": 1, "u16": 2, "u32": 4, "u64": 8}
 TESTS = ["==", "!=", ">", ">=", "<", "<=", "s>", "s>=", "s<", "s<=", "&"]
@@ -26,7 +27,7 @@ def register(chance, number):
 
 def constant(chance, around):
     """A number that an instruction can hold, near one of these."""
-    return max(-2**31, min(2**31 - 1, chance.choice(around) + chance.choice([0, 0, 0, -1, 1])))
+    return max(-(2**31), min(2**31 - 1, chance.choice(around) + chance.choice([0, 0, 0, -1, 1])))
 
 
 def change(chance):
@@ -50,26 +51,32 @@ def change(chance):
 def limit(chance, number=2):
     """One or two tests that leave small numbers, if sign and width are right."""
     target, other = register(chance, number), register(chance, number)
-    return chance.choice([
-        [f"if {target} > {constant(chance, [63, 31])} goto out"],
-        [f"if {target} >= {constant(chance, [64, 32])} goto out"],
-        [f"if {target} s> {constant(chance, [63, 31])} goto out"],
-        [f"if {target} s> {constant(chance, [63])} goto out", f"if {other} s< {constant(chance, [0])} goto out"],
-        [f"if {target} s< {constant(chance, [0])} goto out", f"if {other} > {constant(chance, [63])} goto out"],
-        [f"if {target} < {constant(chance, [64])} goto +1", "goto out"],
-        [f"if {target} & {constant(chance, [-64, -32, 2**31 - 64])} goto out"],
-        [f"{target} &= {constant(chance, [63, 31, 15])}"],
-        [f"{target} %= {constant(chance, [64, 32])}"],
-        [f"if {target} {chance.choice(TESTS)} {constant(chance, [63, 0, -1, -64])} goto out",
-         f"{other} &= {constant(chance, [127, 63])}"],
-    ])
+    return chance.choice(
+        [
+            [f"if {target} > {constant(chance, [63, 31])} goto out"],
+            [f"if {target} >= {constant(chance, [64, 32])} goto out"],
+            [f"if {target} s> {constant(chance, [63, 31])} goto out"],
+            [f"if {target} s> {constant(chance, [63])} goto out", f"if {other} s< {constant(chance, [0])} goto out"],
+            [f"if {target} s< {constant(chance, [0])} goto out", f"if {other} > {constant(chance, [63])} goto out"],
+            [f"if {target} < {constant(chance, [64])} goto +1", "goto out"],
+            [f"if {target} & {constant(chance, [-64, -32, 2**31 - 64])} goto out"],
+            [f"{target} &= {constant(chance, [63, 31, 15])}"],
+            [f"{target} %= {constant(chance, [64, 32])}"],
+            [
+                f"if {target} {chance.choice(TESTS)} {constant(chance, [63, 0, -1, -64])} goto out",
+                f"{other} &= {constant(chance, [127, 63])}",
+            ],
+        ]
+    )
 
 
 def both_halves(chance):
     """Tests of the low half, and a limit of the whole number whose low half may be below all that the first one leaves."""
     whole = (chance.randrange(3) << 32) + chance.choice([0, 5, 63, 64])
-    lines = [[f"if w2 < {constant(chance, [32, 16])} goto out", f"if w2 > {constant(chance, [63])} goto out"],
-             [f"r7 = {whole} ll", f"if r2 {chance.choice(['>', '>='])} r7 goto out"]]
+    lines = [
+        [f"if w2 < {constant(chance, [32, 16])} goto out", f"if w2 > {constant(chance, [63])} goto out"],
+        [f"r7 = {whole} ll", f"if r2 {chance.choice(['>', '>='])} r7 goto out"],
+    ]
     return sum(chance.sample(lines, 2), [])
 
 
@@ -78,7 +85,9 @@ def sums(chance):
     lines = NUMBERS + chance.choice([[], ["r2 <<= 32", "r2 |= r3"], ["r3 <<= 32"], limit(chance, 3)])
     lines += chance.choice([[], ["if r2 s< 0 goto out"], ["if r2 s>= 0 goto out"], ["if w2 s< 0 goto out"]])
     lines += chance.choice([[], [f"r3 = {chance.choice([2**31, 2**62, 2**63 - 64, 2**63, 2**64 - 64])} ll"]])
-    lines += [change(chance) for _ in range(chance.randrange(3))] + (both_halves(chance) if chance.random() < 0.2 else limit(chance))
+    lines += [change(chance) for _ in range(chance.randrange(3))] + (
+        both_halves(chance) if chance.random() < 0.2 else limit(chance)
+    )
     lines += [change(chance) for _ in range(chance.choice([0, 0, 0, 1]))]
     size = chance.choice(list(SIZES))
     place = chance.choice([0, 0, 0, 1, -1, 1 - SIZES[size]])
@@ -97,12 +106,28 @@ def lengths(chance):
     lines += chance.choice([[], unknown, unknown + ["r8 = r4"]])
     size = chance.randrange(1, 24)
     lines += [f"r4 += {size}"] + chance.choice([[], [], [], ["r4 += r5"], ["r8 = r4"]])
-    lines += chance.choice([
-        ["if r4 > r3 goto out"], ["if r3 < r4 goto out"], ["if r4 >= r3 goto out"], ["if r3 <= r4 goto out"],
-        ["if r4 <= r3 goto +1", "goto out"], ["if r3 >= r4 goto +1", "goto out"], ["if r4 < r3 goto +1", "goto out"],
-    ])
-    moves = [["r8 += 1"], ["r4 += -1"], ["r4 -= r5"], ["r8 += r5"], ["r5 &= 3", "r8 += r5"], ["r7 = r4", "r7 += -4", "r4 = r7"],
-             ["*(u64 *)(r10 - 8) = r4", "r4 += 8", "r4 = *(u64 *)(r10 - 8)"], ["r8 = r4", "r8 += r5"], ["r8 = r2"]]
+    lines += chance.choice(
+        [
+            ["if r4 > r3 goto out"],
+            ["if r3 < r4 goto out"],
+            ["if r4 >= r3 goto out"],
+            ["if r3 <= r4 goto out"],
+            ["if r4 <= r3 goto +1", "goto out"],
+            ["if r3 >= r4 goto +1", "goto out"],
+            ["if r4 < r3 goto +1", "goto out"],
+        ]
+    )
+    moves = [
+        ["r8 += 1"],
+        ["r4 += -1"],
+        ["r4 -= r5"],
+        ["r8 += r5"],
+        ["r5 &= 3", "r8 += r5"],
+        ["r7 = r4", "r7 += -4", "r4 = r7"],
+        ["*(u64 *)(r10 - 8) = r4", "r4 += 8", "r4 = *(u64 *)(r10 - 8)"],
+        ["r8 = r4", "r8 += r5"],
+        ["r8 = r2"],
+    ]
     lines += sum((chance.choice(moves) for _ in range(chance.choice([0, 0, 1, 1, 2]))), [])
     read = chance.choice(list(SIZES))
     base = chance.choice([2, 4, 4, 8])
@@ -113,8 +138,15 @@ def lengths(chance):
 
 def pointer(chance):
     """Instructions that put some pointer into r6, of which a byte can be read."""
-    return chance.choice([["r6 = r10", "r6 += -16"], ["r6 = map_val(map_by_idx(0)) + 8"], ["r6 = r1"], ["r6 = r10"],
-                          ["r6 = *(u32 *)(r1 + 0)", "r2 = *(u32 *)(r1 + 4)", "r3 = r6", "r3 += 4", "if r3 > r2 goto out"]])
+    return chance.choice(
+        [
+            ["r6 = r10", "r6 += -16"],
+            ["r6 = map_val(map_by_idx(0)) + 8"],
+            ["r6 = r1"],
+            ["r6 = r10"],
+            ["r6 = *(u32 *)(r1 + 0)", "r2 = *(u32 *)(r1 + 4)", "r3 = r6", "r3 += 4", "if r3 > r2 goto out"],
+        ]
+    )
 
 
 def spills(chance):
@@ -124,12 +156,18 @@ def spills(chance):
     if place + SIZES[size] > 0:
         place = -SIZES[size]
     at = f"r10 - {-place}"
-    lines += chance.choice([
-        [], [f"*({size} *)({at}) = 7"], ["r2 = 7", f"*({size} *)({at}) = r2"], ["r2 = 1", f"lock *(u32 *)({at}) += r2"],
-        ["r2 = r10", f"r2 += {place}", "r3 = 9", f"*({size} *)(r2 + 0) = r3"],
-        ["r2 = *(u32 *)(r1 + 16)", "r2 &= 7", "r3 = r10", f"r3 += {place - 7}", "r3 += r2", "*(u8 *)(r3 + 0) = 1"],
-        ["r1 = r10", f"r1 += {place}", "call write"], ["r2 = 0", f"r2 = xchg_64(r10 - 8, r2)", "*(u64 *)(r10 - 16) = r2"],
-    ])
+    lines += chance.choice(
+        [
+            [],
+            [f"*({size} *)({at}) = 7"],
+            ["r2 = 7", f"*({size} *)({at}) = r2"],
+            ["r2 = 1", f"lock *(u32 *)({at}) += r2"],
+            ["r2 = r10", f"r2 += {place}", "r3 = 9", f"*({size} *)(r2 + 0) = r3"],
+            ["r2 = *(u32 *)(r1 + 16)", "r2 &= 7", "r3 = r10", f"r3 += {place - 7}", "r3 += r2", "*(u8 *)(r3 + 0) = 1"],
+            ["r1 = r10", f"r1 += {place}", "call write"],
+            ["r2 = 0", f"r2 = xchg_64(r10 - 8, r2)", "*(u64 *)(r10 - 16) = r2"],
+        ]
+    )
     back, size = chance.choice(["u64", "u64", "u64", "u32"]), chance.choice(["u8", "u32"])
     lines.append(f"r7 = *({back} *)(r10 - {chance.choice([8, 8, 8, 16])})")
     read = f"r0 = *({size} *)(r7 - {chance.choice([0, 0, 1, 8])})"
@@ -151,8 +189,17 @@ def freed(chance):
     found = ["if r0 == 0 goto out"]
     lines += chance.choice([found, found, ["if r0 != 0 goto +1", "goto out"], [], ["r9 = r0", "if r9 == 0 goto out"]])
     lines += chance.choice([["r7 = r0"], ["*(u64 *)(r10 - 40) = r0"], ["r7 = r0", "*(u64 *)(r10 - 40) = r0"]])
-    between = [[], delete(chance.choice(maps)), put(chance.choice(maps)), find(own) + ["r7 = r0"], find(own), ["call remove"],
-               find(chance.choice(maps)) + ["if r0 == 0 goto out"], find(2) + ["if r0 == 0 goto out"], ["call 5"]]
+    between = [
+        [],
+        delete(chance.choice(maps)),
+        put(chance.choice(maps)),
+        find(own) + ["r7 = r0"],
+        find(own),
+        ["call remove"],
+        find(chance.choice(maps)) + ["if r0 == 0 goto out"],
+        find(2) + ["if r0 == 0 goto out"],
+        ["call 5"],
+    ]
     lines += sum((chance.choice(between) for _ in range(chance.choice([1, 1, 2]))), [])
     lines += chance.choice([[], ["r7 = *(u64 *)(r10 - 40)"], ["r7 = r0"], ["r7 = r0", "if r7 == 0 goto out"]])
     size = chance.choice(list(SIZES))
@@ -166,8 +213,17 @@ def stored_in(chance):
     beside it."""
     size = chance.choice(list(SIZES))
     place = chance.choice([0, 0, 0, 8, 8 - SIZES[size], -8])
-    lines = ["*(u64 *)(r10 - 32) = 4", "*(u64 *)(r10 - 24) = 4", "*(u64 *)(r10 - 8) = r10", "*(u64 *)(r10 - 16) = r10", "r1 = r10",
-             f"r1 += -{chance.choice([8, 16])}", "call store", f"r7 = *(u64 *)(r10 - {chance.choice([8, 16])})", "r0 = *(u64 *)(r7 - 32)"]
+    lines = [
+        "*(u64 *)(r10 - 32) = 4",
+        "*(u64 *)(r10 - 24) = 4",
+        "*(u64 *)(r10 - 8) = r10",
+        "*(u64 *)(r10 - 16) = r10",
+        "r1 = r10",
+        f"r1 += -{chance.choice([8, 16])}",
+        "call store",
+        f"r7 = *(u64 *)(r10 - {chance.choice([8, 16])})",
+        "r0 = *(u64 *)(r7 - 32)",
+    ]
     return program([], lines, {"store": [f"*({size} *)(r1 + {place}) = 3".replace("+ -", "- "), "r0 = 0"]})
 
 
@@ -182,21 +238,44 @@ def frames(chance):
     again = ["r1 = r0", "call second"]
     stored = ["r7 = *(u64 *)(r10 - 8)", "r1 = r7", "call second"]
     lines += chance.choice([[], again, again, chance.choice(give) + ["call second"], stored])
-    lines += chance.choice([
-        ["r7 = r0"], ["r7 = *(u64 *)(r10 - 8)"], ["r7 = r6"], ["r7 = r6", "r7 += -8"], ["r7 = r9"],
-    ])
+    lines += chance.choice(
+        [
+            ["r7 = r0"],
+            ["r7 = *(u64 *)(r10 - 8)"],
+            ["r7 = r6"],
+            ["r7 = r6", "r7 += -8"],
+            ["r7 = r9"],
+        ]
+    )
     lines += chance.choice([[], [f"r0 = *(u64 *)(r7 - {chance.choice([0, 8, 8, 16])})"]])
-    first = chance.choice([
-        ["r0 = r10"], ["r0 = r10", "r0 += -8"], ["r0 = r10", "r0 += -8"], ["r0 = r1", "r0 += 8"], ["r0 = r1"],
-        ["*(u64 *)(r10 - 8) = 3", "r0 = r10"], ["*(u64 *)(r1 + 0) = r10", "r0 = 0"], ["r0 = 3", "*(u64 *)(r1 + 0) = 3"],
-        ["r2 = r10", "r2 += -8", "*(u64 *)(r2 + 0) = 6", "*(u64 *)(r1 + 0) = r2", "r0 = 1"],
-        ["r9 = r10", "r0 = r1"], ["r6 = r1", "r0 = 0"], ["*(u64 *)(r10 - 8) = 1", "r1 = r10", "r1 += -8", "call second"],
-    ])
-    second = chance.choice([
-        ["r0 = *(u64 *)(r1 + 0)"], ["*(u64 *)(r10 - 8) = 1", "r0 = *(u64 *)(r1 + 0)"], ["r0 = *(u64 *)(r1 - 8)"],
-        ["*(u64 *)(r1 + 0) = 9", "r0 = 0"], ["r0 = *(u64 *)(r10 - 8)"], ["r0 = r1"],
-        ["r0 = *(u64 *)(r1 + 0)", "r0 = *(u64 *)(r0 + 0)"], ["r0 = *(u8 *)(r6 + 0)"],
-    ])
+    first = chance.choice(
+        [
+            ["r0 = r10"],
+            ["r0 = r10", "r0 += -8"],
+            ["r0 = r10", "r0 += -8"],
+            ["r0 = r1", "r0 += 8"],
+            ["r0 = r1"],
+            ["*(u64 *)(r10 - 8) = 3", "r0 = r10"],
+            ["*(u64 *)(r1 + 0) = r10", "r0 = 0"],
+            ["r0 = 3", "*(u64 *)(r1 + 0) = 3"],
+            ["r2 = r10", "r2 += -8", "*(u64 *)(r2 + 0) = 6", "*(u64 *)(r1 + 0) = r2", "r0 = 1"],
+            ["r9 = r10", "r0 = r1"],
+            ["r6 = r1", "r0 = 0"],
+            ["*(u64 *)(r10 - 8) = 1", "r1 = r10", "r1 += -8", "call second"],
+        ]
+    )
+    second = chance.choice(
+        [
+            ["r0 = *(u64 *)(r1 + 0)"],
+            ["*(u64 *)(r10 - 8) = 1", "r0 = *(u64 *)(r1 + 0)"],
+            ["r0 = *(u64 *)(r1 - 8)"],
+            ["*(u64 *)(r1 + 0) = 9", "r0 = 0"],
+            ["r0 = *(u64 *)(r10 - 8)"],
+            ["r0 = r1"],
+            ["r0 = *(u64 *)(r1 + 0)", "r0 = *(u64 *)(r0 + 0)"],
+            ["r0 = *(u8 *)(r6 + 0)"],
+        ]
+    )
     return program([], lines, {"first": first, "second": second})
 
 
@@ -206,15 +285,27 @@ def answers(chance):
     lines = [*NUMBERS, f"r0 = {chance.choice(['r2', 'r3'])}"]
     for _ in range(chance.randrange(1, 4)):
         target = register(chance, 0)
-        lines += chance.choice([
-            [f"{target} &= {constant(chance, [3, 4, 7])}"], [f"{target} %= {constant(chance, [5])}"],
-            [f"{target} >>= {constant(chance, [30])}"], ["r0 >>= 62"], [f"{target} += {constant(chance, [1, -1])}"],
-            [f"{target} |= {chance.choice([1, 2, 4, 8])}"], ["r0 <<= 32", f"r0 |= {chance.randrange(6)}"],
-            [f"if {target} > {constant(chance, [4, 5])} goto out"], [f"if {target} s> {constant(chance, [4])} goto out"],
-            [f"if {target} >= {constant(chance, [5])} goto out"], [f"if {target} != {constant(chance, [3])} goto out"],
-            [f"if {target} & {constant(chance, [-8, -4])} goto out"], ["w0 = w0"], ["r0 = (s32)r0"], ["r0 = be32 r0"],
-            ["*(u64 *)(r10 - 8) = r0", "r0 = *(u64 *)(r10 - 8)"], ["*(u64 *)(r10 - 8) = r0", "r0 = *(u8 *)(r10 - 8)"],
-        ])
+        lines += chance.choice(
+            [
+                [f"{target} &= {constant(chance, [3, 4, 7])}"],
+                [f"{target} %= {constant(chance, [5])}"],
+                [f"{target} >>= {constant(chance, [30])}"],
+                ["r0 >>= 62"],
+                [f"{target} += {constant(chance, [1, -1])}"],
+                [f"{target} |= {chance.choice([1, 2, 4, 8])}"],
+                ["r0 <<= 32", f"r0 |= {chance.randrange(6)}"],
+                [f"if {target} > {constant(chance, [4, 5])} goto out"],
+                [f"if {target} s> {constant(chance, [4])} goto out"],
+                [f"if {target} >= {constant(chance, [5])} goto out"],
+                [f"if {target} != {constant(chance, [3])} goto out"],
+                [f"if {target} & {constant(chance, [-8, -4])} goto out"],
+                ["w0 = w0"],
+                ["r0 = (s32)r0"],
+                ["r0 = be32 r0"],
+                ["*(u64 *)(r10 - 8) = r0", "r0 = *(u64 *)(r10 - 8)"],
+                ["*(u64 *)(r10 - 8) = r0", "r0 = *(u8 *)(r10 - 8)"],
+            ]
+        )
     return [*lines, "exit", *(["out: r0 = 2", "exit"] if any("goto out" in line for line in lines) else [])]
 
 
@@ -247,12 +338,23 @@ def moves(chance):
     moved = chance.choice([["r6 += r5"], ["r6 += r5"], ["r6 -= r5"], ["r5 += r6", "r6 = r5"]])
     lines += chance.choice([test(6, proved), test(6, proved), [], test(6, proved) + ["*(u64 *)(r10 - 8) = r6"]])
     lines += [f"r6 += {step}"] * (step != 0) + moved
-    lines += chance.choice([[], [], [f"r6 += {chance.choice([1, 4, -1, -4])}"], ["r6 += r2"], ["r6 -= r2"], ["r8 = r6", "r6 += r2"]])
+    lines += chance.choice(
+        [[], [], [f"r6 += {chance.choice([1, 4, -1, -4])}"], ["r6 += r2"], ["r6 -= r2"], ["r8 = r6", "r6 += r2"]]
+    )
     lines += chance.choice([[], [], test(6, chance.choice([1, 4, 8])), ["if r6 > r3 goto out"], ["if r6 >= r3 goto out"]])
     size = chance.choice(list(SIZES))
     grown = far if moved == ["r6 += r5"] else -near
-    place = chance.choice([proved - grown - step - SIZES[size], proved - grown - step - second - SIZES[size], -near - step, far - step,
-                           -SIZES[size], -step, 0]) + chance.choice([0, 0, 0, 1, -1])
+    place = chance.choice(
+        [
+            proved - grown - step - SIZES[size],
+            proved - grown - step - second - SIZES[size],
+            -near - step,
+            far - step,
+            -SIZES[size],
+            -step,
+            0,
+        ]
+    ) + chance.choice([0, 0, 0, 1, -1])
     return program([], [*lines, f"r0 = *({size} *)(r6 + {max(-64, min(64, place))})".replace("+ -", "- ")], {})
 
 
@@ -271,8 +373,14 @@ def reversals(chance):
 
 def parts(chance):
     """Numbers with limits, spilled; of a part of them, whatever is stored between, a limit is kept or not."""
-    limits = [[f"r2 &= {constant(chance, [31, 7, 0x1f00, 0x1f0000])}"], limit(chance), limit(chance), ["r2 &= 31", "r2 <<= 32"],
-              ["r2 &= 15", f"r2 <<= {chance.choice([8, 16, 24, 40, 56])}"], ["r2 = (s8)r2"]]
+    limits = [
+        [f"r2 &= {constant(chance, [31, 7, 0x1f00, 0x1f0000])}"],
+        limit(chance),
+        limit(chance),
+        ["r2 &= 31", "r2 <<= 32"],
+        ["r2 &= 15", f"r2 <<= {chance.choice([8, 16, 24, 40, 56])}"],
+        ["r2 = (s8)r2"],
+    ]
     lines = NUMBERS + chance.choice([["r2 <<= 32", "r2 |= r3"], []]) + chance.choice(limits)
     lines += ["*(u64 *)(r10 - 8) = r2"]
     size = chance.choice(list(SIZES))
@@ -290,16 +398,30 @@ def parts(chance):
 
 def divisions(chance):
     """Signed quotients and remainders by numbers near 0 and near the ends, at both widths."""
-    starts = [[], ["r2 <<= 32", "r2 |= r3"], ["r2 = (s32)r2"], ["r2 = (s8)r2"], ["r2 &= 255"], ["r2 &= 255", "r2 = -r2"],
-              ["r2 = (s8)r2", "if r2 s> 20 goto out"], ["r2 = (s16)r2", "if r2 s< -64 goto out"], [f"r2 = {-2**63} ll", "r2 += r3"]]
+    starts = [
+        [],
+        ["r2 <<= 32", "r2 |= r3"],
+        ["r2 = (s32)r2"],
+        ["r2 = (s8)r2"],
+        ["r2 &= 255"],
+        ["r2 &= 255", "r2 = -r2"],
+        ["r2 = (s8)r2", "if r2 s> 20 goto out"],
+        ["r2 = (s16)r2", "if r2 s< -64 goto out"],
+        [f"r2 = {-2**63} ll", "r2 += r3"],
+    ]
     lines = NUMBERS + chance.choice(starts) + chance.choice([[], [], limit(chance)])
     target = register(chance, 2)
-    by = constant(chance, [8, 16, 32, -8, -16, -32, 1, -1, -2**31, 2**31 - 1])
+    by = constant(chance, [8, 16, 32, -8, -16, -32, 1, -1, -(2**31), 2**31 - 1])
     known = [f"{target} {chance.choice(['s/=', 's%='])} {by or 1}"]
-    held = [f"r5 = {chance.choice([by, 0, -1, 1 << 31, 2**32 - 1, -2**63])} ll", f"{target} {chance.choice(['s/=', 's%='])} {target[0]}5"]
+    held = [
+        f"r5 = {chance.choice([by, 0, -1, 1 << 31, 2**32 - 1, -2**63])} ll",
+        f"{target} {chance.choice(['s/=', 's%='])} {target[0]}5",
+    ]
     some = ["r5 = r3", f"r5 &= {chance.choice([7, 15])}", f"{target} {chance.choice(['s/=', 's%='])} {target[0]}5"]
     lines += chance.choice([known, known, known, held, some])
-    lines += chance.choice([[], [], [f"r2 += {constant(chance, [15, 16, 31, 7])}"], [f"w2 += {constant(chance, [15, 31])}"], ["r2 = -r2"]])
+    lines += chance.choice(
+        [[], [], [f"r2 += {constant(chance, [15, 16, 31, 7])}"], [f"w2 += {constant(chance, [15, 31])}"], ["r2 = -r2"]]
+    )
     return reached(chance, lines, chance.choice([7, 15, 30, 31, 32, 63]))
 
 
@@ -316,10 +438,29 @@ def loaded(chance, at):
     place = at - SIZES[size] * chance.randrange(8 // SIZES[size])
     through = [f"r4 = *({size} *)(r10 - {place})"]
     pointer_to = ["r8 = r10", f"r8 += -{at}", f"r4 = *({size} *)(r8 + {at - place})"]
-    function = ["*(u64 *)(r10 - 80) = r2", "*(u64 *)(r10 - 88) = r3", "r1 = r10", f"r1 += -{at}", "call leaf", "r4 = r0",
-                "r2 = *(u64 *)(r10 - 80)", "r3 = *(u64 *)(r10 - 88)", "r5 = r9"]
-    helper = ["*(u64 *)(r10 - 80) = r2", "*(u64 *)(r10 - 88) = r3", "r1 = map_by_idx(0)", "r2 = r10", f"r2 += -{at}", "call 1", "r4 = 0",
-              "r2 = *(u64 *)(r10 - 80)", "r3 = *(u64 *)(r10 - 88)", "r5 = r9"]
+    function = [
+        "*(u64 *)(r10 - 80) = r2",
+        "*(u64 *)(r10 - 88) = r3",
+        "r1 = r10",
+        f"r1 += -{at}",
+        "call leaf",
+        "r4 = r0",
+        "r2 = *(u64 *)(r10 - 80)",
+        "r3 = *(u64 *)(r10 - 88)",
+        "r5 = r9",
+    ]
+    helper = [
+        "*(u64 *)(r10 - 80) = r2",
+        "*(u64 *)(r10 - 88) = r3",
+        "r1 = map_by_idx(0)",
+        "r2 = r10",
+        f"r2 += -{at}",
+        "call 1",
+        "r4 = 0",
+        "r2 = *(u64 *)(r10 - 80)",
+        "r3 = *(u64 *)(r10 - 88)",
+        "r5 = r9",
+    ]
     return [*chance.choice([through, through, through, through, pointer_to, function, helper]), "r5 ^= r4", "r9 = r5"]
 
 
@@ -336,12 +477,16 @@ def slots(chance):
         joins += 1
         lines.append(f"if r{chance.choice([2, 3])} & {1 << chance.randrange(4)} goto join{joins}")
         at = chance.choice(places)
-        lines += chance.choice([stored(chance, at), stored(chance, at)[:1], loaded(chance, at), [], loaded(chance, at) + stored(chance, at)])
+        lines += chance.choice(
+            [stored(chance, at), stored(chance, at)[:1], loaded(chance, at), [], loaded(chance, at) + stored(chance, at)]
+        )
         lines.append(f"join{joins}: r4 = {joins}")
         lines += sum((loaded(chance, chance.choice(places)) for _ in range(chance.choice([0, 0, 1, 2]))), [])
     lines += [f"if r7 < {chance.choice([2, 3, 5])} goto again"] if loop else []
     lines += loaded(chance, chance.choice(places))
-    return program(["map hash 8 8 4"], lines, {"leaf": ["r0 = *(u64 *)(r1 + 0)", "*(u64 *)(r10 - 8) = r0", "r0 = *(u32 *)(r10 - 8)"]})
+    return program(
+        ["map hash 8 8 4"], lines, {"leaf": ["r0 = *(u64 *)(r1 + 0)", "*(u64 *)(r10 - 8) = r0", "r0 = *(u32 *)(r10 - 8)"]}
+    )
 
 
 def copy_of(chance, number, by):
@@ -371,14 +516,29 @@ def fixed(chance):
         parts[number] = chance.choice([0, 1, 2, 4, 8, 8, 12, 16, 24, 64, -1, -4, -8, 300, 4096, 9216, 65535])
         lines += copy_of(chance, number, parts[number])
     other = chance.choice([6, 7, 8])
-    lines += chance.choice([[], [], [], [f"r{other} += r5", f"r{other} -= r5"], [f"r4 = r5", "r4 &= 3", f"r{other} += r4"],
-                            ["if r2 & 1 goto +1", f"r{other} += 1"]])
+    lines += chance.choice(
+        [
+            [],
+            [],
+            [],
+            [f"r{other} += r5", f"r{other} -= r5"],
+            [f"r4 = r5", "r4 &= 3", f"r{other} += r4"],
+            ["if r2 & 1 goto +1", f"r{other} += 1"],
+        ]
+    )
     tested = chance.choice([6, 7, 7, 8, 8])
     t = f"r{tested}"
-    lines += chance.choice([
-        [f"if {t} > r3 goto out"], [f"if r3 < {t} goto out"], [f"if {t} >= r3 goto out"], [f"if r3 <= {t} goto out"],
-        [f"if {t} <= r3 goto +1", "goto out"], [f"if r3 >= {t} goto +1", "goto out"], [f"if {t} < r3 goto +1", "goto out"],
-    ])
+    lines += chance.choice(
+        [
+            [f"if {t} > r3 goto out"],
+            [f"if r3 < {t} goto out"],
+            [f"if {t} >= r3 goto out"],
+            [f"if r3 <= {t} goto out"],
+            [f"if {t} <= r3 goto +1", "goto out"],
+            [f"if r3 >= {t} goto +1", "goto out"],
+            [f"if {t} < r3 goto +1", "goto out"],
+        ]
+    )
     base = chance.choice([6, 7, 8])
     later = chance.choice([0, 0, 0, 1, -4, 8])
     lines += [f"r{base} += {later}"] * (later != 0)
@@ -394,10 +554,17 @@ def held(chance, kind):
     -96 was written."""
     key = ["r2 = r10", "r2 += -96", "r1 = map_by_idx(0)", "call 1"]
     return {
-        "small": [chance.choice(["r0 = 5", "r0 = r9", "r0 = 0"])], "any": ["r0 = r8"], "stack": ["r0 = r10", "r0 += -96"],
-        "lower": ["r0 = r10", f"r0 += {chance.choice([-104, -97, -100])}"], "value": ["r0 = map_val(map_by_idx(1)) + 0"],
-        "inside": [f"r0 = map_val(map_by_idx(1)) + {chance.choice([8, 56, 60])}"], "packet": ["r0 = r6"],
-        "further": ["r0 = r6", f"r0 += {chance.choice([1, 4])}"], "found": key, "context": ["r0 = r7"], "map": ["r0 = map_by_idx(0)"],
+        "small": [chance.choice(["r0 = 5", "r0 = r9", "r0 = 0"])],
+        "any": ["r0 = r8"],
+        "stack": ["r0 = r10", "r0 += -96"],
+        "lower": ["r0 = r10", f"r0 += {chance.choice([-104, -97, -100])}"],
+        "value": ["r0 = map_val(map_by_idx(1)) + 0"],
+        "inside": [f"r0 = map_val(map_by_idx(1)) + {chance.choice([8, 56, 60])}"],
+        "packet": ["r0 = r6"],
+        "further": ["r0 = r6", f"r0 += {chance.choice([1, 4])}"],
+        "found": key,
+        "context": ["r0 = r7"],
+        "map": ["r0 = map_by_idx(0)"],
     }[kind]
 
 
@@ -412,21 +579,44 @@ def used(chance, kind):
         return ["if r4 == 0 goto out", f"r0 = {at(8 - SIZES[size] + near)}"]
     if kind in ("stack", "value", "packet"):
         return [f"r0 = {at({'stack': 8, 'value': 64, 'packet': 8}[kind] - SIZES[size] + near)}"]
-    return {"lower": [f"r0 = {at(0)}"], "inside": [f"r0 = {at(0)}"], "further": [f"r0 = {at(0)}"], "any": ["r0 = r4"],
-            "context": ["r0 = *(u32 *)(r4 + 12)"], "map": ["r1 = r4", "r2 = r10", "r2 += -96", "call 3"]}[kind]
+    return {
+        "lower": [f"r0 = {at(0)}"],
+        "inside": [f"r0 = {at(0)}"],
+        "further": [f"r0 = {at(0)}"],
+        "any": ["r0 = r4"],
+        "context": ["r0 = *(u32 *)(r4 + 12)"],
+        "map": ["r1 = r4", "r2 = r10", "r2 += -96", "call 3"],
+    }[kind]
 
 
 KINDS = ["small", "any", "stack", "lower", "value", "inside", "packet", "further", "found", "context", "map"]
-NEAR = {"small": ["any", "stack"], "stack": ["lower", "value"], "value": ["inside", "stack", "found"], "packet": ["further", "any"],
-        "found": ["small", "value"], "context": ["stack"], "map": ["value"], "any": ["small"]}
+NEAR = {
+    "small": ["any", "stack"],
+    "stack": ["lower", "value"],
+    "value": ["inside", "stack", "found"],
+    "packet": ["further", "any"],
+    "found": ["small", "value"],
+    "context": ["stack"],
+    "map": ["value"],
+    "any": ["small"],
+}
 
 
 def kinds(chance):
     """Places that hold one kind of value on one path and perhaps another on the next, in this or in
     an outer function, which meet where the second path comes to a state that was stored; then they
     are used as the first."""
-    lines = ["r7 = r1", "r6 = *(u32 *)(r7 + 0)", "r3 = *(u32 *)(r7 + 4)", "r8 = *(u32 *)(r7 + 12)", "r9 = r8", "r9 &= 7", "r4 = r6", "r4 += 8",
-             "if r4 > r3 goto out"] + [f"*(u64 *)(r10 - {at}) = 0" for at in (88, 96, 104)]
+    lines = [
+        "r7 = r1",
+        "r6 = *(u32 *)(r7 + 0)",
+        "r3 = *(u32 *)(r7 + 4)",
+        "r8 = *(u32 *)(r7 + 12)",
+        "r9 = r8",
+        "r9 &= 7",
+        "r4 = r6",
+        "r4 += 8",
+        "if r4 > r3 goto out",
+    ] + [f"*(u64 *)(r10 - {at}) = 0" for at in (88, 96, 104)]
     places = chance.sample(["r10 - 8", "r10 - 16", "r10 - 24"], chance.choice([1, 2]))
     for place in places:
         kind = chance.choice(["small", "small", "stack", "value", "packet", "found", "context", "map", "any"])
@@ -434,15 +624,35 @@ def kinds(chance):
         first, other = (held(chance, one) + [f"*(u64 *)({place}) = r0"] for one in (kind, second))
         ways = chance.choice([(first, other), (first, other), (other, first)])
         bit = 1 << chance.randrange(8, 12)
-        lines += [f"if r8 & {bit} goto +{len(ways[0]) + 1 + sum('map_' in line and '=' in line for line in ways[0])}", *ways[0],
-                  f"goto +{len(ways[1]) + sum('map_' in line and '=' in line for line in ways[1])}", *ways[1], "r0 = 0"]
+        lines += [
+            f"if r8 & {bit} goto +{len(ways[0]) + 1 + sum('map_' in line and '=' in line for line in ways[0])}",
+            *ways[0],
+            f"goto +{len(ways[1]) + sum('map_' in line and '=' in line for line in ways[1])}",
+            *ways[1],
+            "r0 = 0",
+        ]
         last = kind, place
-    lines += chance.choice([[], [], ["r1 = r8", "call leaf"], ["if r8 & 4096 goto +1", "r8 += 1"], ["r0 = 0", "r0 += 1", "if r0 < 3 goto -2"]])
+    lines += chance.choice(
+        [[], [], ["r1 = r8", "call leaf"], ["if r8 & 4096 goto +1", "r8 += 1"], ["r0 = 0", "r0 += 1", "if r0 < 3 goto -2"]]
+    )
     lines += [f"r4 = *(u64 *)({last[1]})", *used(chance, last[0])]
     return program(["map hash 8 8 4", "map array 4 64 1"], lines, {"leaf": ["r0 = 1", "if r1 & 1 goto +1", "r0 = 2"]})
 
 
-FAMILIES = {"sums": sums, "lengths": lengths, "moves": moves, "fixed": fixed, "reversals": reversals, "parts": parts,
-            "divisions": divisions, "spills": spills, "slots": slots, "kinds": kinds, "freed": freed, "frames": frames, "answers": answers}
+FAMILIES = {
+    "sums": sums,
+    "lengths": lengths,
+    "moves": moves,
+    "fixed": fixed,
+    "reversals": reversals,
+    "parts": parts,
+    "divisions": divisions,
+    "spills": spills,
+    "slots": slots,
+    "kinds": kinds,
+    "freed": freed,
+    "frames": frames,
+    "answers": answers,
+}
 # What programs of a family may not be refused for: those of `slots` for nothing, since all that they read was set.
 NEVER = {"slots": [f"V{number}" for number in range(1, 22)]}

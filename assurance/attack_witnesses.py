@@ -6,30 +6,73 @@ each test goes the way of the witness, and limits are wrong near the numbers tha
 from attack_programs import SIZES, program
 from recompute import arithmetic, byte_order, condition, signed
 
-SIGNS = {"+=": "Add", "-=": "Sub", "*=": "Mul", "/=": "Div", "s/=": "SignedDiv", "|=": "Or", "&=": "And", "<<=": "Lsh", ">>=": "Rsh",
-         "%=": "Mod", "s%=": "SignedMod", "^=": "Xor", "s>>=": "Arsh", "=": "Mov"}
-TESTS = {"==": "Equal", "!=": "NotEqual", ">": "Greater", ">=": "GreaterEqual", "<": "Less", "<=": "LessEqual", "&": "AnyBit",
-         "s>": "SignedGreater", "s>=": "SignedGreaterEqual", "s<": "SignedLess", "s<=": "SignedLessEqual"}
-HEAD = 24                       # bytes of the packet that are numbers
+SIGNS = {
+    "+=": "Add",
+    "-=": "Sub",
+    "*=": "Mul",
+    "/=": "Div",
+    "s/=": "SignedDiv",
+    "|=": "Or",
+    "&=": "And",
+    "<<=": "Lsh",
+    ">>=": "Rsh",
+    "%=": "Mod",
+    "s%=": "SignedMod",
+    "^=": "Xor",
+    "s>>=": "Arsh",
+    "=": "Mov",
+}
+TESTS = {
+    "==": "Equal",
+    "!=": "NotEqual",
+    ">": "Greater",
+    ">=": "GreaterEqual",
+    "<": "Less",
+    "<=": "LessEqual",
+    "&": "AnyBit",
+    "s>": "SignedGreater",
+    "s>=": "SignedGreaterEqual",
+    "s<": "SignedLess",
+    "s<=": "SignedLessEqual",
+}
+HEAD = 24  # bytes of the packet that are numbers
 ENDS = [0, 2**7, 2**8, 2**15, 2**16, 2**31, 2**32, 2**33, 2**62, 2**63, 2**64]
 
 
 def some_number(chance):
     """A number of 64 bits: near an end of a range, with a small upper half, with few bits, or any."""
-    return chance.choice([
-        lambda: chance.choice(ENDS) + chance.randrange(-70, 70), lambda: (chance.randrange(4) << 32) + chance.randrange(-70, 70),
-        lambda: chance.randrange(70), lambda: sum(1 << chance.randrange(64) for _ in range(3)), lambda: chance.randrange(2**64),
-        lambda: chance.randrange(2**32), lambda: -chance.randrange(2**31),
-    ])() % 2**64
+    return (
+        chance.choice(
+            [
+                lambda: chance.choice(ENDS) + chance.randrange(-70, 70),
+                lambda: (chance.randrange(4) << 32) + chance.randrange(-70, 70),
+                lambda: chance.randrange(70),
+                lambda: sum(1 << chance.randrange(64) for _ in range(3)),
+                lambda: chance.randrange(2**64),
+                lambda: chance.randrange(2**32),
+                lambda: -chance.randrange(2**31),
+            ]
+        )()
+        % 2**64
+    )
 
 
 def close_to(chance, number):
     """A number that is this one, or near it, a few upper halves away, or beyond it up to an end."""
-    return chance.choice([
-        lambda: number, lambda: number + chance.choice([1, -1]), lambda: number + chance.randrange(-9, 10),
-        lambda: number + (chance.choice([1, 1, 2, -1]) << 32) + chance.randrange(-70, 70),
-        lambda: number | (1 << chance.randrange(64)) - 1, lambda: number & -(1 << chance.randrange(64)), lambda: some_number(chance),
-    ])() % 2**64
+    return (
+        chance.choice(
+            [
+                lambda: number,
+                lambda: number + chance.choice([1, -1]),
+                lambda: number + chance.randrange(-9, 10),
+                lambda: number + (chance.choice([1, 1, 2, -1]) << 32) + chance.randrange(-70, 70),
+                lambda: number | (1 << chance.randrange(64)) - 1,
+                lambda: number & -(1 << chance.randrange(64)),
+                lambda: some_number(chance),
+            ]
+        )()
+        % 2**64
+    )
 
 
 class Way:
@@ -153,7 +196,10 @@ class Loops:
         return f"l{self.labels}"
 
     def filler(self, most):
-        return [self.chance.choice(["r3 = 0", "r3 ^= 1", "r0 = r9", "r4 = r9", "r4 &= 3", "r2 = 7"]) for _ in range(self.chance.randrange(most + 1))]
+        return [
+            self.chance.choice(["r3 = 0", "r3 ^= 1", "r0 = r9", "r4 = r9", "r4 &= 3", "r2 = 7"])
+            for _ in range(self.chance.randrange(most + 1))
+        ]
 
     def bit(self):
         """A mask of some bit, and whether the witness has it."""
@@ -178,10 +224,15 @@ class Loops:
     def slip(self, counter):
         """What keeps a counter from its end where a bit is set, or always."""
         mask = self.bit()[0]
-        return self.chance.choice([
-            self.only(mask, f"{counter} = 0"), self.only(mask, f"{counter} += -1"), self.only(mask, f"{counter} &= 1"),
-            self.only(mask, f"{counter} = 1"), [f"{counter} &= {self.chance.choice([1, 3, 7])}"],
-        ])
+        return self.chance.choice(
+            [
+                self.only(mask, f"{counter} = 0"),
+                self.only(mask, f"{counter} += -1"),
+                self.only(mask, f"{counter} &= 1"),
+                self.only(mask, f"{counter} = 1"),
+                [f"{counter} &= {self.chance.choice([1, 3, 7])}"],
+            ]
+        )
 
     def loop(self, depth):
         """A loop of some turns, whose counter may be wrong."""
@@ -190,8 +241,13 @@ class Loops:
         counter, again = self.counters.pop(), self.label()
         body, count = self.block(depth - 1), self.chance.choice([2, 3, 4, 5, 8])
         slip = self.slip(counter) if self.chance.random() < 0.3 else []
-        test = self.chance.choice([f"if {counter} < {count} goto {again}", f"if {counter} != {count} goto {again}",
-                                   f"if {counter} s< {count} goto {again}"])
+        test = self.chance.choice(
+            [
+                f"if {counter} < {count} goto {again}",
+                f"if {counter} != {count} goto {again}",
+                f"if {counter} s< {count} goto {again}",
+            ]
+        )
         rare = [] if slip else [self.only(self.bit()[0], f"{counter} += 1")]
         step = self.chance.choice([[f"{counter} += 1"]] * 4 + rare)
         order = self.chance.choice([[*step, *body, *slip], [*body, *step, *slip], [*slip, *body, *step]])
@@ -202,8 +258,13 @@ class Loops:
         """A loop that goes on while a bit is set, of a number that is not changed, or is halved in each turn."""
         mask, again = self.bit()[0], self.label()
         halved = self.chance.random() < 0.7
-        return [*(["r1 = r9", "r1 &= 63"] if halved else ["r1 = r9"]), f"{again}: r5 = 0", *self.filler(2), *(["r1 >>= 1"] if halved else []),
-                f"if r1 & {mask} goto {again}"]
+        return [
+            *(["r1 = r9", "r1 &= 63"] if halved else ["r1 = r9"]),
+            f"{again}: r5 = 0",
+            *self.filler(2),
+            *(["r1 >>= 1"] if halved else []),
+            f"if r1 & {mask} goto {again}",
+        ]
 
     def block(self, depth):
         """Some statements, loops and forks."""

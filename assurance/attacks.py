@@ -47,7 +47,13 @@ def frames(chance, version, lines):
     if found:
         out += record(version, found[0], 0, found[1])
     for length in [0, 1, 3, 4, 7, 8, 14, 15, 16, 22, 23, 24, 31, 40, 300] * 3:
-        some = lambda: [chance.choice(CORNERS), chance.choice(EDGES), chance.randrange(256), chance.randrange(2**32), *chance.choices(numbers, k=2)]
+        some = lambda: [
+            chance.choice(CORNERS),
+            chance.choice(EDGES),
+            chance.randrange(256),
+            chance.randrange(2**32),
+            *chance.choices(numbers, k=2),
+        ]
         words = [chance.choice(some()) for _ in range(2)]
         out += record(version, (chance.randrange(2**64), *words), chance.choice(REASONS), bytes(length))
     return out
@@ -72,7 +78,9 @@ def limited(run, chance, path, verdict):
     limit = chance.choice([1, chance.randrange(1, 100), chance.randrange(1, 3_000)])
     found = run.library.verify(in_process.read(path), limit)
     told = found and in_process.told(*found)
-    return None if told in (None, (verdict.returncode, verdict.stdout, verdict.stderr)) else f"within {limit}: {told}, else {verdict}"
+    return (
+        None if told in (None, (verdict.returncode, verdict.stdout, verdict.stderr)) else f"within {limit}: {told}, else {verdict}"
+    )
 
 
 def tried(run, family, seed, folder):

@@ -106,7 +106,7 @@ def records(stream):
     found, at, head = [], 4, 24 if stream[:4] == b"XPF2" else 20
     while at + head <= len(stream):
         size = head + struct.unpack_from("<I", stream, at + 16)[0]
-        found.append(stream[at:at + size])
+        found.append(stream[at : at + size])
         at += size
     return found
 
@@ -180,7 +180,7 @@ def lacks_stops(words, found, good):
     same = (found.status, found.out, found.made) == (good.status, good.out, good.made)
     lines = good.err.splitlines(keepends=True)
     stops = [k for k, line in enumerate(lines) if line.startswith(b"frame ")]
-    return words[0] == "trace" and same and bool(stops) and found.err == b"".join(lines[:stops[0]])
+    return words[0] == "trace" and same and bool(stops) and found.err == b"".join(lines[: stops[0]])
 
 
 def of_memory(words, found, good):
@@ -203,8 +203,8 @@ def of_read(words, found, good):
     made = found.made or b""
     # if the magic of the frames was not read, the frames out are XPF1
     begun = (good.made or b"").startswith(made) or (last == b"fault F5 at 0" and made == b"XPF1")
-    begun = begun and good.out.splitlines()[:len(of_frames)] == of_frames
-    whole = lines[len(of_frames):] == map_lines(words, len(of_frames))
+    begun = begun and good.out.splitlines()[: len(of_frames)] == of_frames
+    whole = lines[len(of_frames) :] == map_lines(words, len(of_frames))
     return "status 3, F5" if last.startswith(b"fault F5 at ") and begun and whole else None
 
 
@@ -247,7 +247,7 @@ def comes_at_once():
             first += os.read(running.stdout.fileno(), 4096) or b"\n"
         with open("made", "rb") as it:
             magic = it.read(4)
-        running.stdin.write(stream[len(front):])
+        running.stdin.write(stream[len(front) :])
         running.stdin.close()
         rest = running.stdout.read()
     with open("made", "rb") as it:

@@ -56,7 +56,9 @@ class Answer:
             os.remove("mark")
         if kind:
             env.update({"BREAK": kind, "WHEN": str(call), "MARK": "mark"})
-        ran = subprocess.run([program, *words], env=env, stdin=subprocess.DEVNULL, stdout=subprocess.PIPE, stderr=subprocess.PIPE, timeout=60)
+        ran = subprocess.run(
+            [program, *words], env=env, stdin=subprocess.DEVNULL, stdout=subprocess.PIPE, stderr=subprocess.PIPE, timeout=60
+        )
         self.status, self.out, self.err = ran.returncode, TIMES.sub(b"T", ran.stdout), ran.stderr
         self.broken = os.path.exists("mark")
         self.tried_again = self.broken and os.path.getsize("mark") > 0
@@ -64,7 +66,9 @@ class Answer:
 
 def is_shorter(answer, whole):
     """Whether lines were left out at the end of what is known of a refusal."""
-    return (answer.status, answer.err) == (whole.status, whole.err) and b"refused" in answer.out and whole.out.startswith(answer.out)
+    return (
+        (answer.status, answer.err) == (whole.status, whole.err) and b"refused" in answer.out and whole.out.startswith(answer.out)
+    )
 
 
 def is_right(kind, answer, whole):

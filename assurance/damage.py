@@ -46,7 +46,7 @@ def read(path):
         return file.read()
 
 
-MOST = {1: 4096, 2: 9216}       # bytes of a frame, by the version of the stream
+MOST = {1: 4096, 2: 9216}  # bytes of a frame, by the version of the stream
 
 
 def judged(stream):
@@ -58,14 +58,14 @@ def judged(stream):
     while at < len(stream):
         if len(stream) - at < head:
             return [*lines, f"fault F2 at {at}"], sent
-        size, = struct.unpack_from("<I", stream, at + 16)
-        reason, = struct.unpack_from("<I", stream, at + 20) if version == 2 else (0,)
+        (size,) = struct.unpack_from("<I", stream, at + 16)
+        (reason,) = struct.unpack_from("<I", stream, at + 20) if version == 2 else (0,)
         if size > MOST[version]:
             return [*lines, f"fault F3 at {at}"], sent
         if len(stream) - at < head + size:
             return [*lines, f"fault F4 at {at}"], sent
         said = f"SKIP {size} 0 {reason}" if reason else f"PASS {size} 2" + " 0" * (version - 1)
-        lines, sent, at = [*lines, f"{len(lines)} {said}"], sent + stream[at:at + head + size], at + head + size
+        lines, sent, at = [*lines, f"{len(lines)} {said}"], sent + stream[at : at + head + size], at + head + size
     return [*lines, f"end {len(lines)}"], sent
 
 
@@ -73,8 +73,11 @@ def try_stream(run, folder, name, stream, tally):
     cut, sent = os.path.join(folder, "cut"), os.path.join(folder, "sent")
     written(cut, stream)
     answer, (lines, out) = run("run", os.path.join(EXAMPLES, "pass.image"), cut, sent), judged(stream)
-    right = (answer.stdout.decode().splitlines() == lines and answer.returncode == (3 if lines[-1][:5] == "fault" else 0)
-             and read(sent) == out)
+    right = (
+        answer.stdout.decode().splitlines() == lines
+        and answer.returncode == (3 if lines[-1][:5] == "fault" else 0)
+        and read(sent) == out
+    )
     tally.take(name, None if right else f"{answer.stdout} {answer.returncode}")
 
 
@@ -87,18 +90,21 @@ def cut_streams(run, folder, every, tally):
 
 
 # Two frames of a stream with reasons, the second of which is not run.
-TWO = (b"XPF2" + struct.pack("<QIIII", 1000, 1, 0, 3, 0) + b"\xca\xfe\x00" + struct.pack("<QIIII", 2000, 2, 7, 2, 9) + b"\x01\xff")
+TWO = b"XPF2" + struct.pack("<QIIII", 1000, 1, 0, 3, 0) + b"\xca\xfe\x00" + struct.pack("<QIIII", 2000, 2, 7, 2, 9) + b"\x01\xff"
 
 
 def changed_streams(run, folder, every, tally):
     """Each cut of a small stream of either version, and each byte of it with each other value."""
-    for stream in TWO, b"XPF1" + struct.pack("<QIII", 1000, 1, 0, 3) + b"\xca\xfe\x00" + struct.pack("<QIII", 2000, 2, 7, 2) + b"\x01\xff":
+    for stream in (
+        TWO,
+        b"XPF1" + struct.pack("<QIII", 1000, 1, 0, 3) + b"\xca\xfe\x00" + struct.pack("<QIII", 2000, 2, 7, 2) + b"\x01\xff",
+    ):
         name = stream[:4].decode()
         for length in range(0, len(stream) + 1, every):
             try_stream(run, folder, f"{name} cut to {length}", stream[:length], tally)
         for at in range(0, len(stream), every):
             for byte in range(256):
-                try_stream(run, folder, f"{name} with {byte} at {at}", stream[:at] + bytes([byte]) + stream[at + 1:], tally)
+                try_stream(run, folder, f"{name} with {byte} at {at}", stream[:at] + bytes([byte]) + stream[at + 1 :], tally)
 
 
 # Of version 2: an action by a packet byte, and a reason in the upper half of r0.
@@ -122,7 +128,7 @@ def changed_second_version(run, folder, every, tally):
         try_image(run, paths, f"XBP2 cut to {length}", image[:length], tally, (b"refused I1", b"refused I2"))
     for at in range(0, len(image), every):
         for byte in range(256):
-            try_image(run, paths, f"XBP2 with {byte} at {at}", image[:at] + bytes([byte]) + image[at + 1:], tally)
+            try_image(run, paths, f"XBP2 with {byte} at {at}", image[:at] + bytes([byte]) + image[at + 1 :], tally)
 
 
 def try_image(run, paths, name, image, tally, refusals=(b"refused ",)):
@@ -147,7 +153,13 @@ def damaged_images(run, folder, every, tally):
         written(paths[1], read(stream) if os.path.exists(stream) else b"XPF1")
         for at in range(0, len(image), every):
             for change in (1, 0x80, 0xFF):
-                try_image(run, paths, f"{path} with byte {at} changed by {change}", image[:at] + bytes([image[at] ^ change]) + image[at + 1:], tally)
+                try_image(
+                    run,
+                    paths,
+                    f"{path} with byte {at} changed by {change}",
+                    image[:at] + bytes([image[at] ^ change]) + image[at + 1 :],
+                    tally,
+                )
 
 
 def main():

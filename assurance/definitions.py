@@ -52,7 +52,7 @@ class Module:
     def text(self, name):
         """A declaration without its comments."""
         item = self.items[name]
-        return without_remarks(self.lines[item.at:item.after])
+        return without_remarks(self.lines[item.at : item.after])
 
     def beside(self, name):
         """All declarations of the `module` with parameters that a declaration is in."""
@@ -75,7 +75,7 @@ class Definitions(Module):
             if name:
                 self.items[name] = Item(self.with_remark(at), self.before_remark(after), is_law, block)
         for name, item in self.items.items():
-            for line in self.lines[item.at:item.after]:
+            for line in self.lines[item.at : item.after]:
                 if CONSTRUCTOR.match(line):
                     self.of_constructor[CONSTRUCTOR.match(line)[1]] = name
 

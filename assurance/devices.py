@@ -37,7 +37,7 @@ def alike(folder):
         place = os.path.join(folder, str(count))
         os.mkdir(place)
         asked(SYSTEM.mount(b"none", place.encode(), b"tmpfs", 0, None))
-        other = found.setdefault(os.stat(place).st_dev & 0xff, place)
+        other = found.setdefault(os.stat(place).st_dev & 0xFF, place)
         if other != place:
             return other, place
     raise OSError("no two device numbers have the same last byte")
@@ -72,9 +72,11 @@ def main():
         assert numbers[0].st_ino == numbers[1].st_ino and numbers[0].st_dev != numbers[1].st_dev
         os.symlink(text, link)
         refused = f"cannot write {link}\nit is one of the files that are read\n"
-        good = [tell(["asm", text, link], (4, "", refused)),
-                tell(["asm", text, image], (0, "ok maps 0 slots 2\n", "")),
-                tell(["verify", image], (0, "ok bound 2\n", ""))]
+        good = [
+            tell(["asm", text, link], (4, "", refused)),
+            tell(["asm", text, image], (0, "ok maps 0 slots 2\n", "")),
+            tell(["verify", image], (0, "ok bound 2\n", "")),
+        ]
         for place in os.listdir(folder):
             SYSTEM.umount2(os.path.join(folder, place).encode(), 2)
     return 0 if all(good) else 1

@@ -164,23 +164,38 @@ def tell_comparison(folder):
     path = os.path.join(folder, "gone")
     with open(path, "w", encoding="utf-8") as file:
         file.write("file,verdict,slot,slots,maps,bound,explored,stored,deepest,stored_bytes,milliseconds\n")
-        file.writelines(f"compiled/payload_{number:07}.image,ok,,49,0,1546,13357,3473,1258,1390896,12.345\n" for number in range(480_000))
+        file.writelines(
+            f"compiled/payload_{number:07}.image,ok,,49,0,1546,13357,3473,1258,1390896,12.345\n" for number in range(480_000)
+        )
     size = os.path.getsize(path) // 1024
-    yield tell([SURVEY, "--format", "csv", "--compare", path, IMAGE], 0, "compiled/payload_0479999.image,verdict,ok,,", 3 * size, LONGEST)
+    yield tell(
+        [SURVEY, "--format", "csv", "--compare", path, IMAGE], 0, "compiled/payload_0479999.image,verdict,ok,,", 3 * size, LONGEST
+    )
 
 
 def tell_surveys(folder):
     """Whether earlier surveys are refused that have no end."""
     survey = subprocess.run([SURVEY, "--format", "csv", IMAGE], check=True, capture_output=True).stdout
-    paths = ["/dev/zero", "/dev/urandom", sparse(os.path.join(folder, "no survey"), b""),
-             sparse(os.path.join(folder, "survey"), survey), sparse(os.path.join(folder, "row"), survey + b"name,")]
+    paths = [
+        "/dev/zero",
+        "/dev/urandom",
+        sparse(os.path.join(folder, "no survey"), b""),
+        sparse(os.path.join(folder, "survey"), survey),
+        sparse(os.path.join(folder, "row"), survey + b"name,"),
+    ]
     for path in paths:
         yield tell([SURVEY, "--compare", path, IMAGE], 4, f"cannot compare with {path}: it is no survey as csv")
 
 
 def main():
     with tempfile.TemporaryDirectory() as folder:
-        told = [*tell_tables(folder), *tell_texts(folder), *tell_long_texts(folder), *tell_surveys(folder), *tell_comparison(folder)]
+        told = [
+            *tell_tables(folder),
+            *tell_texts(folder),
+            *tell_long_texts(folder),
+            *tell_surveys(folder),
+            *tell_comparison(folder),
+        ]
     return 0 if all(told) else 1
 
 

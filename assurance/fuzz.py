@@ -46,9 +46,17 @@ def frames(chance, version):
     """Frames of many lengths, whose bytes are extreme, small or any; some have a reason, and are skipped."""
     out = b"XPF%d" % version
     for _ in range(6):
-        length = chance.choice([0, 1, 2, 7, 8, 13, 14, 15, 19, 20, 33, 34, 60, 64, 255, 256, 300, 4096] + [4097, 9215, 9216] * (version - 1))
-        bytes_of = chance.choice([lambda: bytes(length), lambda: b"\xff" * length, lambda: bytes(chance.choices([0, 1, 127, 128, 255], k=length)),
-                                  lambda: chance.randbytes(length)])
+        length = chance.choice(
+            [0, 1, 2, 7, 8, 13, 14, 15, 19, 20, 33, 34, 60, 64, 255, 256, 300, 4096] + [4097, 9215, 9216] * (version - 1)
+        )
+        bytes_of = chance.choice(
+            [
+                lambda: bytes(length),
+                lambda: b"\xff" * length,
+                lambda: bytes(chance.choices([0, 1, 127, 128, 255], k=length)),
+                lambda: chance.randbytes(length),
+            ]
+        )
         words = [chance.choice([0, 1, 2, 7, 8, 15, 2**31 - 1, 2**31, 2**32 - 1, chance.randrange(2**32)]) for _ in range(2)]
         out += record(version, (chance.randrange(2**64), *words), chance.choice(REASONS), bytes_of())
     return out

@@ -9,8 +9,8 @@ import ctypes
 import struct
 import subprocess
 
-MOST = 1_000_000                # instructions that are explored, and steps of a run
-UNDECIDED = 6                   # the status of a search that its caller's limit ended
+MOST = 1_000_000  # instructions that are explored, and steps of a run
+UNDECIDED = 6  # the status of a search that its caller's limit ended
 ROOM = 1 << 20
 ACTIONS = ["ABORTED", "DROP", "PASS", "TX", "REDIRECT", "INVALID"]
 HEADS = {1: struct.Struct("<QIII"), 2: struct.Struct("<QIIII")}
@@ -36,7 +36,7 @@ def records(stream):
     while at < len(stream):
         time, interface, queue, size, *reason = head.unpack_from(stream, at)
         at += head.size + size
-        yield (time, interface, queue), sum(reason), stream[at - size:at]
+        yield (time, interface, queue), sum(reason), stream[at - size : at]
 
 
 class TooLong(Exception):
@@ -68,7 +68,7 @@ class Library:
     def assemble(self, text):
         """The status, and the image or why there is none."""
         status = self.asked(self.xdpvm_assemble(text, len(text), self.one, ROOM, self.two, ROOM, self.out))
-        size, = struct.unpack_from("<Q", self.out.raw)
+        (size,) = struct.unpack_from("<Q", self.out.raw)
         return status, self.taken(self.two if status else self.one, size)
 
     def verify(self, image, limit=MOST):
@@ -186,7 +186,11 @@ class Runner:
         self.library, self.process = Library(path), process
 
     def __call__(self, *words):
-        answer = getattr(self, words[0], None) if len(words) == {"asm": 3, "verify": 2, "recheck": 3, "run": 4, "trace": 4}.get(words[0]) else None
+        answer = (
+            getattr(self, words[0], None)
+            if len(words) == {"asm": 3, "verify": 2, "recheck": 3, "run": 4, "trace": 4}.get(words[0])
+            else None
+        )
         try:
             answered = answer(*words[1:]) if answer else None
         except TooLong:

@@ -37,8 +37,41 @@ import kernel
 from attack_programs import FAMILIES
 from random_programs import Maker
 
-EDGES = [0, 1, 2, 3, 7, 8, 31, 32, 33, 63, 64, 127, 128, 255, 256, 32767, 32768, 65535, 65536, 2**31 - 1, 2**31, 2**31 + 1,
-         2**32 - 1, 2**32, 2**32 + 1, 2**62, 2**63 - 1, 2**63, 2**63 + 1, 2**64 - 2**31, 2**64 - 8, 2**64 - 2, 2**64 - 1]
+EDGES = [
+    0,
+    1,
+    2,
+    3,
+    7,
+    8,
+    31,
+    32,
+    33,
+    63,
+    64,
+    127,
+    128,
+    255,
+    256,
+    32767,
+    32768,
+    65535,
+    65536,
+    2**31 - 1,
+    2**31,
+    2**31 + 1,
+    2**32 - 1,
+    2**32,
+    2**32 + 1,
+    2**62,
+    2**63 - 1,
+    2**63,
+    2**63 + 1,
+    2**64 - 2**31,
+    2**64 - 8,
+    2**64 - 2,
+    2**64 - 1,
+]
 CONSTANTS = [0, 1, 2, 3, 7, 31, 32, 63, 127, 255, 65535, 2**31 - 1, -1, -2, -7, -128, -(2**31)]
 LENGTHS = [14, 15, 16, 20, 22, 23, 24, 31, 34, 40, 60, 64, 128, 255, 256, 300, 512, 1000, 1500, 3520]
 
@@ -95,8 +128,18 @@ def attacks(count, seed, program):
 
 # r6 and r7 are two numbers of the packet, and r0 is written into it after what is tried; the
 # packet's beginning is in r9
-OPENING = [insn(0x61, 9, 1, 0), insn(0x61, 3, 1, 4), insn(0xBF, 4, 9), insn(0x07, 4, imm=40), insn(0xBF, 0, 3),
-           insn(0x3D, 3, 4, 2), insn(0xB7, 0, imm=0), insn(0x95), insn(0x79, 6, 9, 0), insn(0x79, 7, 9, 8)]
+OPENING = [
+    insn(0x61, 9, 1, 0),
+    insn(0x61, 3, 1, 4),
+    insn(0xBF, 4, 9),
+    insn(0x07, 4, imm=40),
+    insn(0xBF, 0, 3),
+    insn(0x3D, 3, 4, 2),
+    insn(0xB7, 0, imm=0),
+    insn(0x95),
+    insn(0x79, 6, 9, 0),
+    insn(0x79, 7, 9, 8),
+]
 CLOSING = [insn(0x7B, 9, 0, 16), insn(0xB7, 0, imm=2), insn(0x95)]
 PAIRS = [(1, struct.pack("<QQQQQ", a, b, 0, 0, 0)) for a in EDGES for b in EDGES]
 SINGLES = [(1, struct.pack("<QQQQQ", a, 2**64 - a & 2**64 - 1, 0, 0, 0)) for a in EDGES]
@@ -119,7 +162,11 @@ def arithmetic():
                 for number in CONSTANTS:
                     if name in ("lsh", "rsh", "arsh") and not 0 <= number < int(bits) or name in ("div", "mod") and number == 0:
                         continue
-                    yield tried(f"{name} {bits} signed {sign} by {number}", [insn(0xBF, 0, 6), insn(code << 4 | kind, 0, 0, sign, number)], SINGLES)
+                    yield tried(
+                        f"{name} {bits} signed {sign} by {number}",
+                        [insn(0xBF, 0, 6), insn(code << 4 | kind, 0, 0, sign, number)],
+                        SINGLES,
+                    )
         yield tried(f"neg {bits}", [insn(0xBF, 0, 6), insn(0x80 | kind, 0)], SINGLES)
         for size in (8, 16) + (32,) * (kind == 7):
             yield tried(f"movsx {bits} {size}", [insn(0xBF, 0, 6), insn(0xB8 | kind, 0, 0, size)], SINGLES)
@@ -142,7 +189,13 @@ def atomics():
     for opcode, bits in ((0xDB, 64), (0xC3, 32)):
         for name, code in FETCHES.items():
             for fetch in (0, 1):
-                step = [insn(0x7B, 10, 6, -8), insn(0xBF, 0, 7), insn(opcode, 10, 0, -8, code | fetch), insn(0x79, 1, 10, -8), insn(0x7B, 9, 1, 24)]
+                step = [
+                    insn(0x7B, 10, 6, -8),
+                    insn(0xBF, 0, 7),
+                    insn(opcode, 10, 0, -8, code | fetch),
+                    insn(0x79, 1, 10, -8),
+                    insn(0x7B, 9, 1, 24),
+                ]
                 yield tried(f"atomic {name} {bits} fetch {fetch}", step)
         step = [insn(0x7B, 10, 6, -8), insn(0xBF, 0, 7), insn(opcode, 10, 0, -8, 0xE1), insn(0x79, 1, 10, -8), insn(0x7B, 9, 1, 24)]
         yield tried(f"xchg {bits}", step)
@@ -177,7 +230,13 @@ def maps():
                     else:
                         code += [insn(0x85, imm=1 if letter == "l" else 3)]
                     if letter == "l":
-                        code += [insn(0x15, 0, 0, 4, 0), insn(0x79, 1, 0, 0), insn(0x07, 1, imm=1), insn(0x7B, 0, 1, 0), insn(0xBF, 0, 1)]
+                        code += [
+                            insn(0x15, 0, 0, 4, 0),
+                            insn(0x79, 1, 0, 0),
+                            insn(0x07, 1, imm=1),
+                            insn(0x7B, 0, 1, 0),
+                            insn(0xBF, 0, 1),
+                        ]
                     code += [insn(0x73, 9, 0, at)]
                     at += 1
                 code += [insn(0xB7, 0, imm=2), insn(0x95)]
@@ -185,7 +244,14 @@ def maps():
                 chance = random.Random(f"{row} {order}")
                 for number in range(24):
                     flags = chance.choice([0, 0, 1, 2, 2, 3, 8, 2**32, 2**64 - 1])
-                    frames.append((1, struct.pack("<IIQQQQ", chance.choice([0, 1, 2, 3, 2**32 - 1]), 0, flags, chance.randrange(2**64), 0, 0)))
+                    frames.append(
+                        (
+                            1,
+                            struct.pack(
+                                "<IIQQQQ", chance.choice([0, 1, 2, 3, 2**32 - 1]), 0, flags, chance.randrange(2**64), 0, 0
+                            ),
+                        )
+                    )
                 yield f"maps {row} {order}", image_of(code, [row]), frames
 
 
@@ -295,7 +361,9 @@ def main():
             counts[tuple(key)] += number
         differing += found
         frames += both
-    print(f"{sum(counts.values())} programs, {counts[('ok', 'ok')]} accepted by both, {frames} frames run by both, {len(differing)} programs run differently")
+    print(
+        f"{sum(counts.values())} programs, {counts[('ok', 'ok')]} accepted by both, {frames} frames run by both, {len(differing)} programs run differently"
+    )
     differing_verdicts = [(it, number) for it, number in counts.most_common() if (it[0] == "ok") != (it[1] == "ok")]
     for (ours, theirs), number in differing_verdicts:
         print(f"{number:6} xdpvm {ours}, kernel {theirs}")

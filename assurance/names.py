@@ -52,8 +52,9 @@ def wrong_names(top, shared):
         paths = [path for found in places[name].values() for path in found]
         if len(places[name]) > 1 and name not in shared:
             lines.append(f"{name}: {', '.join(paths)}")
-    return lines + [f"{name}: in the list of shared names, and not of two crates"
-                    for name in sorted(shared) if len(places.get(name, ())) < 2]
+    return lines + [
+        f"{name}: in the list of shared names, and not of two crates" for name in sorted(shared) if len(places.get(name, ())) < 2
+    ]
 
 
 if __name__ == "__main__":

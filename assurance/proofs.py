@@ -47,6 +47,7 @@ EACH_KIND = """map hash 4 8 2; map array 4 8 1; *(u64 *)(r10 - 8) = r1; *(u64 *)
 
 # ---- damages of the entries of a table
 
+
 def copied(entry):
     made = table.Entry(entry.number, entry.slot, entry.successors)
     made.frames = []
@@ -83,8 +84,13 @@ def lowered(chance, entries):
 
 def places(entry):
     """The registers and slots of an entry that hold a value: the list, and the index."""
-    return [(values, at) for frame in entry.frames for values in (frame.registers, frame.slots) for at, value in enumerate(values)
-            if value[0] not in ("unset", "bytes")]
+    return [
+        (values, at)
+        for frame in entry.frames
+        for values in (frame.registers, frame.slots)
+        for at, value in enumerate(values)
+        if value[0] not in ("unset", "bytes")
+    ]
 
 
 def changed_value(chance, entries, change, alone=0.6):
@@ -108,7 +114,9 @@ def changed_value(chance, entries, change, alone=0.6):
 
 
 def widened(chance, entries):
-    changed_value(chance, entries, lambda value: table.any_number() if value[0] == "number" and chance.random() < 0.7 else table.UNSET)
+    changed_value(
+        chance, entries, lambda value: table.any_number() if value[0] == "number" and chance.random() < 0.7 else table.UNSET
+    )
 
 
 def narrower(chance, value):
@@ -153,7 +161,7 @@ def deepened(chance, entries):
             entry.frames.insert(at, copied(entry).frames[at])
 
 
-OTHERS = []                     # entries of other programs' tables
+OTHERS = []  # entries of other programs' tables
 
 
 def borrowed(chance, entries):
@@ -185,8 +193,12 @@ def redirected(chance, entries):
 def names(frame):
     """The registers and slots of a call frame that name an identity: the list, the index, and where
     in the value it is."""
-    return [(values, at, 2) for values in (frame.registers, frame.slots) for at, value in enumerate(values)
-            if value[0] in ("packet", "null")]
+    return [
+        (values, at, 2)
+        for values in (frame.registers, frame.slots)
+        for at, value in enumerate(values)
+        if value[0] in ("packet", "null")
+    ]
 
 
 def renamed(chance, entries):
@@ -198,7 +210,7 @@ def renamed(chance, entries):
         old, new = values[at][field], chance.choice([0, 1, 2, values[at][field] + 1, chance.randrange(8)])
         for values, at, field in places if chance.random() < 0.5 else [(values, at, field)]:
             if values[at][field] == old:
-                values[at] = (*values[at][:field], new, *values[at][field + 1:])
+                values[at] = (*values[at][:field], new, *values[at][field + 1 :])
 
 
 def mixed(chance, entries):
@@ -224,7 +236,9 @@ def respilled(chance, entries):
     frame = chance.choice(own(chance, entries).frames)
     known = [at for at, slot in enumerate(frame.slots) if slot != table.BLANK]
     if known:
-        frame.slots[chance.choice(known)] = chance.choice([table.BLANK, ("bytes", 255), ("bytes", 15), table.constant(0), table.any_number()])
+        frame.slots[chance.choice(known)] = chance.choice(
+            [table.BLANK, ("bytes", 255), ("bytes", 15), table.constant(0), table.any_number()]
+        )
 
 
 DAMAGES = [dropped, swapped, lowered, raised, widened, narrowed, redirected, renamed, mixed, respilled, doubled, deepened, borrowed]
@@ -238,16 +252,24 @@ def other_program(chance, image):
     if form == 0:
         changed[at + 1] = chance.choice([changed[at + 1] ^ 1 << chance.randrange(8), chance.randrange(11) | changed[at + 1] & 240])
     elif form == 1:
-        struct.pack_into("<h", changed, at + 2, max(-2**15, min(2**15 - 1, struct.unpack_from("<h", image, at + 2)[0] + chance.choice([-8, -1, 1, 8]))))
+        struct.pack_into(
+            "<h",
+            changed,
+            at + 2,
+            max(-(2**15), min(2**15 - 1, struct.unpack_from("<h", image, at + 2)[0] + chance.choice([-8, -1, 1, 8]))),
+        )
     elif form == 2:
         number = struct.unpack_from("<i", image, at + 4)[0]
-        struct.pack_into("<i", changed, at + 4, max(-2**31, min(2**31 - 1, chance.choice([number - 1, number + 1, number + 8, 0, -1]))))
+        struct.pack_into(
+            "<i", changed, at + 4, max(-(2**31), min(2**31 - 1, chance.choice([number - 1, number + 1, number + 8, 0, -1])))
+        )
     else:
         changed[at] = chance.choice([changed[at] ^ 1 << chance.randrange(3, 8), changed[at] ^ 3])
     return bytes(changed)
 
 
 # ---- what is wrong
+
 
 def runs_alike(image, stream, bound):
     """The same in this process; of a program with maps each frame on starting maps, in a session of its own."""
@@ -333,7 +355,9 @@ def tried(chance, image, damages, counts):
     if verified.returncode:
         counts["refused"] += 1
         # What helps with files that are something else only the program says, not the library.
-        same = (verified.returncode, verified.stdout) == (proved.returncode, proved.stdout) and proved.stderr.startswith(verified.stderr)
+        same = (verified.returncode, verified.stdout) == (proved.returncode, proved.stdout) and proved.stderr.startswith(
+            verified.stderr
+        )
         return None if same and not os.path.exists("table") else f"prove of a refused program: {proved}"
     counts["proved"] += 1
     rechecked = RUN("recheck", "image", "table")

@@ -172,7 +172,9 @@ class Accesses:
         else:
             for _ in range(self.random.randrange(1, 3)):
                 after = self.label()
-                name, imm = self.random.choice([("<", size), ("<=", size - 1), ("s<", size), ("s<=", size - 1), ("s>", -1), ("s>=", 0), ("==", 0)])
+                name, imm = self.random.choice(
+                    [("<", size), ("<=", size - 1), ("s<", size), ("s<=", size - 1), ("s>", -1), ("s>=", 0), ("==", 0)]
+                )
                 self.compare(name, r, after, imm=imm, wide=self.random.random() < 0.5)
                 self.set(0, self.random.randrange(5))
                 self.put(0x95)

@@ -7,8 +7,43 @@ import struct
 
 from random_accesses import CONTEXT, LOADS, MAPS, NUMBER, STORES, TESTS, FETCHES, Accesses
 
-NUMBERS = [0, 1, 2, 3, 4, 7, 8, 13, 14, 15, 16, 31, 32, 33, 63, 64, 127, 128, 255, 256, 511, 512, 4095, 65535, 65536,
-           2**31 - 1, -1, -2, -7, -8, -16, -128, -512, -65536, -2**31]
+NUMBERS = [
+    0,
+    1,
+    2,
+    3,
+    4,
+    7,
+    8,
+    13,
+    14,
+    15,
+    16,
+    31,
+    32,
+    33,
+    63,
+    64,
+    127,
+    128,
+    255,
+    256,
+    511,
+    512,
+    4095,
+    65535,
+    65536,
+    2**31 - 1,
+    -1,
+    -2,
+    -7,
+    -8,
+    -16,
+    -128,
+    -512,
+    -65536,
+    -(2**31),
+]
 ALU = {"+": 0, "-": 1, "*": 2, "/": 3, "|": 4, "&": 5, "<<": 6, ">>": 7, "neg": 8, "%": 9, "^": 10, "=": 11, "s>>": 12}
 
 
@@ -55,7 +90,7 @@ class Maker(Accesses):
         self.labels[label] = len(self.code)
 
     def number(self):
-        return self.random.choice(NUMBERS) if self.random.random() < 0.8 else self.random.randrange(-2**31, 2**31)
+        return self.random.choice(NUMBERS) if self.random.random() < 0.8 else self.random.randrange(-(2**31), 2**31)
 
     def slip(self, chance=0.05):
         """Whether to make a mistake here."""
@@ -157,7 +192,9 @@ class Maker(Accesses):
         if self.state.registers[counter] == NUMBER:
             step = self.random.choice([1, 1, 1, 2])
             self.put(0x07, counter, imm=step)
-            self.compare(self.random.choice(["<", "!=", "s<", "<="]), counter, again, imm=turns * step, wide=self.random.random() < 0.7)
+            self.compare(
+                self.random.choice(["<", "!=", "s<", "<="]), counter, again, imm=turns * step, wide=self.random.random() < 0.7
+            )
         self.state.meet(before)
         self.nested = False
 
@@ -206,9 +243,19 @@ class Maker(Accesses):
             self.state.slots[63] = NUMBER
 
     def block(self, count, frozen=None):
-        kinds = [(8, self.arithmetic), (1, self.swap_bytes), (1, self.wide_number), (3, self.test), (1, self.loop),
-                 (3, self.spill), (3, self.fill), (3, self.packet), (2, self.packet_access), (3, self.map_call),
-                 (2, self.local_call)]
+        kinds = [
+            (8, self.arithmetic),
+            (1, self.swap_bytes),
+            (1, self.wide_number),
+            (3, self.test),
+            (1, self.loop),
+            (3, self.spill),
+            (3, self.fill),
+            (3, self.packet),
+            (2, self.packet_access),
+            (3, self.map_call),
+            (2, self.local_call),
+        ]
         for _ in range(count):
             if self.depth > 4 or len(self.code) > 300:
                 return

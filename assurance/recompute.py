@@ -83,7 +83,9 @@ def condition(op, bits, dst, src):
     }[op]
 
 
-CONDITIONS = "Equal NotEqual Greater GreaterEqual Less LessEqual AnyBit SignedGreater SignedGreaterEqual SignedLess SignedLessEqual".split()
+CONDITIONS = (
+    "Equal NotEqual Greater GreaterEqual Less LessEqual AnyBit SignedGreater SignedGreaterEqual SignedLess SignedLessEqual".split()
+)
 EXTENSIONS = {"Low8": (8, 32), "Low16": (16, 32), "Full8": (8, 64), "Full16": (16, 64), "Full32": (32, 64)}
 SPANS = {"B16": 16, "B32": 32, "B64": 64}
 
@@ -238,7 +240,11 @@ def commands():
     maps = Equations("Maps", MAP_IMPORTS, "")
     chance = random.Random(9669)
     for kind, key_size, value_size, entries in [
-        ("Array", 4, 1, 1), ("Array", 4, 2, 3), ("Hash", 1, 1, 1), ("Hash", 2, 3, 3), ("Hash", 4, 2, 5)
+        ("Array", 4, 1, 1),
+        ("Array", 4, 2, 3),
+        ("Hash", 1, 1, 1),
+        ("Hash", 2, 3, 3),
+        ("Hash", 4, 2, 5),
     ] * 3:
         it = Map(kind, key_size, value_size, entries)
         row = f"(record {{ kind = {kind}; key_size = {key_size}; value_size = {value_size}; entries = {entries} }})"
@@ -410,7 +416,9 @@ RUN_IMPORTS = (
 
 def runs():
     """Whole runs: what each returns, mixed from all registers and 64 bytes of the stack, and its steps."""
-    programs = Equations("Runs", RUN_IMPORTS, "unfolding turn progress start_state new_call_frame step act alu holds sign_extended reordered")
+    programs = Equations(
+        "Runs", RUN_IMPORTS, "unfolding turn progress start_state new_call_frame step act alu holds sign_extended reordered"
+    )
     chance = random.Random(4)
     for _ in range(300):
         it = Run(chance)

@@ -21,7 +21,9 @@ import sys
 from pathlib import Path
 
 TOP = Path(__file__).resolve().parent.parent
-OBJECTS = tuple(f"crates/{name}/out/{name}" for name in ("xdpvm", "xdpvm_survey", "xdpvm_filter"))  # programs, beside which their object files may be
+OBJECTS = tuple(
+    f"crates/{name}/out/{name}" for name in ("xdpvm", "xdpvm_survey", "xdpvm_filter")
+)  # programs, beside which their object files may be
 FILES = (*OBJECTS, "crates/xdpvm_c/out/libxdpvm_c.a")
 MOST = 5
 

@@ -29,12 +29,16 @@ def code_of(text: str) -> str:
 
 def scripts() -> list[str]:
     """The files of the folders that are called by themselves."""
-    listed = subprocess.run(["git", "ls-files", "-co", "--exclude-standard", *FOLDERS], cwd=TOP, capture_output=True, text=True, check=True)
+    listed = subprocess.run(
+        ["git", "ls-files", "-co", "--exclude-standard", *FOLDERS], cwd=TOP, capture_output=True, text=True, check=True
+    )
     found = []
     for path in listed.stdout.split():
         if path.endswith((".py", ".sh")) and os.path.exists(os.path.join(TOP, path)):
             text = text_of(path)
-            if text.startswith("#!") and (path.endswith(".sh") or "__main__" in text or re.search(r"^(main\(|sys\.exit\(main)", text, re.M)):
+            if text.startswith("#!") and (
+                path.endswith(".sh") or "__main__" in text or re.search(r"^(main\(|sys\.exit\(main)", text, re.M)
+            ):
                 found.append(path)
     return found
 
@@ -58,7 +62,9 @@ def main() -> int:
     every = scripts()
     tried = in_gate(every)
     told = [path for row in ROW.findall(text_of("docs/ASSURANCE.md")) for path in re.findall("`(.*?)`", row)]
-    wrong = [f"{path}: no run in the gate, and no row in docs/ASSURANCE.md" for path in every if path not in tried and path not in told]
+    wrong = [
+        f"{path}: no run in the gate, and no row in docs/ASSURANCE.md" for path in every if path not in tried and path not in told
+    ]
     wrong += [f"docs/ASSURANCE.md: there is no script {path}" for path in told if path not in every]
     print("\n".join(wrong + [f"{len(every)} scripts, {len(tried)} of them in the gate, {len(told)} by hand"]))
     return 1 if wrong else 0

@@ -28,18 +28,25 @@ from table import Refused
 
 SMALL = "r0 = 2\nexit\n"
 LARGER = {
-    "calls": ("r6 = *(u32 *)(r1 + 12)\nr1 = r6\ncall leaf\nr7 = r0\nr1 = 5\ncall leaf\nr0 += r7\nexit\n"
-              "leaf: *(u64 *)(r10 - 8) = r1\nr0 = *(u64 *)(r10 - 8)\nif r0 > 9 goto big\nr0 += 1\nexit\nbig: r0 = 9\nexit\n"),
-    "packet": ("r2 = *(u32 *)(r1 + 0)\nr3 = *(u32 *)(r1 + 4)\n*(u64 *)(r10 - 8) = r2\nr4 = r2\nr4 += 14\nif r4 > r3 goto out\n"
-               "r5 = *(u8 *)(r2 + 0)\nr5 &= 7\nr2 += r5\nr0 = *(u8 *)(r2 + 1)\nr0 &= 1\nexit\nout: r0 = 2\nexit\n"),
+    "calls": (
+        "r6 = *(u32 *)(r1 + 12)\nr1 = r6\ncall leaf\nr7 = r0\nr1 = 5\ncall leaf\nr0 += r7\nexit\n"
+        "leaf: *(u64 *)(r10 - 8) = r1\nr0 = *(u64 *)(r10 - 8)\nif r0 > 9 goto big\nr0 += 1\nexit\nbig: r0 = 9\nexit\n"
+    ),
+    "packet": (
+        "r2 = *(u32 *)(r1 + 0)\nr3 = *(u32 *)(r1 + 4)\n*(u64 *)(r10 - 8) = r2\nr4 = r2\nr4 += 14\nif r4 > r3 goto out\n"
+        "r5 = *(u8 *)(r2 + 0)\nr5 &= 7\nr2 += r5\nr0 = *(u8 *)(r2 + 1)\nr0 &= 1\nexit\nout: r0 = 2\nexit\n"
+    ),
     "loop": "r1 = 0\nr2 = 7\nloop: r1 += 1\nr2 ^= r1\n*(u64 *)(r10 - 16) = r2\nif r1 < 5 goto loop\nr0 = 1\nexit\n",
-    "maps": ("map array 4 8 2\nmap hash 4 8 2\n*(u32 *)(r10 - 4) = 1\nr2 = r10\nr2 += -4\nr1 = map_by_idx(0)\ncall 1\n"
-             "if r0 == 0 goto none\nr1 = *(u64 *)(r0 + 0)\nr1 += 1\n*(u64 *)(r0 + 0) = r1\nnone: r0 = 2\nexit\n"),
+    "maps": (
+        "map array 4 8 2\nmap hash 4 8 2\n*(u32 *)(r10 - 4) = 1\nr2 = r10\nr2 += -4\nr1 = map_by_idx(0)\ncall 1\n"
+        "if r0 == 0 goto none\nr1 = *(u64 *)(r0 + 0)\nr1 += 1\n*(u64 *)(r0 + 0) = r1\nnone: r0 = 2\nexit\n"
+    ),
 }
 FRAMES = b"XPF1" + b"".join(struct.pack("<QIII", at, 1, 0, size) + bytes(size) for at, size in enumerate([0, 14, 64]))
 
 
 # ---- the judge
+
 
 def allowed(value, holder, rows):
     """Whether the fields of a value are allowed, in that call frame of a program with this many map
@@ -60,14 +67,21 @@ def allowed(value, holder, rows):
 
 def frame_allowed(frame, holder, inner, rows):
     slots = [slot for slot in frame.slots if slot[0] != "bytes"]
-    return (all(allowed(value, holder, rows) for value in frame.registers + slots) and ("unset",) not in slots
-            and (holder or not frame.leads) and (inner or all(value == table.UNSET for value in frame.registers[:6])))
+    return (
+        all(allowed(value, holder, rows) for value in frame.registers + slots)
+        and ("unset",) not in slots
+        and (holder or not frame.leads)
+        and (inner or all(value == table.UNSET for value in frame.registers[:6]))
+    )
 
 
 def entry_allowed(entry, starts, rows):
     frames = entry.frames
-    return (1 <= entry.number <= table.MOST and entry.slot in starts
-            and all(frame_allowed(frame, at, at == len(frames) - 1, rows) for at, frame in enumerate(frames)))
+    return (
+        1 <= entry.number <= table.MOST
+        and entry.slot in starts
+        and all(frame_allowed(frame, at, at == len(frames) - 1, rows) for at, frame in enumerate(frames))
+    )
 
 
 def read(data, starts, rows):
@@ -99,8 +113,13 @@ def slot_covers(one, other):
 def covers(slot, frames, other_slot, others):
     """Whether a state of one call frame covers another of one call frame."""
     one, other = frames[0], others[0]
-    return (slot == other_slot and len(frames) == len(others) == 1 and one.leads == other.leads
-            and all(map(value_covers, one.registers, other.registers)) and all(map(slot_covers, one.slots, other.slots)))
+    return (
+        slot == other_slot
+        and len(frames) == len(others) == 1
+        and one.leads == other.leads
+        and all(map(value_covers, one.registers, other.registers))
+        and all(map(slot_covers, one.slots, other.slots))
+    )
 
 
 def judged_small(data):
@@ -131,6 +150,7 @@ def judged_small(data):
 
 
 # ---- the program
+
 
 class Tried:
     """A program, and what was tried with it."""
@@ -166,7 +186,12 @@ class Tried:
         if status == 0:
             if self.said("run", f"{name}.image", "frames", "sent", "--table", "damaged") != self.ran[name]:
                 self.wrong.append((name, "runs otherwise", out))
-            steps = [int(word) for line in self.ran[name][1].splitlines() for key, word in zip(line.split(), line.split()[1:]) if key == "steps"]
+            steps = [
+                int(word)
+                for line in self.ran[name][1].splitlines()
+                for key, word in zip(line.split(), line.split()[1:])
+                if key == "steps"
+            ]
             if steps and int(words[2]) < max(steps):
                 self.wrong.append((name, "bound below the steps", out))
         return answer
@@ -174,7 +199,7 @@ class Tried:
 
 def changed_bytes(data, every):
     cuts = [data[:at] for at in range(len(data))]
-    changes = (data[:at] + bytes([byte]) + data[at + 1:] for at in range(len(data)) for byte in range(256) if byte != data[at])
+    changes = (data[:at] + bytes([byte]) + data[at + 1 :] for at in range(len(data)) for byte in range(256) if byte != data[at])
     yield from cuts
     for at, one in enumerate(changes):
         if at % every == 0:
@@ -189,7 +214,7 @@ def damaged(data, chance):
         if form < 5:
             data[at] = chance.choice([chance.randrange(256), data[at] ^ 1 << chance.randrange(8), 0, 1, 255])
         elif form == 5:
-            del data[at:at + chance.choice([1, 1, 4, 66])]
+            del data[at : at + chance.choice([1, 1, 4, 66])]
         elif form == 6:
             data[at:at] = bytes(chance.choice([1, 1, 4, 66]))
         else:
@@ -222,7 +247,7 @@ def main():
             with open(f"{name}.image", "rb") as file:
                 image = file.read()
             rows, slots = struct.unpack_from("<HH", image, 4)
-            code = image[len(image) - 8 * slots:]
+            code = image[len(image) - 8 * slots :]
             wide = {at for at in range(1, slots) if code[8 * at - 8] == 0x18}
             starts = set(range(slots)) - {at for at in wide if at - 1 not in wide}
             for _ in range(given.random // len(LARGER)):

@@ -123,8 +123,7 @@ def tell_numbers(folder):
         print(f"no device can be made here, so none is tried: {error}", file=sys.stderr)
         return True
     wanted = [(b"" if is_one else read(0)) + UNWRITTEN for is_one in TERMINALS.values()]
-    return all([tell(f"beside {path}", got, its) for path, got, its
-                in zip(devices, shown_beside(folder, devices), wanted)])
+    return all([tell(f"beside {path}", got, its) for path, got, its in zip(devices, shown_beside(folder, devices), wanted)])
 
 
 def many_paths():

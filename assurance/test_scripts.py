@@ -272,8 +272,13 @@ class Edits(Tree):
         beside = "./proofs/counts/most/Answers.antt:3:5: error: `returns`: no proof"
         told = "fn low::Count::next: no proof: expected answers; `search` did not prove `returns`"
         for said, wanted in (
-            ([goal, fails], goal), ([note, fails], note), ([by_name, fails], None), ([beside, fails], None), ([told], told),
-            ([goal, "fn low::Count::next: depends on a hole in `x`"], None), ([goal, "fn low::counts::next: not proved"], None),
+            ([goal, fails], goal),
+            ([note, fails], note),
+            ([by_name, fails], None),
+            ([beside, fails], None),
+            ([told], told),
+            ([goal, "fn low::Count::next: depends on a hole in `x`"], None),
+            ([goal, "fn low::counts::next: not proved"], None),
         ):
             self.assertEqual(edits.refusal("low", "Count::next", said, texts), wanted, said)
 
@@ -348,12 +353,27 @@ class InProcess(unittest.TestCase):
         record = lambda reason: struct.pack("<QIIII", 1000, 1, 0, 2, reason)
         first = struct.pack("<QIII", 1000, 1, 0, 2)
         for image, stream, ends, lines, sent in (
-            (b"XBP1", b"XPF1" + ONE * 3, [(2, 5, 0, 0), (1, 6, 0, 0), (9, 7, 0, 0)],
-             ["0 PASS 2 5", "1 DROP 2 6", "2 INVALID 2 7", "end 3"], b"XPF1" + first + turned),
-            (b"XBP1", b"XPF2" + FIRST + SKIPPED + FIRST, [(3 | 7 << 32, 5, 0, 0), (1 | 7 << 32, 5, 0, 0)],
-             ["0 TX 2 5 0", "1 SKIP 0 0 7", "2 DROP 2 5 1", "end 3"], b"XPF2" + record(0) + turned + SKIPPED + record(1) + turned),
-            (b"XBP2", b"XPF2" + FIRST + FIRST, [(1 | 7 << 32, 5, 0, 0), (4, 5, 0, 0)],
-             ["0 DROP 2 5 7", "1 REDIRECT 2 5 1", "end 2"], b"XPF2" + record(7) + turned + record(1) + turned),
+            (
+                b"XBP1",
+                b"XPF1" + ONE * 3,
+                [(2, 5, 0, 0), (1, 6, 0, 0), (9, 7, 0, 0)],
+                ["0 PASS 2 5", "1 DROP 2 6", "2 INVALID 2 7", "end 3"],
+                b"XPF1" + first + turned,
+            ),
+            (
+                b"XBP1",
+                b"XPF2" + FIRST + SKIPPED + FIRST,
+                [(3 | 7 << 32, 5, 0, 0), (1 | 7 << 32, 5, 0, 0)],
+                ["0 TX 2 5 0", "1 SKIP 0 0 7", "2 DROP 2 5 1", "end 3"],
+                b"XPF2" + record(0) + turned + SKIPPED + record(1) + turned,
+            ),
+            (
+                b"XBP2",
+                b"XPF2" + FIRST + FIRST,
+                [(1 | 7 << 32, 5, 0, 0), (4, 5, 0, 0)],
+                ["0 DROP 2 5 7", "1 REDIRECT 2 5 1", "end 2"],
+                b"XPF2" + record(7) + turned + record(1) + turned,
+            ),
             (b"XBP1", b"XPF1" + ONE * 2, [(0, 5, 1, 4), (0, 9, 2, 0)], ["0 TRAP 4 5", "1 LIMIT 0 9", "end 2"], b"XPF1"),
         ):
             with self.subTest(lines=lines):

@@ -29,7 +29,9 @@ def above(graph: dict[str, list[str]], crate: str) -> list[str]:
 
 def size_of(crate: str) -> int:
     """How many bytes the crate's code and proofs have."""
-    files = [it for part in ("src", "specs", "proofs") for it in glob.glob(f"{gate.TOP}/crates/{crate}/{part}/**/*.*", recursive=True)]
+    files = [
+        it for part in ("src", "specs", "proofs") for it in glob.glob(f"{gate.TOP}/crates/{crate}/{part}/**/*.*", recursive=True)
+    ]
     return sum(os.path.getsize(path) for path in files if path.endswith((".rt", ".antt")))
 
 

@@ -116,12 +116,19 @@ class Bench:
         said = output(*self.left("delay", "left0", f"/proc/{self.ends.right}/ns/net", "right0", str(size), str(DELAYS))).split()
         if int(said[0]) != DELAYS:
             raise Wrong(f"{way}: {said[0]} of {DELAYS} frames came out")
-        return Row(way, size, most, min(every) * 1e9, self.own(pid, size) * 1e9 if pid else 0.0, int(said[1]) / 1e3, int(said[2]) / 1e3)
+        return Row(
+            way, size, most, min(every) * 1e9, self.own(pid, size) * 1e9 if pid else 0.0, int(said[1]) / 1e3, int(said[2]) / 1e3
+        )
 
     @contextlib.contextmanager
     def bridge(self, name: str, flags: str) -> Iterator[int]:
         program = self.work / name
-        words = ["bash", str(TOP / "examples/bridge/build.sh"), str(program), *([str(self.given.library)] if self.given.library else [])]
+        words = [
+            "bash",
+            str(TOP / "examples/bridge/build.sh"),
+            str(program),
+            *([str(self.given.library)] if self.given.library else []),
+        ]
         subprocess.run(words, env={**os.environ, "CFLAGS": f"-O2 {flags}"}, check=True)
         os.sched_setaffinity(0, self.cores[1:] or self.cores)
         there = Bridge(program, self.work, str(self.image), "in0", "out0", "--maps", str(self.maps))
@@ -141,7 +148,17 @@ class Bench:
                 called("ip", "link", "set", "dev", name, "master", "between0")
             called("ip", "link", "set", "dev", "between0", "up")
             if filtered:
-                words = ["--load", "in0", str(self.image), "--fill", str(self.maps), "--mode", "generic", "--xdpvm", str(self.given.program)]
+                words = [
+                    "--load",
+                    "in0",
+                    str(self.image),
+                    "--fill",
+                    str(self.maps),
+                    "--mode",
+                    "generic",
+                    "--xdpvm",
+                    str(self.given.program),
+                ]
                 called(*tool, *words)
             time.sleep(1)
             yield

@@ -65,7 +65,9 @@ def main():
                 for command, queues in [("trace", [7] * count), ("trace", keys), ("run", keys)]:
                     with open("some.frames", "wb") as file:
                         file.write(stream(queues))
-                    row.append((took("write.image", "some.frames", command) - took("write.image", "none.frames", command)) / count * 1e6)
+                    row.append(
+                        (took("write.image", "some.frames", command) - took("write.image", "none.frames", command)) / count * 1e6
+                    )
                 print(f"{count:>7} {beside:<24}" + "".join(f"{micros:>15.2f} µs" for micros in row), flush=True)
         os.chdir("/")
 

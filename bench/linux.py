@@ -142,7 +142,9 @@ def main() -> int:
     rows = [it for it in rows if it.linux_microseconds >= given.least]
     print(f"{'image':44} {'instructions':>12} {'explored':>9} {'Linux us':>9} {'us':>9} {'ratio':>6}")
     for row in sorted(rows, key=lambda it: -it.ratio()):
-        print(f"{Path(row.image).name:44} {row.linux_instructions:12,} {row.explored if row.explored is not None else '-':>9} {row.linux_microseconds:9,} {row.microseconds:9,.0f} {row.ratio():6.2f}")
+        print(
+            f"{Path(row.image).name:44} {row.linux_instructions:12,} {row.explored if row.explored is not None else '-':>9} {row.linux_microseconds:9,} {row.microseconds:9,.0f} {row.ratio():6.2f}"
+        )
     if given.csv:
         with given.csv.open("w", newline="") as file:
             writer = csv.writer(file)

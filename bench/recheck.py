@@ -23,23 +23,26 @@ PROGRAM = os.path.abspath((sys.argv[1:] or [f"{HERE}/../crates/xdpvm/out/xdpvm"]
 TIMES = int(os.environ.get("TIMES", "5"))
 LONGEST, ENTRIES = 4096, 1_000_000
 
-DEEP = "".join(
-    f"{f'f{depth}: ' if depth else ''}r6 = 5\n*(u64 *)(r10 - 8) = r6\n*(u64 *)(r10 - 16) = r10\n"
-    + (f"call f{depth + 1}\n{'' if depth else 'r0 = 2' + chr(10)}exit\n" if depth < 6 else "")
-    for depth in range(7)
-) + "r6 = 0\nloop: r1 = r6\ncall leaf\nr6 += 1\nif r6 < 10000 goto loop\nr0 = 1\nexit\nleaf: r0 = r1\nr0 += 1\nr2 = r0\nexit\n"
+DEEP = (
+    "".join(
+        f"{f'f{depth}: ' if depth else ''}r6 = 5\n*(u64 *)(r10 - 8) = r6\n*(u64 *)(r10 - 16) = r10\n"
+        + (f"call f{depth + 1}\n{'' if depth else 'r0 = 2' + chr(10)}exit\n" if depth < 6 else "")
+        for depth in range(7)
+    )
+    + "r6 = 0\nloop: r1 = r6\ncall leaf\nr6 += 1\nif r6 < 10000 goto loop\nr0 = 1\nexit\nleaf: r0 = r1\nr0 += 1\nr2 = r0\nexit\n"
+)
 
 PROGRAMS = {
     "loop of 300,000 turns": "r1 = 0\nloop: r1 += 1\nif r1 < 300000 goto loop\nr0 = 2\nexit\n",
     "loop counted on the stack": "*(u64 *)(r10 - 8) = 0\nloop: r1 = *(u64 *)(r10 - 8)\nr1 += 1\n*(u64 *)(r10 - 8) = r1\n"
-                                 "if r1 < 100000 goto loop\nr0 = 2\nexit\n",
+    "if r1 < 100000 goto loop\nr0 = 2\nexit\n",
     "six values on the stack": open(f"{HERE}/spills.text").read(),
     "a call in each turn": "r6 = 0\nloop: r1 = r6\ncall f\nr6 += 1\nif r6 < 40000 goto loop\nr0 = 2\nexit\n"
-                           "f: r0 = r1\n*(u64 *)(r10 - 8) = r1\nr0 += 1\nr2 = *(u64 *)(r10 - 8)\nr0 += r2\nexit\n",
+    "f: r0 = r1\n*(u64 *)(r10 - 8) = r1\nr0 += 1\nr2 = *(u64 *)(r10 - 8)\nr0 += r2\nexit\n",
     "calls from the seventh frame": DEEP,
     "18 branches": "r6 = *(u32 *)(r1 + 12)\ncall zero\n"
-                   + "".join(f"if r6 & {1 << bit} goto +1\nr0 += {1 << bit}\n" for bit in range(18))
-                   + "exit\nzero: r0 = 0\nexit\n",
+    + "".join(f"if r6 & {1 << bit} goto +1\nr0 += {1 << bit}\n" for bit in range(18))
+    + "exit\nzero: r0 = 0\nexit\n",
 }
 
 
@@ -78,7 +81,7 @@ def compare(name, image, path):
     commands = {"verify": ("verify", image), "recheck": ("recheck", image, path), "short": ("recheck", image, "short")}
     size = os.path.getsize(path)
     with open(path, "rb") as source, open("short", "wb") as file:
-        entries, = struct.unpack("<I", source.read(8)[4:])
+        (entries,) = struct.unpack("<I", source.read(8)[4:])
         source.seek(0)
         file.write(source.read(size - 1))
     seconds, lines = {key: [] for key in commands}, {}
@@ -89,9 +92,12 @@ def compare(name, image, path):
     best = {key: min(taken) for key, taken in seconds.items()}
     if not lines["recheck"].startswith("ok") or lines["short"] != "refused P2":
         sys.exit(f"{name}: {lines}")
-    print(f"{name}: {entries} entries, {size / 2**20:.0f} MB; verify {best['verify']:.3f} s, recheck {best['recheck']:.3f} s"
-          f" ({entries / best['recheck'] / 1e6:.2f} million a second, {best['recheck'] / best['verify']:.2f} of verify;"
-          f" one byte short {best['short']:.3f} s), peak {peak(*commands['recheck']) - size / 2**20:.1f} MB beside the table", flush=True)
+    print(
+        f"{name}: {entries} entries, {size / 2**20:.0f} MB; verify {best['verify']:.3f} s, recheck {best['recheck']:.3f} s"
+        f" ({entries / best['recheck'] / 1e6:.2f} million a second, {best['recheck'] / best['verify']:.2f} of verify;"
+        f" one byte short {best['short']:.3f} s), peak {peak(*commands['recheck']) - size / 2**20:.1f} MB beside the table",
+        flush=True,
+    )
 
 
 def main():

@@ -150,7 +150,9 @@ def streamed(name, stream):
 
 def plain_c(image, stream):
     """The steps and the seconds of the interpreter in C."""
-    ended = [subprocess.run(["./switch", image, stream, "1"], stdout=subprocess.PIPE, text=True, check=True).stdout for _ in range(TIMES)]
+    ended = [
+        subprocess.run(["./switch", image, stream, "1"], stdout=subprocess.PIPE, text=True, check=True).stdout for _ in range(TIMES)
+    ]
     rows = [row.split() for row in ended]
     return int(rows[0][0]), min(float(row[1]) for row in rows)
 

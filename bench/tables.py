@@ -49,8 +49,7 @@ def stack_loop(turns):
 
 def call_loop(turns):
     return (
-        f"r6 = 0\nr7 = 5\nloop: r1 = r6\ncall f\nr6 += 1\nif r6 < {turns} goto loop\nr0 = 2\nexit\n"
-        "f: r0 = r1\nr0 += r1\nexit\n"
+        f"r6 = 0\nr7 = 5\nloop: r1 = r6\ncall f\nr6 += 1\nif r6 < {turns} goto loop\nr0 = 2\nexit\n" "f: r0 = r1\nr0 += r1\nexit\n"
     )
 
 
@@ -155,7 +154,9 @@ def main():
             size = os.path.getsize("p.table")
             with open("p.table", "rb") as file:
                 entries = int.from_bytes(file.read(8)[4:], "little")
-            commands = [[PROGRAM, *words.split()] for words in ("verify p.image", "prove p.image q.table", "recheck p.image p.table")]
+            commands = [
+                [PROGRAM, *words.split()] for words in ("verify p.image", "prove p.image q.table", "recheck p.image p.table")
+            ]
             taken = [[measured(words) for words in commands] for _ in range(TIMES)]
             if len({said for runs in taken for said, _ in runs}) > 1:
                 sys.exit(f"{name}: other bounds")

@@ -49,7 +49,16 @@ class Result:
 
 def run(check: Check) -> Result:
     begin = time.monotonic()
-    ran = subprocess.run(check.command.split(), cwd=TOP, stdin=subprocess.DEVNULL, stdout=subprocess.PIPE, stderr=subprocess.STDOUT, text=True, errors="replace", check=False)
+    ran = subprocess.run(
+        check.command.split(),
+        cwd=TOP,
+        stdin=subprocess.DEVNULL,
+        stdout=subprocess.PIPE,
+        stderr=subprocess.STDOUT,
+        text=True,
+        errors="replace",
+        check=False,
+    )
     return Result(check, ran.returncode, ran.stdout, time.monotonic() - begin)
 
 
@@ -81,7 +90,9 @@ def run_all(checks: list[Check], jobs: int) -> list[Result]:
 def main() -> int:
     if sys.argv[1:2] == ["near"]:
         return near.main(sys.argv[2:])
-    words = argparse.ArgumentParser(prog="python3 -m checks", description=__doc__, formatter_class=argparse.RawDescriptionHelpFormatter)
+    words = argparse.ArgumentParser(
+        prog="python3 -m checks", description=__doc__, formatter_class=argparse.RawDescriptionHelpFormatter
+    )
     words.add_argument("--list", action="store_true")
     words.add_argument("--jobs", type=int, default=len(os.sched_getaffinity(0)))
     words.add_argument("names", nargs="*", metavar="NAME")

@@ -109,7 +109,9 @@ def above(crate: str) -> list[str]:
 def is_proved(crate: str, name: str, said: list[str]) -> bool:
     """Says whether a function is proved, whatever holes the proofs of other functions have."""
     own = f".{name.replace('::', '.')}."
-    lines = [it for it in said if re.match(rf"fn {crate}::(?:\S*::)?{re.escape(name)}: (?:proved|no holes|depends on a hole in )", it)]
+    lines = [
+        it for it in said if re.match(rf"fn {crate}::(?:\S*::)?{re.escape(name)}: (?:proved|no holes|depends on a hole in )", it)
+    ]
     return bool(lines) and not any(own in it for it in lines)
 
 
@@ -127,7 +129,9 @@ def prove(crate: str, names: set[str]) -> list[str]:
 def edits_near(crate: str, names: set[str]) -> list[str]:
     """The edits of the gate and of assurance/ that change one of these functions."""
     folder = str(TOP / "crates" / crate)
-    return [it for in_gate in (True, False) for it in run.edits_of(crate, in_gate) if edits.changed_functions(folder, it)[0] & names]
+    return [
+        it for in_gate in (True, False) for it in run.edits_of(crate, in_gate) if edits.changed_functions(folder, it)[0] & names
+    ]
 
 
 def missing(crate: str) -> list[str]:
@@ -149,7 +153,10 @@ def near(crate: str, changed: Changed) -> bool:
         print(f"{crate}: the libraries of {', '.join(missing(crate))} are not there: run the gate first, bash .ci/run")
         return False
     said = prove(crate, names)
-    print("\n".join([f"{crate}: {len(names)} functions {'not all ' if said else ''}proved, {time.monotonic() - begin:.0f} s", *said]), flush=True)
+    print(
+        "\n".join([f"{crate}: {len(names)} functions {'not all ' if said else ''}proved, {time.monotonic() - begin:.0f} s", *said]),
+        flush=True,
+    )
     paths = edits_near(crate, names)
     if said or not paths:
         return not said
@@ -161,7 +168,9 @@ def near(crate: str, changed: Changed) -> bool:
 
 
 def main(given: list[str]) -> int:
-    words = argparse.ArgumentParser(prog="python3 -m checks near", description=__doc__, formatter_class=argparse.RawDescriptionHelpFormatter)
+    words = argparse.ArgumentParser(
+        prog="python3 -m checks near", description=__doc__, formatter_class=argparse.RawDescriptionHelpFormatter
+    )
     words.add_argument("--since", default="HEAD", metavar="COMMIT")
     words.add_argument("--jobs", type=int, default=2, metavar="N", help="so many crates at once")
     words.add_argument("functions", nargs="*", metavar="CRATE::FUNCTION")

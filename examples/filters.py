@@ -61,7 +61,9 @@ def wrong(path, given):
     if code:
         place = re.search(rf"^  {re.escape(os.path.basename(path))}:\d+: ", ran.stderr, re.M) or "gcc" in given.clang
         return None if ran.returncode == 2 and ran.stdout.startswith(f"refused {code} slot ") and place and not is_sent else told
-    return None if ran.returncode == 1 and re.search(message, ran.stderr) and "Traceback" not in ran.stderr and not is_sent else told
+    return (
+        None if ran.returncode == 1 and re.search(message, ran.stderr) and "Traceback" not in ran.stderr and not is_sent else told
+    )
 
 
 def paths(given):

@@ -199,17 +199,31 @@ frame 2000 interface 0 queue 0 reason 4294967295
   0000: 61                                              |a|
 """
 RECORDS = (
-    "58504632"                                                                      # XPF2
-    "e803000000000000" "01000000" "00000000" "02000000" "07000000" "cafe"           # time, interface, queue, length, reason
-    "ffffffffffffffff" "02000000" "00000000" "00000000" "00000000"
-    "d007000000000000" "00000000" "00000000" "01000000" "ffffffff" "61"
+    "58504632"  # XPF2
+    "e803000000000000"
+    "01000000"
+    "00000000"
+    "02000000"
+    "07000000"
+    "cafe"  # time, interface, queue, length, reason
+    "ffffffffffffffff"
+    "02000000"
+    "00000000"
+    "00000000"
+    "00000000"
+    "d007000000000000"
+    "00000000"
+    "00000000"
+    "01000000"
+    "ffffffff"
+    "61"
 )
 
 CAPTURE = (
-    "0a0d0d0a 1c000000 4d3c2b1a 01000000 ffffffff ffffffff 1c000000"                # a pcapng: its section,
-    "01000000 14000000 01000000 00000000 14000000"                                  # Ethernet, times in microseconds,
-    "06000000 34000000 00000000 00000000 01000000 02000000 02000000 cafe0000"       # a packet of two bytes,
-    "01000800 726561736f6e2037 00000000 34000000"                                   # and its comment `reason 7`
+    "0a0d0d0a 1c000000 4d3c2b1a 01000000 ffffffff ffffffff 1c000000"  # a pcapng: its section,
+    "01000000 14000000 01000000 00000000 14000000"  # Ethernet, times in microseconds,
+    "06000000 34000000 00000000 00000000 01000000 02000000 02000000 cafe0000"  # a packet of two bytes,
+    "01000800 726561736f6e2037 00000000 34000000"  # and its comment `reason 7`
 )
 CAPTURED = "58504632" "e803000000000000" "00000000" "00000000" "02000000" "07000000" "cafe"
 

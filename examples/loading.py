@@ -58,9 +58,7 @@ def examples(page: str) -> Iterator[Tuple[str, str, str]]:
             with open(kind, "w") as file:
                 file.write(body)
         for command, wanted in COMMAND.findall(body) if kind in ("console", "namespace") else []:
-            ran = subprocess.run(
-                ["bash", "-c", command], stdin=subprocess.DEVNULL, capture_output=True, text=True, timeout=100
-            )
+            ran = subprocess.run(["bash", "-c", command], stdin=subprocess.DEVNULL, capture_output=True, text=True, timeout=100)
             yield command, wanted, ran.stdout + (f"{ran.stderr}" if ran.stdout != wanted else "")
 
 

@@ -95,14 +95,19 @@ def costs(page: str) -> list[str]:
     """How each row of what a change costs differs from what bench/costs.py prints; empty where it does not. A percent is the size of a crate
     that is estimated."""
     rows = re.findall(r"^\| `(\w+)` \| (\d+) of (\d+) \| ([\d,]+) \| ([\d,]+) \|$", page, re.M)
-    printed = subprocess.run([sys.executable, f"{TOP}/bench/costs.py", *(it[0] for it in rows)], capture_output=True, text=True, check=True).stdout
+    printed = subprocess.run(
+        [sys.executable, f"{TOP}/bench/costs.py", *(it[0] for it in rows)], capture_output=True, text=True, check=True
+    ).stdout
     now = re.findall(r"^\| `(\w+)` \| (\d+) of (\d+) \| ([\d,]+) \| ([\d,]+) \|$", printed, re.M)
 
     def is_near(one: str, other: str) -> bool:
         a, b = (int(it.replace(",", "")) for it in (one, other))
         return abs(a - b) * 100 <= b
 
-    return ["" if old[:3] == new[:3] and all(map(is_near, old[3:], new[3:])) else f"{old[0]}: costs.py prints {new}" for old, new in zip(rows, now)]
+    return [
+        "" if old[:3] == new[:3] and all(map(is_near, old[3:], new[3:])) else f"{old[0]}: costs.py prints {new}"
+        for old, new in zip(rows, now)
+    ]
 
 
 def told(found: list[str]) -> NoReturn:
@@ -137,7 +142,13 @@ def whole(page: str) -> list[str]:
                     subprocess.run(shlex.split(command), cwd=f"{at}/crates/known_bits", check=True)
                 continue
             script = "set -e\n" + body.replace("git clone URL", f"git clone -q {shlex.quote(TOP)}")
-            how = {"stdin": subprocess.DEVNULL, "stdout": subprocess.PIPE, "stderr": subprocess.STDOUT, "text": True, "errors": "replace"}
+            how = {
+                "stdin": subprocess.DEVNULL,
+                "stdout": subprocess.PIPE,
+                "stderr": subprocess.STDOUT,
+                "text": True,
+                "errors": "replace",
+            }
             ran = subprocess.run(["bash", "-c", script], cwd=at, env=own, check=False, **how)
             is_fine = ran.returncode == 0 and re.search(next(wanted), ran.stdout)
             found.append("" if is_fine else f"{body}ended with status {ran.returncode}:\n{ran.stdout[-3000:]}")

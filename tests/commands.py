@@ -40,8 +40,10 @@ from itertools import takewhile
 from pathlib import Path
 
 TOP = Path(__file__).resolve().parent.parent
-PROGRAMS = {name: os.path.abspath((sys.argv[at:] or [TOP / f"crates/{name}/out/{name}"])[0])
-            for at, name in enumerate(("xdpvm", "xdpvm_survey", "xdpvm_filter"), 1)}
+PROGRAMS = {
+    name: os.path.abspath((sys.argv[at:] or [TOP / f"crates/{name}/out/{name}"])[0])
+    for at, name in enumerate(("xdpvm", "xdpvm_survey", "xdpvm_filter"), 1)
+}
 PART = re.compile(r"(?:(\d+)\*)?(?:'([^']*)'|((?:[0-9a-f]{2})+))(?:\s+|$)")
 ANSWER = ("1>", "1*", "2>", "status", "same")
 READER, UNREAD = os.pipe()
@@ -70,10 +72,11 @@ def cases_of(path):
             lines[-1] = (*lines[-1][:2], f"{lines[-1][2]} {rest.strip()}")
     starts = [at for at, line in enumerate(lines) if line[1] == "=="] + [len(lines)]
     for start, end in zip(starts, starts[1:]):
-        case = lines[:starts[0]] + lines[start + 1:end]
+        case = lines[: starts[0]] + lines[start + 1 : end]
         first, last = next((line[2].split("-") for line in case if line[1] == "each"), (0, 0))
-        yield [[(number, word, rest.replace("{}", str(n))) for number, word, rest in case]
-               for n in range(int(first), int(last) + 1)]
+        yield [
+            [(number, word, rest.replace("{}", str(n))) for number, word, rest in case] for n in range(int(first), int(last) + 1)
+        ]
 
 
 def run(command, room=None):
@@ -83,10 +86,16 @@ def run(command, room=None):
     limits = resource.getrlimit(resource.RLIMIT_FSIZE) if room is None else (room, room)
     with open(name, "wb") if sign == ">" else tempfile.TemporaryFile() as file:
         output = {"|": UNREAD, ">": file}.get(sign, subprocess.PIPE if room is None else file)
-        ran = subprocess.run([PROGRAMS[program], *words], stdin=subprocess.DEVNULL, stdout=output,
-                             stderr=subprocess.PIPE, timeout=300, check=False,
-                             preexec_fn=lambda: resource.setrlimit(resource.RLIMIT_FSIZE, limits),
-                             restore_signals=room is None)
+        ran = subprocess.run(
+            [PROGRAMS[program], *words],
+            stdin=subprocess.DEVNULL,
+            stdout=output,
+            stderr=subprocess.PIPE,
+            timeout=300,
+            check=False,
+            preexec_fn=lambda: resource.setrlimit(resource.RLIMIT_FSIZE, limits),
+            restore_signals=room is None,
+        )
         file.seek(0)
         return ran.stdout or (b"" if sign else file.read()), ran.stderr, ran.returncode
 
@@ -124,7 +133,7 @@ def differences(case):
     room = None
     while case:
         commands = list(takewhile(lambda line: line[1] == "$", case))
-        answer = list(takewhile(lambda line: line[1] in ANSWER, case[len(commands):]))
+        answer = list(takewhile(lambda line: line[1] in ANSWER, case[len(commands) :]))
         has = {word: [rest for _, its, rest in answer if its == word] for word in ANSWER}
         said = [line for _, word, rest in answer for line in lines_of(word, rest)]
         out, err = ("".join(f"{line}\n" for line in lines).encode() for lines in (said, has["2>"]))
@@ -141,7 +150,7 @@ def differences(case):
         if not commands:
             prepare(case[0][1], *case[0][2].partition(" ")[::2])
             room = int(case[0][2]) if case[0][1] == "room" else room
-        case = case[len(commands) + len(answer) or 1:]
+        case = case[len(commands) + len(answer) or 1 :]
 
 
 def main():

@@ -17,8 +17,15 @@ import tempfile
 
 TOP = os.path.dirname(os.path.dirname(os.path.abspath(__file__)))
 STREAMED = ("image", "frames", "out")
-WORDS = {"asm": ("text", "image"), "dis": ("image",), "verify": ("image",), "run": STREAMED,
-         "trace": STREAMED, "prove": ("image", "table"), "recheck": ("image", "table")}
+WORDS = {
+    "asm": ("text", "image"),
+    "dis": ("image",),
+    "verify": ("image",),
+    "run": STREAMED,
+    "trace": STREAMED,
+    "prove": ("image", "table"),
+    "recheck": ("image", "table"),
+}
 WRITTEN = {"bytes": "image", "sent": "out", "proof": "table"}
 
 
@@ -37,10 +44,10 @@ def bytes_of(value):
     made, words = bytearray(), iter(re.findall(r'(?:\d+\*)?"[^"]*"|\S+', value))
     for word in words:
         if word == "cut":
-            del made[int(next(words)):]
+            del made[int(next(words)) :]
         elif word == "at":
             place, piece = int(next(words)), bytes_of(next(words))
-            made[place:place + len(piece)] = piece
+            made[place : place + len(piece)] = piece
         else:
             times, what = re.fullmatch(r"(?:(\d+)\*)?(.*)", word).groups()
             piece = what[1:-1].encode() if what[0] == '"' else bytes.fromhex(what)
@@ -139,8 +146,7 @@ def main():
     cases = [case for path in files for case in cases_of(path)]
     pool = concurrent.futures.ThreadPoolExecutor(os.cpu_count())
     with tempfile.TemporaryDirectory() as folder, pool:
-        tried = [pool.submit(differences, program[0], pathlib.Path(folder, str(at)), *case)
-                 for at, case in enumerate(cases)]
+        tried = [pool.submit(differences, program[0], pathlib.Path(folder, str(at)), *case) for at, case in enumerate(cases)]
         wrong = [trial.result() for trial in tried if trial.result()]
     print(*sum(wrong, []), f"{len(cases)} cases, {len(wrong)} differ", sep="\n")
     sys.exit(1 if wrong or not cases else 0)

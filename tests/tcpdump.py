@@ -170,11 +170,7 @@ def main() -> int:
                 differ += 1
                 print(f"{case.said}: {why}")
     compared = sum(case.frames is not None for case in found)
-    by = (
-        "and with the tcpdump of this machine"
-        if gate.has_tcpdump
-        else "by stored results only, since there is no tcpdump"
-    )
+    by = "and with the tcpdump of this machine" if gate.has_tcpdump else "by stored results only, since there is no tcpdump"
     print(f"{len(found)} expressions, {compared} compared on {len(frames)} frames {by}, {differ} differ")
     return 1 if differ or not compared else 0
 

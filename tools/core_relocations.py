@@ -152,7 +152,9 @@ class Kernel:
             with open(self.path, "rb") as file:
                 return Types(file.read())
         except OSError as why:
-            raise Refused(f"the kernel's type information is needed, and {self.path} cannot be read: {why.strerror} (--btf)") from None
+            raise Refused(
+                f"the kernel's type information is needed, and {self.path} cannot be read: {why.strerror} (--btf)"
+            ) from None
         except (struct.error, IndexError, ValueError):
             raise Refused(f"{self.path} is no type information") from None
 

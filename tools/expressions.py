@@ -183,9 +183,7 @@ class Translator:
         for at in self.order:
             it = self.program[at]
             if self.is_put(at):
-                reads: List[Place] = (
-                    [A] if it.uses_a() and not (self.lengths.is_length(at) and it.compares_length()) else []
-                )
+                reads: List[Place] = [A] if it.uses_a() and not (self.lengths.is_length(at) and it.compares_length()) else []
                 reads += [X] if it.uses_x() else []
                 reads += [it.k] if it.is_loading() and it.mode == MEM else []
                 found += [name for name in reads if name in self.limits.unset[at] and name not in found]

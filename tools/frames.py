@@ -54,12 +54,12 @@ from outputs import IsRead, Output, end_by_signal
 
 Frame = collections.namedtuple("Frame", "time interface queue body reason", defaults=[0])
 Form = collections.namedtuple("Form", "head most")
-FORMS = {b"XPF1": Form("<QIII", 4096), b"XPF2": Form("<QIIII", 9216)}       # time, interface, queue, length, reason
-ETHERNET, SLL, SLL2 = 1, 113, 276           # link types
+FORMS = {b"XPF1": Form("<QIII", 4096), b"XPF2": Form("<QIIII", 9216)}  # time, interface, queue, length, reason
+ETHERNET, SLL, SLL2 = 1, 113, 276  # link types
 SECOND = 10**9
-TOO_LONG = 2**32 - 1                        # the reason of a frame that a stream cannot hold
-PIECE = 1 << 24                             # no frame and no block of a capture is longer
-MOST_TOLD = 3                               # so many frames that are too long are told one by one
+TOO_LONG = 2**32 - 1  # the reason of a frame that a stream cannot hold
+PIECE = 1 << 24  # no frame and no block of a capture is longer
+MOST_TOLD = 3  # so many frames that are too long are told one by one
 
 
 class Damaged(Exception):
@@ -122,6 +122,7 @@ def unpack(form, data, at, what):
 
 # ---- frame streams
 
+
 def read_stream(source, counts):
     form, number = FORMS[source.take(4, "the magic")], 0
     while not source.is_at_end():
@@ -144,9 +145,13 @@ def write_stream(frames, magic, put):
             continue
         too_long += 1
         if too_long <= MOST_TOLD and reason:
-            tell(f"frame {number} has {len(frame.body)} bytes, more than {form.most}: an empty one with the reason {TOO_LONG} takes its place")
+            tell(
+                f"frame {number} has {len(frame.body)} bytes, more than {form.most}: an empty one with the reason {TOO_LONG} takes its place"
+            )
         elif too_long <= MOST_TOLD:
-            tell(f"frame {number} is left out: it has {len(frame.body)} bytes, more than {form.most} (--reasons keeps up to {FORMS[b'XPF2'].most:,})")
+            tell(
+                f"frame {number} is left out: it has {len(frame.body)} bytes, more than {form.most} (--reasons keeps up to {FORMS[b'XPF2'].most:,})"
+            )
         if reason:
             put(struct.pack(form.head, frame.time, frame.interface, frame.queue, 0, TOO_LONG))
     if too_long > MOST_TOLD:
@@ -168,6 +173,7 @@ FORMATS = {b"XPF1": write_first_form, b"XPF2": write_second_form}
 
 # ---- link types
 
+
 def ethernet(link, body, interface):
     """The Ethernet frame that a captured one is, and its interface."""
     if link == SLL and len(body) >= 16:
@@ -185,14 +191,18 @@ def known(link, what):
 
 # ---- pcap
 
-PCAP = {b"\xa1\xb2\xc3\xd4": (">", 1000), b"\xd4\xc3\xb2\xa1": ("<", 1000),
-        b"\xa1\xb2\x3c\x4d": (">", 1), b"\x4d\x3c\xb2\xa1": ("<", 1)}
+PCAP = {
+    b"\xa1\xb2\xc3\xd4": (">", 1000),
+    b"\xd4\xc3\xb2\xa1": ("<", 1000),
+    b"\xa1\xb2\x3c\x4d": (">", 1),
+    b"\x4d\x3c\xb2\xa1": ("<", 1),
+}
 
 
 def read_pcap(source, counts):
     head = source.take(24, "its head")
     order, unit = PCAP[head[:4]]
-    link = known(struct.unpack_from(order + "I", head, 20)[0] & 0xffff, "its")
+    link = known(struct.unpack_from(order + "I", head, 20)[0] & 0xFFFF, "its")
     number = 0
     while not source.is_at_end():
         what = f"frame {number}"
@@ -204,7 +214,7 @@ def read_pcap(source, counts):
 
 
 def write_pcap(frames, put):
-    put(struct.pack("<IHHiIII", 0xa1b23c4d, 2, 4, 0, 0, 0x40000, ETHERNET))
+    put(struct.pack("<IHHiIII", 0xA1B23C4D, 2, 4, 0, 0, 0x40000, ETHERNET))
     places = reasons = False
     for number, frame in enumerate(frames):
         if frame.time >= SECOND << 32:
@@ -221,7 +231,7 @@ def write_pcap(frames, put):
 # ---- pcapng
 
 SECTION, INTERFACE, SIMPLE, ENHANCED = 0x0A0D0D0A, 1, 3, 6
-END, COMMENT, RESOLUTION = 0, 1, 9      # options of blocks
+END, COMMENT, RESOLUTION = 0, 1, 9  # options of blocks
 
 
 def options_of(order, options):
@@ -231,7 +241,7 @@ def options_of(order, options):
         code, length = struct.unpack_from(order + "HH", options, at)
         if code == END:
             break
-        yield code, options[at + 4:at + 4 + length]
+        yield code, options[at + 4 : at + 4 + length]
         at += 4 + (length + 3) // 4 * 4
 
 
@@ -239,7 +249,7 @@ def ticks_of(order, options):
     """How many ticks a second the times of an interface have: 1,000,000 where no option says another number."""
     for code, value in options_of(order, options):
         if code == RESOLUTION and len(value) == 1:
-            return 1 << (value[0] & 127) if value[0] & 128 else 10**value[0]
+            return 1 << (value[0] & 127) if value[0] & 128 else 10 ** value[0]
     return 10**6
 
 
@@ -285,8 +295,8 @@ def packet(kind, order, block, interfaces, what, counts):
     known(link, f"interface {number}'s")
     if start + length > len(block):
         raise Damaged(f"{what} is too short")
-    body, number = ethernet(link, block[start:start + length], number)
-    reason = reason_of(order, block[start + (length + 3) // 4 * 4:]) if kind == ENHANCED else 0
+    body, number = ethernet(link, block[start : start + length], number)
+    reason = reason_of(order, block[start + (length + 3) // 4 * 4 :]) if kind == ENHANCED else 0
     counts["cut"] += length < whole
     return Frame(time * SECOND // ticks, number, 0, body, reason)
 
@@ -301,7 +311,7 @@ def write_pcapng(frames, put):
     def comment(text):
         return struct.pack("<HH", COMMENT, len(text)) + padded(text) + struct.pack("<HH", END, 0)
 
-    put(block(SECTION, struct.pack("<IHHq", 0x1a2b3c4d, 1, 0, -1)))
+    put(block(SECTION, struct.pack("<IHHq", 0x1A2B3C4D, 1, 0, -1)))
     row = block(INTERFACE, struct.pack("<HHI", ETHERNET, 0, 0) + struct.pack("<HHB3xHH", RESOLUTION, 1, 9, END, 0))
     put(row)
     described, queues = 1, False
@@ -312,7 +322,7 @@ def write_pcapng(frames, put):
             put(row)
             described += 1
         size = len(frame.body)
-        head = struct.pack("<IIIII", frame.interface, frame.time >> 32, frame.time & 0xffffffff, size, size)
+        head = struct.pack("<IIIII", frame.interface, frame.time >> 32, frame.time & 0xFFFFFFFF, size, size)
         told = comment(b"reason %d" % frame.reason) if frame.reason else b""
         put(block(ENHANCED, head + padded(frame.body) + told))
         queues = queues or frame.queue
@@ -361,13 +371,14 @@ def write_text(frames, put):
         reason = f" reason {frame.reason}" if frame.reason else ""
         lines = [f"frame {frame.time} interface {frame.interface} queue {frame.queue}{reason}"]
         for at in range(0, len(frame.body), 16):
-            row = frame.body[at:at + 16]
+            row = frame.body[at : at + 16]
             shown = "".join(chr(byte) if 32 <= byte < 127 else "." for byte in row)
             lines.append(f"  {at:04x}: {row.hex(' '):47} |{shown}|")
         put("".join(line + "\n" for line in lines).encode())
 
 
 # ---- files
+
 
 def opened(path):
     """The file of that name, unpacked if it is packed."""
@@ -425,7 +436,9 @@ def writer_for(out, kind, is_stream, has_reasons):
     kind = kind or os.path.splitext(out)[1][1:]
     if kind not in by_name:
         if is_stream:
-            raise Damaged("what it is to become does not follow from its name: let it end in .pcap, .pcapng, .frames or .txt, or give --to KIND")
+            raise Damaged(
+                "what it is to become does not follow from its name: let it end in .pcap, .pcapng, .frames or .txt, or give --to KIND"
+            )
         kind = "frames"
     return by_name[kind]
 
@@ -456,9 +469,14 @@ def convert(words, source, state):
 
 
 def main():
-    parser = argparse.ArgumentParser(description=named(__doc__ or ""), formatter_class=argparse.RawDescriptionHelpFormatter,
-                                     usage=named("python3 tools/frames.py [--to KIND] [--interface N] [--queue N] [--reasons] [--strict] IN OUT\n"
-                                           "       python3 tools/frames.py [--strict] --show IN"))
+    parser = argparse.ArgumentParser(
+        description=named(__doc__ or ""),
+        formatter_class=argparse.RawDescriptionHelpFormatter,
+        usage=named(
+            "python3 tools/frames.py [--to KIND] [--interface N] [--queue N] [--reasons] [--strict] IN OUT\n"
+            "       python3 tools/frames.py [--strict] --show IN"
+        ),
+    )
     parser.add_argument("--show", action="store_true", help="print IN as text")
     parser.add_argument("--to", choices=["pcap", "pcapng", "frames", "txt"], help="what OUT is to be, whatever its name")
     parser.add_argument("--interface", type=number, help="of all frames")

@@ -30,14 +30,32 @@ VALUES = {
 
 # a value that is a limit in these forms only; {n} is the number
 FORMS = (
-    (64, "slots of a call frame", (r"replicate {n}\b", r"Slot; {n}\]", r"0\.\.{n}\b", r"slot < {n}\b",
-                                   r"\bk < {n}\b", r"slots ≡ {n}\b", r"\bslot_in\b.*\b{n}\b",
-                                   r"\bblank_\w+ c\..*\b{n}\b")),
-    (64, "bytes of a key", (r"\[u8; {n}\]", r"\[0; {n}\]", r"\[0u8; {n}\]", r"key_size ≤ {n}\b",
-                            r"key_size <= {n}\b")),
-    (8, "call frames", (r"frames\S* (?:<|≤|≡|<=|==) {n}\b", r"depth\S* (?:<|≤|≡|<=|==) {n}\b",
-                        r"saved\S* (?:\+ 1 )?(?:<|≤|≡) {n}\b", r"callers (?:<|≤|≡) {n}\b",
-                        r"saved\.items (?:\+ 1 )?< {n}\b")),
+    (
+        64,
+        "slots of a call frame",
+        (
+            r"replicate {n}\b",
+            r"Slot; {n}\]",
+            r"0\.\.{n}\b",
+            r"slot < {n}\b",
+            r"\bk < {n}\b",
+            r"slots ≡ {n}\b",
+            r"\bslot_in\b.*\b{n}\b",
+            r"\bblank_\w+ c\..*\b{n}\b",
+        ),
+    ),
+    (64, "bytes of a key", (r"\[u8; {n}\]", r"\[0; {n}\]", r"\[0u8; {n}\]", r"key_size ≤ {n}\b", r"key_size <= {n}\b")),
+    (
+        8,
+        "call frames",
+        (
+            r"frames\S* (?:<|≤|≡|<=|==) {n}\b",
+            r"depth\S* (?:<|≤|≡|<=|==) {n}\b",
+            r"saved\S* (?:\+ 1 )?(?:<|≤|≡) {n}\b",
+            r"callers (?:<|≤|≡) {n}\b",
+            r"saved\.items (?:\+ 1 )?< {n}\b",
+        ),
+    ),
     (7, "callers", (r"AbstractFrame, {n}>",)),
     (16, "maps", (r"maps\S* (?:<|≤|<=|>) {n}\b", r"rows ≤ {n}\b", r"\bm < {n}\b", r"map_named w < {n}\b")),
 )
@@ -56,6 +74,7 @@ EXCEPTIONS = (
 
 def bare(text, antt):
     """The text without comments and strings, with the same lines."""
+
     def without(m):
         part = m[0].removeprefix("b")
         if part.startswith("'"):

@@ -90,8 +90,11 @@ STATUSES["xdpvm_filter"] = (
     (4, "a file or an output cannot be read or written"),
     (5, "out of memory"),
 )
-PAGES = {"xdpvm": "docs/GUIDE.md and docs/REFUSALS.md", "xdpvm_survey": "docs/SURVEY.md and docs/REFUSALS.md",
-         "xdpvm_filter": "docs/FORMATS.md and docs/REFUSALS.md"}
+PAGES = {
+    "xdpvm": "docs/GUIDE.md and docs/REFUSALS.md",
+    "xdpvm_survey": "docs/SURVEY.md and docs/REFUSALS.md",
+    "xdpvm_filter": "docs/FORMATS.md and docs/REFUSALS.md",
+}
 OTHERS = {"xdpvm": ("xdpvm_filter", "xdpvm_survey"), "xdpvm_survey": ("xdpvm",), "xdpvm_filter": ("xdpvm",)}
 
 
@@ -117,8 +120,13 @@ def synopsis(name, command):
 
 
 def manual(name, about, commands):
-    lines = ['.\\" Made by tools/manual.py of what the program says as its help.', f".TH {name.upper()} 1", ".SH NAME",
-             f"{name} \\- {roff(about[0].lower() + about[1:])}", ".SH SYNOPSIS"]
+    lines = [
+        '.\\" Made by tools/manual.py of what the program says as its help.',
+        f".TH {name.upper()} 1",
+        ".SH NAME",
+        f"{name} \\- {roff(about[0].lower() + about[1:])}",
+        ".SH SYNOPSIS",
+    ]
     for command in commands:
         lines += [synopsis(name, command), ".br"]
     lines[-1:] = [".SH COMMANDS"]
@@ -139,19 +147,35 @@ def manual(name, about, commands):
 
 # ---- completions
 
+
 def bash(name, commands):
-    lines = [f"# Completions of {name} for bash, made by tools/manual.py.", f"_{name}() {{",
-             '    local word=${COMP_WORDS[COMP_CWORD]} command=${COMP_WORDS[1]}', "    COMPREPLY=()"]
+    lines = [
+        f"# Completions of {name} for bash, made by tools/manual.py.",
+        f"_{name}() {{",
+        "    local word=${COMP_WORDS[COMP_CWORD]} command=${COMP_WORDS[1]}",
+        "    COMPREPLY=()",
+    ]
     own = [one for one in commands if not one.name]
     first = [one.name for one in commands if one.name] + [f"--{it.name}" for one in own for it in one.options]
-    lines += ["    if ((COMP_CWORD == 1)); then",
-              f'        mapfile -t COMPREPLY < <(compgen -W "{" ".join(first)} --help --version" {"-f " if own else ""}-- "$word")',
-              "        return", "    fi", '    if [[ $word == -* ]]; then', "        case $command in"]
-    for command in commands[len(own):] + own:
+    lines += [
+        "    if ((COMP_CWORD == 1)); then",
+        f'        mapfile -t COMPREPLY < <(compgen -W "{" ".join(first)} --help --version" {"-f " if own else ""}-- "$word")',
+        "        return",
+        "    fi",
+        "    if [[ $word == -* ]]; then",
+        "        case $command in",
+    ]
+    for command in commands[len(own) :] + own:
         flags = " ".join([f"--{one.name}" for one in command.options] + ["--help"])
         lines.append(f'        {command.name or "*"}) mapfile -t COMPREPLY < <(compgen -W "{flags}" -- "$word") ;;')
-    lines += ["        esac", "        return", "    fi", '    mapfile -t COMPREPLY < <(compgen -f -- "$word")', "}",
-              f"complete -o filenames -F _{name} {name}"]
+    lines += [
+        "        esac",
+        "        return",
+        "    fi",
+        '    mapfile -t COMPREPLY < <(compgen -f -- "$word")',
+        "}",
+        f"complete -o filenames -F _{name} {name}",
+    ]
     return "\n".join(lines) + "\n"
 
 
@@ -172,14 +196,19 @@ def arguments_of(command):
 
 
 def zsh(name, commands):
-    lines = [f"#compdef {name}", f"# Completions of {name} for zsh, made by tools/manual.py.", f"_{name}() {{", "    local -a commands",
-             "    commands=("]
+    lines = [
+        f"#compdef {name}",
+        f"# Completions of {name} for zsh, made by tools/manual.py.",
+        f"_{name}() {{",
+        "    local -a commands",
+        "    commands=(",
+    ]
     own = [one for one in commands if not one.name]
     lines += [f"        '{one.name}:{quoted(one.about)}'" for one in commands if one.name]
     lines += ["    )", "    if ((CURRENT == 2)); then", "        _describe command commands"]
     lines += ["        _files"] if own else []
     lines += ["        return", "    fi", "    case $words[2] in"]
-    for command in commands[len(own):] + own:
+    for command in commands[len(own) :] + own:
         lines.append(f"    {command.name or '*'})")
         lines += ["        " + ("shift words; ((CURRENT--)); " if command.name else "") + arguments_of(command), "        ;;"]
     lines += ["    esac", "}", f'_{name} "$@"']
@@ -198,6 +227,7 @@ def fish(name, commands):
 
 
 # ---- all
+
 
 def made(program):
     name = os.path.basename(program)

@@ -142,9 +142,7 @@ def write_object(given: argparse.Namespace, data: bytes) -> int:
         out.put(it.bytes)
     if it.begins:
         which = ", ".join(it.maps[index] for index in it.begins)
-        words = (
-            f"with the values of {path_of(given.image)}: each loader fills them in; other maps begin empty, or as zeros"
-        )
+        words = f"with the values of {path_of(given.image)}: each loader fills them in; other maps begin empty, or as zeros"
         print(f"{given.object}: {which} begin{'' if len(it.begins) > 1 else 's'} {words}", file=sys.stderr)
     if not program.is_in_order_of_calls():
         words = "its functions are not in the order of their calls, so image.py makes another image of the object"

@@ -172,9 +172,7 @@ class Loader:
         need_file_system(self.place.folder)
         there = attached(self.place.device) if self.place.device else None
         if there and there.id not in pinned(self.place) and not replaces:
-            words = (
-                f"{self.place.said} has a program that object.py did not load (id {there.id}); --replace replaces it"
-            )
+            words = f"{self.place.said} has a program that object.py did not load (id {there.id}); --replace replaces it"
             raise Failed(words)
         kept = self.kept() if keeps else {}
         remove(self.next)
@@ -189,9 +187,7 @@ class Loader:
             raise
         remove(self.place.folder)
         os.rename(self.next, self.place.folder)
-        done = (
-            "loaded" if not self.place.device else "attached" if not there else "attached in place of the old program"
-        )
+        done = "loaded" if not self.place.device else "attached" if not there else "attached in place of the old program"
         return f"{self.place.said}: {done}; pinned in {self.place.folder}"
 
     def kept(self) -> Dict[int, str]:

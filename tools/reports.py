@@ -88,15 +88,9 @@ def tell_report(lines: Iterable[str], source: Source, shows_all: bool) -> None:
     if not last:
         return
     total = sum(actions.values())
-    say(
-        f"{plural(total, 'frame')}: "
-        + (", ".join(f"{count:,} {name}" for name, count in actions.most_common()) or "none")
-    )
+    say(f"{plural(total, 'frame')}: " + (", ".join(f"{count:,} {name}" for name, count in actions.most_common()) or "none"))
     if reasons:
-        say(
-            "reasons: "
-            + ", ".join(f"{reason} ({count:,})" for reason, count in sorted(reasons.items(), key=lambda it: -it[1]))
-        )
+        say("reasons: " + ", ".join(f"{reason} ({count:,})" for reason, count in sorted(reasons.items(), key=lambda it: -it[1])))
     tell_maps(entries, source, shows_all)
     if last.startswith("fault"):
         say(last)

@@ -45,7 +45,7 @@ from inputs import NoText, named, text_lines
 from outputs import IsRead, end_by_signal, write_whole
 
 MAGIC = b"XPT1"
-MOST = 1_000_000                # entries of a table, and steps of a run
+MOST = 1_000_000  # entries of a table, and steps of a run
 UNSET, CONTEXT, END = ("unset",), ("context",), ("end",)
 KINDS = ["unset", "number", "context", "stack", "packet", "end", "map", "value", "null"]
 FIELDS = {"number": "<QQQQqqIIii", "stack": "<Bi", "packet": "<iIiiI", "map": "<B", "value": "<Bii", "null": "<BI"}
@@ -80,7 +80,7 @@ class Entry:
 
 
 def any_number():
-    return ("number", 0, 2**64 - 1, 0, 2**64 - 1, -2**63, 2**63 - 1, 0, 2**32 - 1, -2**31, 2**31 - 1)
+    return ("number", 0, 2**64 - 1, 0, 2**64 - 1, -(2**63), 2**63 - 1, 0, 2**32 - 1, -(2**31), 2**31 - 1)
 
 
 def signed(number, bits):
@@ -93,6 +93,7 @@ def constant(number):
 
 
 # ---- bytes
+
 
 def value_bytes(value):
     name = value[0]
@@ -133,7 +134,7 @@ class Reader:
         return struct.unpack(form, data)
 
     def byte(self, least, most):
-        number, = self.take("<B")
+        (number,) = self.take("<B")
         if not least <= number <= most:
             raise Refused("P5", self.entry)
         return number
@@ -147,7 +148,7 @@ class Reader:
 
     def frame(self):
         frame = Frame()
-        frame.leads, = self.take("<H")
+        (frame.leads,) = self.take("<H")
         frame.registers = [self.value() for _ in range(10)]
         frame.slots = [self.stack_slot() for _ in range(64)]
         return frame
@@ -182,6 +183,7 @@ def entries_of(data):
 
 # ---- text
 
+
 def limits_text(least, greatest):
     return f"{least}..{greatest}"
 
@@ -193,8 +195,8 @@ def number_text(value):
     if value[1:3] != every[1:3]:
         parts += [f"{value[1]} mask {value[2]:#x}"]
     for name, at in (("u", 3), ("s", 5), ("lu", 7), ("ls", 9)):
-        if value[at:at + 2] != every[at:at + 2]:
-            parts += [name, limits_text(*value[at:at + 2])]
+        if value[at : at + 2] != every[at : at + 2]:
+            parts += [name, limits_text(*value[at : at + 2])]
     return " ".join(parts)
 
 
@@ -284,7 +286,7 @@ def number_from(words):
             value[1:3] = number, words.number()
     for name, at in (("u", 3), ("s", 5), ("lu", 7), ("ls", 9)):
         if words.follows(name):
-            value[at:at + 2] = words.limits()
+            value[at : at + 2] = words.limits()
     return tuple(value)
 
 

@@ -192,11 +192,19 @@ class Endless(InFolder):
             table.write(content(f"{self.folder}/pass.table"))
             table.truncate(1 << 40)
         for path in ("/dev/zero", "/dev/urandom", "open"):
-            for command in (("frames.py", path, "x.frames"), ("table.py", "show", path), ("table.py", "make", path, "x.table"), ("image.py", path, "x.image")):
+            for command in (
+                ("frames.py", path, "x.frames"),
+                ("table.py", "show", path),
+                ("table.py", "make", path, "x.table"),
+                ("image.py", path, "x.image"),
+            ):
                 with self.subTest(command=command):
                     self.assertTrue(self.answered(*command))
         self.assertEqual(self.answered("table.py", "show", "zeros.table"), b"table.py: P3\n")
-        self.assertEqual(self.answered("frames.py", "/dev/null", "x.frames"), b"/dev/null: it is empty, and a capture or a frame stream has at least its head\n")
+        self.assertEqual(
+            self.answered("frames.py", "/dev/null", "x.frames"),
+            b"/dev/null: it is empty, and a capture or a frame stream has at least its head\n",
+        )
 
 
 class Pipes(InFolder):

@@ -335,15 +335,11 @@ class Commands(unittest.TestCase):
     def test_help(self) -> None:
         done = ran("--help")
         self.assertEqual(done.returncode, 0)
-        self.assertRegex(
-            done.stdout, r"(?s)^usage: python3 tools/object.py IMAGE OBJECT.*\nexamples:\n    .*exit status is "
-        )
+        self.assertRegex(done.stdout, r"(?s)^usage: python3 tools/object.py IMAGE OBJECT.*\nexamples:\n    .*exit status is ")
 
     def test_a_tool_that_is_not_there_is_named_with_its_package(self) -> None:
         for name, package in object_load.PACKAGES.items():
-            with unittest.mock.patch("shutil.which", lambda *_, **__: None), self.assertRaises(
-                object_load.Failed
-            ) as caught:
+            with unittest.mock.patch("shutil.which", lambda *_, **__: None), self.assertRaises(object_load.Failed) as caught:
                 object_load.tool(name)
             self.assertEqual(str(caught.exception), f"there is no {name}; Debian's package {package} has it")
 

@@ -72,7 +72,7 @@ class Frames(unittest.TestCase):
             reached = 0
             for end in range(4, len(data)):
                 found, why = frames_in(data[:end])
-                self.assertEqual([it.body for it in found], [it.body for it in whole[:len(found)]])
+                self.assertEqual([it.body for it in found], [it.body for it in whole[: len(found)]])
                 self.assertTrue(why is None or isinstance(why, frames.Cut), why)
                 self.assertGreaterEqual(len(found), reached)
                 reached = len(found)
@@ -84,7 +84,7 @@ class Frames(unittest.TestCase):
             data = written(write, whole)
             for at in range(len(data)):
                 for byte in (0, 1, 127, 128, 255):
-                    frames_in(data[:at] + bytes([byte]) + data[at + 1:])
+                    frames_in(data[:at] + bytes([byte]) + data[at + 1 :])
 
     def test_a_frame_that_is_too_long(self):
         long, short = frames.Frame(1, 0, 0, bytes(9217)), frames.Frame(2, 0, 0, b"\1")
@@ -100,12 +100,14 @@ class Frames(unittest.TestCase):
 
     def test_any_interface(self):
         head = struct.pack(">HHIHBB8s", 0x0800, 0, 7, 1, 0, 6, b"\2\0\0\0\0\1\0\0")
-        data = struct.pack("<IHHiIII", 0xa1b2c3d4, 2, 4, 0, 0, 65535, frames.SLL2) + struct.pack("<IIII", 1, 2, 23, 23) + head + b"abc"
+        data = (
+            struct.pack("<IHHiIII", 0xA1B2C3D4, 2, 4, 0, 0, 65535, frames.SLL2) + struct.pack("<IIII", 1, 2, 23, 23) + head + b"abc"
+        )
         found, why = frames_in(data)
         self.assertEqual((found, why), ([frames.Frame(10**9 + 2000, 7, 0, bytes(6) + b"\2\0\0\0\0\1\x08\0abc")], None))
 
     def test_a_link_type_that_is_not_read(self):
-        data = struct.pack("<IHHiIII", 0xa1b2c3d4, 2, 4, 0, 0, 65535, 105)
+        data = struct.pack("<IHHiIII", 0xA1B2C3D4, 2, 4, 0, 0, 65535, 105)
         self.assertEqual(str(frames_in(data)[1]), "its link type is 105; Ethernet (1), SLL (113) and SLL2 (276) are read")
 
 
@@ -133,8 +135,14 @@ def elf(code, functions, called, kind, imm):
     bodies = [b"", names, code, text, b"".join(symbols), texts, struct.pack("<QQ", 0, used << 32 | 10)]
     kinds = [(0, 0, 0, 0), (3, 0, 0, 0), (1, 6, 0, 0), (1, 6, 0, 0), (2, 0, 5, 24), (3, 0, 0, 0), (9, 0, 4, 16)]
     head, at, rows = b"\x7fELF\2\1\1" + bytes(9), 64, []
-    for name, (kind, flags, link, size), body in zip((b"", b".shstrtab", b"xdp", b".text", b".symtab", b".strtab", b".relxdp"), kinds, bodies):
-        rows.append(struct.pack("<IIQQQQIIQQ", names.index(name + b"\0"), kind, flags, 0, at, len(body), link, 2 if kind == 9 else 0, 1, size))
+    for name, (kind, flags, link, size), body in zip(
+        (b"", b".shstrtab", b"xdp", b".text", b".symtab", b".strtab", b".relxdp"), kinds, bodies
+    ):
+        rows.append(
+            struct.pack(
+                "<IIQQQQIIQQ", names.index(name + b"\0"), kind, flags, 0, at, len(body), link, 2 if kind == 9 else 0, 1, size
+            )
+        )
         at += len(body)
     head += struct.pack("<HHIQQQIHHHHHH", 1, 247, 1, 0, 0, at, 0, 64, 0, 0, 64, len(rows), 1)
     return head + b"".join(bodies) + b"".join(rows)
@@ -152,9 +160,9 @@ def call_in(data):
 class Images(unittest.TestCase):
     def test_calls_as_clang_and_gcc_write_them(self):
         for called, at in (("a", 0), ("b", 16)):
-            by_section = elf(CODE, ["a", "b"], called, objects.SECTION_SYMBOL, at // 8 - 1)          # clang, static
-            by_function = elf(CODE, ["a", "b"], called, objects.FUNCTION_SYMBOL, -1)                 # clang, global
-            by_gcc = elf(CODE, ["a", "b"], called, objects.FUNCTION_SYMBOL, at - 1)                  # gcc
+            by_section = elf(CODE, ["a", "b"], called, objects.SECTION_SYMBOL, at // 8 - 1)  # clang, static
+            by_function = elf(CODE, ["a", "b"], called, objects.FUNCTION_SYMBOL, -1)  # clang, global
+            by_gcc = elf(CODE, ["a", "b"], called, objects.FUNCTION_SYMBOL, at - 1)  # gcc
             for data in (by_section, by_function, by_gcc):
                 self.assertEqual(call_in(data), (1, 4))
                 self.assertEqual(struct.unpack_from("<i", image.made(data).slots, 20)[0], at)
@@ -176,7 +184,7 @@ class Images(unittest.TestCase):
         for at in range(len(data)):
             for byte in (0, 1, 127, 128, 255):
                 try:
-                    image.made(data[:at] + bytes([byte]) + data[at + 1:])
+                    image.made(data[:at] + bytes([byte]) + data[at + 1 :])
                 except image.Refused:
                     pass
 
@@ -211,7 +219,9 @@ class Messages(unittest.TestCase):
         self.assertEqual(self.said(tool, "none.pcap", "x.frames"), "none.pcap: No such file or directory\n")
         self.assertEqual(self.said(tool, "filters", "x.frames"), "filters: Is a directory\n")
         self.assertEqual(self.said(tool, "firewall.pcapng", "filters"), "filters: Is a directory\n")
-        self.assertEqual(self.said(tool, "firewall.pcapng", "firewall.pcapng"), "firewall.pcapng: it is one of the files that are read\n")
+        self.assertEqual(
+            self.said(tool, "firewall.pcapng", "firewall.pcapng"), "firewall.pcapng: it is one of the files that are read\n"
+        )
         for number in ("-1", "4294967296", "x"):
             self.assertIn("a number from 0 to 4294967295", self.said(tool, "--interface", number, "firewall.pcapng", "x", status=2))
         if os.path.exists("/dev/full"):
@@ -235,12 +245,16 @@ class Messages(unittest.TestCase):
     def test_a_long_capture_is_a_stream(self):
         """100,000 frames through pipes, in less memory than they fill."""
         frame = struct.pack("<IIII", 1, 2, 600, 600) + bytes(600)
-        code = (f"import re, runpy, sys; sys.path.insert(0, {HERE!r})\n"
-                "sys.argv = ['frames.py', '--to', 'frames', '-', '-']\n"
-                f"runpy.run_path({os.path.join(HERE, 'frames.py')!r}, run_name='__main__')\n"
-                "sys.stderr.write(re.search(r'VmHWM:\\s*(\\d+)', open('/proc/self/status').read())[1])")
-        with subprocess.Popen([sys.executable, "-c", code], stdin=subprocess.PIPE, stdout=subprocess.DEVNULL, stderr=subprocess.PIPE) as child:
-            child.stdin.write(struct.pack("<IHHiIII", 0xa1b2c3d4, 2, 4, 0, 0, 65535, 1))
+        code = (
+            f"import re, runpy, sys; sys.path.insert(0, {HERE!r})\n"
+            "sys.argv = ['frames.py', '--to', 'frames', '-', '-']\n"
+            f"runpy.run_path({os.path.join(HERE, 'frames.py')!r}, run_name='__main__')\n"
+            "sys.stderr.write(re.search(r'VmHWM:\\s*(\\d+)', open('/proc/self/status').read())[1])"
+        )
+        with subprocess.Popen(
+            [sys.executable, "-c", code], stdin=subprocess.PIPE, stdout=subprocess.DEVNULL, stderr=subprocess.PIPE
+        ) as child:
+            child.stdin.write(struct.pack("<IHHiIII", 0xA1B2C3D4, 2, 4, 0, 0, 65535, 1))
             for _ in range(1000):
                 child.stdin.write(frame * 100)
             child.stdin.close()
@@ -264,7 +278,7 @@ class Answers:
 
 class Kernel(unittest.TestCase):
     def test_without_leave_there_is_no_kernel(self):
-        for name in ("firewall", "allow"):                                       # without maps, and with one
+        for name in ("firewall", "allow"):  # without maps, and with one
             for error in (errno.EPERM, errno.ENOSYS):
                 with self.subTest(name), unittest.mock.patch.object(kernel_calls, "call", lambda *_: (-error, b"")):
                     with self.assertRaises(kernel.NoKernel):
@@ -289,9 +303,11 @@ class Kernel(unittest.TestCase):
         frames_given = [(1, bytes(14))]
         alike = Answers(2, bytes(14), [(0, b"\1", b"\2")])
         self.assertEqual(kernel.differences(alike, ran, frames_given), ([], 1))
-        for other, words in ((Answers(1, bytes(14), alike.found), "frame 0: xdpvm PASS, the kernel DROP (1)"),
-                             (Answers(2, bytes(13) + b"\7", alike.found), "frame 0: the bytes differ at 13: xdpvm 00, the kernel 07"),
-                             (Answers(2, bytes(14), []), "map 0: the key 01 with the value 02 is only of xdpvm")):
+        for other, words in (
+            (Answers(1, bytes(14), alike.found), "frame 0: xdpvm PASS, the kernel DROP (1)"),
+            (Answers(2, bytes(13) + b"\7", alike.found), "frame 0: the bytes differ at 13: xdpvm 00, the kernel 07"),
+            (Answers(2, bytes(14), []), "map 0: the key 01 with the value 02 is only of xdpvm"),
+        ):
             self.assertEqual(kernel.differences(other, ran, frames_given)[0], [words])
 
     def test_a_command_that_cannot_be_done(self):
