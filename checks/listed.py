@@ -52,7 +52,12 @@ CHECKS = (
         3,
     ),
     Check("trusted", "python3 assurance/trusted.py", "which definitions the promise rests on", 2),
-    Check("scripts", "python3 assurance/scripts.py", "whether each script has a run", 1),
+    Check(
+        "scripts",
+        "python3 assurance/scripts.py",
+        "that each script has a run, and what black, mypy, pylint and shellcheck find",
+        40,
+    ),
     Check("script_tests", "python3 assurance/test_scripts.py", "the scripts of assurance/ on small cases", 5),
     Check("limits", "python3 tools/limits.py", "which numbers stand for a limit and do not cite its name", 2),
     Check("version", "python3 tools/version.py", "that the version is the same wherever it stands", 1),
@@ -75,7 +80,8 @@ CHECKS = (
     Check(
         "contents",
         "python3 tests/contents.py",
-        "random programs on maps that are filled: two runs over halves of a stream against one, with checks and without, and by Linux; damaged texts of maps against a judge in Python",
+        "random programs on maps that are filled: two runs over halves of a stream against one, with checks and without, and by "
+        "Linux; damaged texts of maps against a judge in Python",
         8,
     ),
     Check("objects_made", "python3 tools/test_object.py", "objects for Linux, made and read", 8),
