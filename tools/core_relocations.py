@@ -9,7 +9,7 @@ import struct
 from typing import NamedTuple
 
 from objects import Refused
-from type_information import ARRAY, ENUM, ENUM64, INT, STRUCT, TYPEDEF, UNION, Access, Types
+from type_information import ARRAY, ENUM, ENUM64, INT, STRUCT, UNION, Access, Types
 
 KERNEL = "/sys/kernel/btf/vmlinux"
 OFFSET, SIZE, EXISTS, SIGNED, LEFT, RIGHT, LOCAL_ID, TARGET_ID, TYPE_EXISTS, TYPE_SIZE, VALUE_EXISTS, VALUE = range(12)

@@ -23,7 +23,6 @@ from classic import (
     JMP,
     JSET,
     LD,
-    LDX,
     LEN,
     LSH,
     MEM,
@@ -40,7 +39,6 @@ from classic import (
     STX,
     SUB,
     TAX,
-    TXA,
     WORD,
     XOR,
     Failed,
@@ -192,6 +190,7 @@ class Translator:
     # one instruction
 
     def one(self, it: Insn, following: str) -> None:
+        """Translates an instruction."""
         put = self.text.put
         if it.kind == RET:
             put(f"if r6 != 0 goto {PASS}")
@@ -236,6 +235,7 @@ class Translator:
             self.text.note += f"; {number}"
 
     def load(self, it: Insn) -> None:
+        """Translates a load."""
         put, to = self.text.put, "r6" if it.kind == LD else "r7"
         if it.mode == IMM:
             self.note(it.k)
@@ -307,6 +307,7 @@ class Translator:
                 put(f"{to} = 0")
 
     def arithmetic(self, it: Insn) -> None:
+        """Translates arithmetic."""
         put = self.text.put
         if self.lengths.is_length(it.at) and it.moves_length() and not self.lengths.wanted[it.at]:
             put("")

@@ -94,7 +94,7 @@ class Linker:
         data, by_clang = self.it.body(".BTF"), self.it.has_addresses() is False
         if self.extra.accesses and not by_clang:
             raise Refused(
-                "it has records of fields that depend on the kernel (CO-RE), and gcc leaves some out: compile it with" " clang"
+                "it has records of fields that depend on the kernel (CO-RE), and gcc leaves some out: compile it with clang"
             )
         field = context_differs(Types(data)) if data is not None else None
         if field and not self.extra.accesses:

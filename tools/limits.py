@@ -7,6 +7,7 @@ values, and fails if it finds one that EXCEPTIONS does not explain."""
 import os
 import re
 import sys
+from collections.abc import Iterator
 
 ROOT = os.path.dirname(os.path.dirname(os.path.abspath(__file__)))
 HOME = ("isa_model/src/limits.rt", "isa_model/specs/Code/Limits.antt")
@@ -72,10 +73,10 @@ EXCEPTIONS = (
 )
 
 
-def bare(text, antt):
+def bare(text: str, antt: bool) -> list[str]:
     """The text without comments and strings, with the same lines."""
 
-    def without(m):
+    def without(m: re.Match[str]) -> str:
         part = m[0].removeprefix("b")
         if part.startswith("'"):
             return m[0]
@@ -90,7 +91,7 @@ def bare(text, antt):
     return lines
 
 
-def numbers(line):
+def numbers(line: str) -> Iterator[int]:
     """The numbers of a line, in any base."""
     kind = r"(?:[ui](?:8|16|32|64|128|size))?"
     for m in re.finditer(r"(?<![\w.'])(0x[0-9a-fA-F_]+|0b[01_]+|[0-9][0-9_]*)" + kind + r"(?!\w)", line):
@@ -101,7 +102,7 @@ def numbers(line):
         yield 2 ** int(m.group(1))
 
 
-def found(line):
+def found(line: str) -> Iterator[tuple[int, str]]:
     """The numbers of a line that are a limit."""
     for n in numbers(line):
         if n in VALUES:
@@ -113,7 +114,7 @@ def found(line):
                 break
 
 
-def main():
+def main() -> None:
     only = sys.argv[1:]
     used = [False] * len(EXCEPTIONS)
     left = 0
@@ -127,7 +128,7 @@ def main():
             path = "/".join(parts + [name])
             if path in HOME or not name.endswith((".rt", ".antt")):
                 continue
-            with open(os.path.join(folder, name)) as f:
+            with open(os.path.join(folder, name), encoding="utf-8") as f:
                 text = f.read()
             for at, line in enumerate(bare(text, name.endswith(".antt")), 1):
                 for n, what in found(line):

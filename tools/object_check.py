@@ -207,7 +207,7 @@ def stack(program: Program) -> List[Finding]:
     """Calls whose call frames have over 512 bytes together, or are too many (check_max_stack_depth)."""
     own, called = Stack(program).depths, callees(program)
     for step, is_sure, where in ((WITH_JIT, True, ""), (WITHOUT, False, " without the JIT, and in older kernels")):
-        size, chain = dearest(called, {begin: rounded(own[begin], step) for begin in own})
+        size, chain = dearest(called, {begin: rounded(size, step) for begin, size in own.items()})
         if size > STACK:
             said = f"the call frames of the functions at slots {listed(chain)} have {size:,} bytes of stack"
             return [Finding(is_sure, said + where, FRAMES), *deep(called)]

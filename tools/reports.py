@@ -42,11 +42,11 @@ def tell_refusal(source: Source, ran: "subprocess.CompletedProcess[str]") -> Non
         slot, way = re.match(r"slot (\d+):", line), line.startswith("way:")
         named = source.line(int(slot[1])) if slot else None
         if named:
-            print("  {}: {}".format(*named), file=sys.stderr)
+            print(f"  {named[0]}: {named[1]}", file=sys.stderr)
         for here, there in re.findall(r"(\d+) -> (\d+)", line) if way else []:
             before, after = source.line(int(here)), source.line(int(there))
             if before and after:
-                print("  {}: {}\n    -> {}: {}".format(*before, *after), file=sys.stderr)
+                print(f"  {before[0]}: {before[1]}\n    -> {after[0]}: {after[1]}", file=sys.stderr)
 
 
 def plural(count: int, noun: str) -> str:

@@ -98,9 +98,9 @@ def program_beside(name: str) -> str:
     return name
 
 
-def the_xdpvm(environment: Mapping[str, str] = os.environ) -> str:
+def the_xdpvm(environment: Mapping[str, str] | None = None) -> str:
     """The program that is used where no option names one."""
-    return environment.get("XDPVM") or program_beside("xdpvm")
+    return (os.environ if environment is None else environment).get("XDPVM") or program_beside("xdpvm")
 
 
 def the_filter(xdpvm: str) -> str:

@@ -183,6 +183,7 @@ def in_order(rows: list[Row], column: str) -> list[Row]:
 
 
 def arguments() -> argparse.Namespace:
+    """The words of the command line."""
     words = sys.argv[1:]
     cut = words.index("--") if "--" in words else len(words)
     parser = argparse.ArgumentParser(
