@@ -38,6 +38,7 @@ class Composer:
         return self.random.choice(words)
 
     def primitive(self) -> str:
+        """A test of one word or some."""
         r, of = self.random, self.of
         d = of("", "", "src ", "dst ", "src or dst ", "src and dst ")
         kind = r.randrange(22)
@@ -96,7 +97,8 @@ class Composer:
         if depth <= 0 or kind < 4:
             return self.access(depth)
         if kind < 6:
-            return f"({self.access(depth)} {self.of('&', '|', '^')} {self.of('0xf', '0xff', '0x1fff', '0xf0', '1', '0x80000000', '0xffff0000')})"
+            access, sign = self.access(depth), self.of("&", "|", "^")
+            return f"({access} {sign} {self.of('0xf', '0xff', '0x1fff', '0xf0', '1', '0x80000000', '0xffff0000')})"
         if kind == 6:
             return f"({self.access(depth)} {self.of('<<', '>>')} {r.randrange(32)})"
         if kind == 7:

@@ -72,6 +72,7 @@ class Maker:
         return struct.pack(">HHII", self.port(), self.port(), 1, 0) + struct.pack(">BBHI", 1, 0, 20, 0) + self.some()
 
     def above(self, depth: int) -> Tuple[int, bytes]:
+        """What follows an Ethernet head: its type, and the bytes."""
         r = self.random
         kind = r.randrange(15)
         if kind < 4:
@@ -167,6 +168,7 @@ class Maker:
         )
 
     def llc(self) -> bytes:
+        """A frame of 802.3, with a length in place of a type."""
         r = self.random
         control = r.choice(
             [

@@ -20,9 +20,10 @@ import struct
 import subprocess
 import sys
 import tempfile
+from collections.abc import Iterator
 
-HERE = os.path.dirname(os.path.abspath(__file__))
-sys.path.insert(0, f"{HERE}/../tools")
+sys.path.insert(0, os.path.join(os.path.dirname(os.path.abspath(__file__)), "../checks"))
+from common import bytes_of, record, write
 import table
 from table import Refused
 
@@ -42,16 +43,16 @@ LARGER = {
         "if r0 == 0 goto none\nr1 = *(u64 *)(r0 + 0)\nr1 += 1\n*(u64 *)(r0 + 0) = r1\nnone: r0 = 2\nexit\n"
     ),
 }
-FRAMES = b"XPF1" + b"".join(struct.pack("<QIII", at, 1, 0, size) + bytes(size) for at, size in enumerate([0, 14, 64]))
+FRAMES = b"XPF1" + b"".join(record(1, (at, 1, 0), 0, bytes(size)) for at, size in enumerate([0, 14, 64]))
 
 
 # ---- the judge
 
 
-def allowed(value, holder, rows):
+def allowed(value: table.Value, holder: int, rows: int) -> bool:
     """Whether the fields of a value are allowed, in that call frame of a program with this many map
     rows."""
-    name, *fields = value
+    name, fields = value[0], list[int](value[1:])
     if name == "number":
         known, mask, *limits = fields
         return not known & mask and all(limits[at] <= limits[at + 1] for at in range(0, 8, 2))
@@ -65,17 +66,17 @@ def allowed(value, holder, rows):
     return name not in ("map", "null") or fields[0] < rows
 
 
-def frame_allowed(frame, holder, inner, rows):
+def frame_allowed(frame: table.Frame, holder: int, inner: bool, rows: int) -> bool:
     slots = [slot for slot in frame.slots if slot[0] != "bytes"]
     return (
         all(allowed(value, holder, rows) for value in frame.registers + slots)
         and ("unset",) not in slots
-        and (holder or not frame.leads)
+        and (holder > 0 or not frame.leads)
         and (inner or all(value == table.UNSET for value in frame.registers[:6]))
     )
 
 
-def entry_allowed(entry, starts, rows):
+def entry_allowed(entry: table.Entry, starts: set[int], rows: int) -> bool:
     frames = entry.frames
     return (
         1 <= entry.number <= table.MOST
@@ -84,7 +85,7 @@ def entry_allowed(entry, starts, rows):
     )
 
 
-def read(data, starts, rows):
+def read(data: bytes, starts: set[int], rows: int) -> list[table.Entry]:
     """The entries of a table. Refused: P1 to P5."""
     entries = table.entries_of(data)
     for at, entry in enumerate(entries):
@@ -93,8 +94,8 @@ def read(data, starts, rows):
     return entries
 
 
-def value_covers(one, other):
-    if one == table.UNSET or one == other:
+def value_covers(one: table.Value, other: table.Value) -> bool:
+    if one in (table.UNSET, other):
         return True
     if one[0] != "number" or other[0] != "number":
         return False
@@ -103,14 +104,14 @@ def value_covers(one, other):
     return not unknown & ~mask and there & ~mask == value and least and all(limits[at] >= theirs[at] for at in range(1, 8, 2))
 
 
-def slot_covers(one, other):
+def slot_covers(one: table.Value, other: table.Value) -> bool:
     if one[0] == "bytes":
-        marks = other[1] if other[0] == "bytes" else 255
-        return one[1] & marks == one[1]
+        marks: int = other[1] if other[0] == "bytes" else 255
+        return bool(one[1] & marks == one[1])
     return other[0] != "bytes" and value_covers(one, other)
 
 
-def covers(slot, frames, other_slot, others):
+def covers(slot: int, frames: list[table.Frame], other_slot: int, others: list[table.Frame]) -> bool:
     """Whether a state of one call frame covers another of one call frame."""
     one, other = frames[0], others[0]
     return (
@@ -122,7 +123,7 @@ def covers(slot, frames, other_slot, others):
     )
 
 
-def judged_small(data):
+def judged_small(data: bytes) -> str:
     """The verdict on a table of `r0 = 2; exit`."""
     try:
         entries = read(data, {0, 1}, 0)
@@ -155,28 +156,28 @@ def judged_small(data):
 class Tried:
     """A program, and what was tried with it."""
 
-    def __init__(self, program):
-        self.program, self.counts, self.wrong, self.ran = program, collections.Counter(), [], {}
+    def __init__(self, program: str) -> None:
+        self.program = program
+        self.counts: collections.Counter[str] = collections.Counter()
+        self.wrong: list[tuple[object, ...]] = []
+        self.ran: dict[str, tuple[int, str]] = {}
 
-    def said(self, *words):
-        ended = subprocess.run([self.program, *words], stdout=subprocess.PIPE, stderr=subprocess.DEVNULL, text=True)
+    def said(self, *words: str) -> tuple[int, str]:
+        ended = subprocess.run([self.program, *words], stdout=subprocess.PIPE, stderr=subprocess.DEVNULL, text=True, check=False)
         return ended.returncode, ended.stdout.strip()
 
-    def make(self, name, text):
-        with open(f"{name}.text", "w") as file:
-            file.write(text)
+    def make(self, name: str, text: str) -> bytes:
+        write(f"{name}.text", text)
         for words in (["asm", f"{name}.text", f"{name}.image"], ["prove", f"{name}.image", f"{name}.table"]):
             status, out = self.said(*words)
             if status:
                 sys.exit(f"{name}: {' '.join(words)}: {out}")
         self.ran[name] = self.said("run", f"{name}.image", "frames", "sent")
-        with open(f"{name}.table", "rb") as file:
-            return file.read()
+        return bytes_of(f"{name}.table")
 
-    def answer(self, name, data):
+    def answer(self, name: str, data: bytes) -> str:
         """The answer of recheck, as the judge words it; an accepted table's program is run."""
-        with open("damaged", "wb") as file:
-            file.write(data)
+        write("damaged", data)
         status, out = self.said("recheck", f"{name}.image", "damaged")
         words = out.split()
         answer = out if words[:1] == ["ok"] else " ".join(words[1:4] if "entry" in words else words[1:2])
@@ -197,7 +198,7 @@ class Tried:
         return answer
 
 
-def changed_bytes(data, every):
+def changed_bytes(data: bytes, every: int) -> Iterator[bytes]:
     cuts = [data[:at] for at in range(len(data))]
     changes = (data[:at] + bytes([byte]) + data[at + 1 :] for at in range(len(data)) for byte in range(256) if byte != data[at])
     yield from cuts
@@ -206,8 +207,8 @@ def changed_bytes(data, every):
             yield one
 
 
-def damaged(data, chance):
-    data = bytearray(data)
+def damaged(right: bytes, chance: random.Random) -> bytes:
+    data = bytearray(right)
     for _ in range(chance.choice([1, 1, 1, 2, 3])):
         at = chance.randrange(len(data))
         form = chance.randrange(8)
@@ -223,7 +224,7 @@ def damaged(data, chance):
     return bytes(data)
 
 
-def main():
+def main() -> None:
     words = argparse.ArgumentParser()
     words.add_argument("program")
     words.add_argument("--random", type=int, default=20_000)
@@ -233,8 +234,7 @@ def main():
     tried, chance = Tried(os.path.abspath(given.program)), random.Random(given.seed)
     with tempfile.TemporaryDirectory() as room:
         os.chdir(room)
-        with open("frames", "wb") as file:
-            file.write(FRAMES)
+        write("frames", FRAMES)
         data = tried.make("small", SMALL)
         for one in changed_bytes(data, given.few):
             answer, judged = tried.answer("small", one), judged_small(one)
@@ -244,8 +244,7 @@ def main():
         tried.counts.clear()
         for name, text in LARGER.items():
             data = tried.make(name, text)
-            with open(f"{name}.image", "rb") as file:
-                image = file.read()
+            image = bytes_of(f"{name}.image")
             rows, slots = struct.unpack_from("<HH", image, 4)
             code = image[len(image) - 8 * slots :]
             wide = {at for at in range(1, slots) if code[8 * at - 8] == 0x18}
@@ -261,8 +260,8 @@ def main():
                     if answer != str(refused):
                         tried.wrong.append((name, answer, str(refused)))
         print("random damages:", dict(tried.counts))
-    for one in tried.wrong[:20]:
-        print("DIFFERS", *one)
+    for wrong in tried.wrong[:20]:
+        print("DIFFERS", *wrong)
     sys.exit(1 if tried.wrong else 0)
 
 
