@@ -12,8 +12,8 @@ examples/bridge/ports.text, and every frame is of UDP to the one port of its lis
   median, 99%  the delay of one frame of 1,000, a millisecond apart, in microseconds
 
 `xdp, generic` is the filter by tools/object.py, before Linux's bridge; there is no row of it where bpf(2) is forbidden. --cores N
-runs all on N processors (the default: all), of which the sender has the first for itself. Last comes the time of the filter alone, by a bridge that runs it
-11 times on each frame.
+runs all on N processors (the default: all), of which the sender has the first for itself. Last comes the time of the filter alone,
+by a bridge that runs it 11 times on each frame.
 
 The exit status is 0; 1 with a message; and 77 where network namespaces cannot be made.
 """
@@ -212,7 +212,8 @@ def main() -> int:
             for size in (int(it) for it in given.sizes.split(",")):
                 for row in bench.rows(size):
                     print(
-                        f"{row.way:30} {row.size:6} {row.rate:10.0f} {row.processor:7.0f} ns {row.own:7.0f} ns {row.median:5.1f} us {row.late:5.1f} us",
+                        f"{row.way:30} {row.size:6} {row.rate:10.0f} {row.processor:7.0f} ns {row.own:7.0f} ns"
+                        f" {row.median:5.1f} us {row.late:5.1f} us",
                         flush=True,
                     )
                 print(f"{size} bytes: the filter takes {bench.filter_alone(size) * 1e9:.0f} ns a frame", flush=True)
