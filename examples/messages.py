@@ -15,15 +15,15 @@ import struct
 import subprocess
 import sys
 import tempfile
+from collections.abc import Callable, Iterator
 
-TOP = os.path.dirname(os.path.dirname(os.path.abspath(__file__)))
-PROGRAM, FILTER = (
-    os.path.abspath(sys.argv[at] if len(sys.argv) > at else os.path.join(TOP, f"crates/{name}/out/{name}"))
-    for at, name in ((1, "xdpvm"), (2, "xdpvm_filter"))
-)
+sys.path.insert(0, os.path.join(os.path.dirname(os.path.abspath(__file__)), "../checks"))
+import common
+from common import TOP
 
-with open(os.path.join(TOP, "VERSION"), encoding="utf-8") as of_version:
-    VERSION = of_version.read().strip()
+PROGRAM, FILTER = common.program(), common.program("xdpvm_filter", 2)
+VERSION = common.text_of(f"{TOP}/VERSION").strip()
+Row = tuple[object, tuple[object, str], tuple[object, str]]  # what is tried, what is wanted, and what was found
 
 # A text, its refusal by `asm`, and the hint.
 TEXTS = (
@@ -251,18 +251,17 @@ FILTERS = (
 )
 
 
-def filters(folder, write):
+def filters(folder: str, write: Callable[[str, bytes], None]) -> Iterator[Row]:
     """What xdpvm_filter says: the exit status, the first or the last line of standard output, and standard error."""
 
-    def run(*words):
+    def run(*words: str) -> tuple[int, list[str], str]:
         ran = subprocess.run([FILTER, *words], cwd=folder, capture_output=True, timeout=60, check=False)
         return ran.returncode, ran.stdout.decode().splitlines() or [""], ran.stderr.decode()
 
-    def sent():
-        with open(os.path.join(folder, "sent"), "rb") as file:
-            return file.read()
+    def sent() -> bytes:
+        return common.bytes_of(os.path.join(folder, "sent"))
 
-    def make(text):
+    def make(text: bytes) -> None:
         write("text", text)
         subprocess.run([PROGRAM, "asm", "text", "image"], cwd=folder, check=True, capture_output=True)
 
@@ -296,16 +295,15 @@ def filters(folder, write):
         yield words, (wanted, line if silent else ""), ((ended, out[0], sent(), err != ""), err.split("\n", 1)[0])
 
 
-def rows(folder):
+def rows(folder: str) -> Iterator[Row]:
     """What is tried, what is wanted, and whether the result is that."""
 
-    def run(*words):
+    def run(*words: str) -> tuple[list[str], list[str]]:
         ran = subprocess.run([PROGRAM, *words], cwd=folder, stdout=subprocess.PIPE, stderr=subprocess.PIPE, timeout=60, check=False)
         return ran.stdout.decode().splitlines() or [""], ran.stderr.decode().splitlines() or [""]
 
-    def write(name, content):
-        with open(os.path.join(folder, name), "wb") as file:
-            file.write(content)
+    def write(name: str, content: bytes) -> None:
+        common.write(os.path.join(folder, name), content)
 
     for text, line, help_line in TEXTS:
         write("text", text)
@@ -337,19 +335,16 @@ def rows(folder):
     yield from expressions()
 
 
-def expressions():
+def expressions() -> Iterator[Row]:
     """What filter.py says, and what xdp.py says of an expression: with a tcpdump that refuses, or without any."""
     path = os.environ["PATH"]
     for words, given, line in EXPRESSIONS:
         with tempfile.TemporaryDirectory() as folder:
             if given.startswith("tcpdump: ") or words[0] == "xdp" and given:
                 how = ">&2\nexit 1" if given.startswith("tcpdump: ") else ""
-                with open(f"{folder}/tcpdump", "w") as file:
-                    file.write(f"#!/bin/sh\necho {shlex.quote(given)} {how}\n")
-                os.chmod(f"{folder}/tcpdump", 0o755)
-            with open(f"{folder}/cut.pcap", "wb") as file:
-                file.write(CUT)
-            words = [it.replace("FOLDER", folder) for it in words]
+                os.chmod(common.write(f"{folder}/tcpdump", f"#!/bin/sh\necho {shlex.quote(given)} {how}\n"), 0o755)
+            common.write(f"{folder}/cut.pcap", CUT)
+            words = tuple(it.replace("FOLDER", folder) for it in words)
             os.environ["PATH"] = folder
             try:
                 tool = os.path.join(TOP, f"tools/{words[0]}.py")
@@ -429,7 +424,7 @@ EXPRESSIONS = (
 )
 
 
-def main():
+def main() -> int:
     for path, crate in ((PROGRAM, "xdpvm"), (FILTER, "xdpvm_filter")):
         if not os.access(path, os.X_OK):
             sys.exit(f"messages.py: there is no program {path}; `rt run` in crates/{crate} builds it")

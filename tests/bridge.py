@@ -6,7 +6,8 @@ usage: python3 tests/bridge.py [ARCHIVE [PROGRAM]] [--fuzz SECONDS [--pause MICR
 Builds the bridge over the library ARCHIVE (the default: crates/xdpvm_c/out/libxdpvm_c.a), and runs it between two pairs of
 virtual interfaces: ICMP, 100 MB of TCP with their checksum, UDP to a port that is allowed and to one that is not, a filter that
 changes and one that is refused while frames come, and random frames, of which those that come out are those that PROGRAM
-(crates/xdpvm/out/xdpvm) writes for the bridge's own capture. --fuzz only sends random frames, for so long, with a pause after each (50 microseconds).
+(crates/xdpvm/out/xdpvm) writes for the bridge's own capture. --fuzz only sends random frames, for so long, with a pause after each
+(50 microseconds).
 
 The exit status is 0 if all is as it is to be, 1 if not, and 77 where network namespaces cannot be made.
 """

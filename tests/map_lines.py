@@ -69,7 +69,7 @@ def update(line: bytes, rows: list[Row], contents: Contents) -> None:
         raise Refused("M6", longest(rows) + 1)
     if not line.startswith(b"map "):
         raise Refused("M1", 1)
-    number, its_key, its_value = fields(line)
+    number, its_key, its_value = fields(line)  # pylint: disable=unbalanced-tuple-unpacking
     number.tested(DIGITS)
     key, value = its_key.pairs(), its_value.pairs()
     index = int(number.text)
