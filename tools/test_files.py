@@ -50,8 +50,8 @@ class InFolder(unittest.TestCase):
         return [sys.executable, os.path.join(HERE, tool), *more, *words]
 
     def ran(self, tool: str, *words: str, **how: object) -> "subprocess.CompletedProcess[bytes]":
-        given = {"cwd": self.folder, "capture_output": True, "timeout": 120, "check": False, **how}
-        return subprocess.run(self.words(tool, *words), **given, check=False)  # type: ignore[call-overload, no-any-return]
+        given = {"cwd": self.folder, "capture_output": True, "timeout": 120, **how}
+        return subprocess.run(self.words(tool, *words), check=False, **given)  # type: ignore[call-overload, no-any-return]
 
     def all(self) -> dict[str, bytes]:
         found = {}
