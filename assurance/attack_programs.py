@@ -2,6 +2,11 @@
 FAMILIES makes one from a random generator, with the numbers that its frames should be near. They
 are right except for a limit, a size or an offset that may be wrong by one, or of the wrong sign,
 width or call frame."""
+import random
+
+# The alternatives are tables, with several in a line.
+# fmt: off
+# pylint: disable=line-too-long
 
 SIZES = {"u8": 1, "u16": 2, "u32": 4, "u64": 8}
 TESTS = ["==", "!=", ">", ">=", "<", "<=", "s>", "s>=", "s<", "s<=", "&"]
@@ -10,7 +15,7 @@ CORNERS = [0, 2**31 - 1, 2**31, 2**32 - 1]
 NUMBERS = ["r2 = *(u32 *)(r1 + 12)", "r3 = *(u32 *)(r1 + 16)"]
 
 
-def program(maps, lines, functions):
+def program(maps: list[str], lines: list[str], functions: dict[str, list[str]]) -> list[str]:
     """The lines with an end where `out` is, if one jumps there, and with those functions that are called."""
     lines = [*maps, *lines, "out: r0 = 2" if any("goto out" in line for line in lines) else "r0 = 2", "exit"]
     for _ in functions:
@@ -20,16 +25,16 @@ def program(maps, lines, functions):
     return lines
 
 
-def register(chance, number):
+def register(chance: random.Random, number: int) -> str:
     return f"{chance.choice('rrrw')}{number}"
 
 
-def constant(chance, around):
+def constant(chance: random.Random, around: list[int]) -> int:
     """A number that an instruction can hold, near one of these."""
     return max(-2**31, min(2**31 - 1, chance.choice(around) + chance.choice([0, 0, 0, -1, 1])))
 
 
-def change(chance):
+def change(chance: random.Random) -> str:
     """Arithmetic on r2 that may wrap, cut or turn its sign."""
     target, kind = register(chance, 2), chance.randrange(8)
     if kind == 0:
@@ -47,7 +52,7 @@ def change(chance):
     return f"{target} {sign} {constant(chance, [1, 2, 7, 63, 64, 2**31 - 1, -2**31, -1, -64, 65536]) or 1}"
 
 
-def limit(chance, number=2):
+def limit(chance: random.Random, number: int=2) -> list[str]:
     """One or two tests that leave small numbers, if sign and width are right."""
     target, other = register(chance, number), register(chance, number)
     return chance.choice([
@@ -65,7 +70,7 @@ def limit(chance, number=2):
     ])
 
 
-def both_halves(chance):
+def both_halves(chance: random.Random) -> list[str]:
     """Tests of the low half, and a limit of the whole number whose low half may be below all that the first one leaves."""
     whole = (chance.randrange(3) << 32) + chance.choice([0, 5, 63, 64])
     lines = [[f"if w2 < {constant(chance, [32, 16])} goto out", f"if w2 > {constant(chance, [63])} goto out"],
@@ -73,7 +78,7 @@ def both_halves(chance):
     return sum(chance.sample(lines, 2), [])
 
 
-def sums(chance):
+def sums(chance: random.Random) -> list[str]:
     """Sums that wrap, masks, signs mixed: a number reaches a value of 64 bytes, or 64 bytes of the stack."""
     lines = NUMBERS + chance.choice([[], ["r2 <<= 32", "r2 |= r3"], ["r3 <<= 32"], limit(chance, 3)])
     lines += chance.choice([[], ["if r2 s< 0 goto out"], ["if r2 s>= 0 goto out"], ["if w2 s< 0 goto out"]])
@@ -90,7 +95,7 @@ def sums(chance):
     return program(["map array 4 64 1"], fill + lines, {})
 
 
-def lengths(chance):
+def lengths(chance: random.Random) -> list[str]:
     """What a test of the packet proves of pointers that were moved or copied before or after it."""
     lines = ["r2 = *(u32 *)(r1 + 0)", "r3 = *(u32 *)(r1 + 4)", "r5 = *(u32 *)(r1 + 16)", "r4 = r2", "r8 = r2"]
     unknown = [f"r5 &= {constant(chance, [1, 7, 15, 255])}", f"r{chance.choice([2, 4, 4, 4, 8])} += r5"]
@@ -111,13 +116,13 @@ def lengths(chance):
     return program([], lines, {})
 
 
-def pointer(chance):
+def pointer(chance: random.Random) -> list[str]:
     """Instructions that put some pointer into r6, of which a byte can be read."""
     return chance.choice([["r6 = r10", "r6 += -16"], ["r6 = map_val(map_by_idx(0)) + 8"], ["r6 = r1"], ["r6 = r10"],
                           ["r6 = *(u32 *)(r1 + 0)", "r2 = *(u32 *)(r1 + 4)", "r3 = r6", "r3 += 4", "if r3 > r2 goto out"]])
 
 
-def spills(chance):
+def spills(chance: random.Random) -> list[str]:
     """Pointers on the stack that are overwritten in part, by all kinds of stores, and loaded again."""
     lines = ["*(u64 *)(r10 - 16) = 5", "*(u64 *)(r10 - 24) = 5"] + pointer(chance) + ["*(u64 *)(r10 - 8) = r6"]
     size, place = chance.choice(list(SIZES)), chance.choice([-8, -8, -7, -4, -2, -1, -9, -12, -16])
@@ -128,7 +133,7 @@ def spills(chance):
         [], [f"*({size} *)({at}) = 7"], ["r2 = 7", f"*({size} *)({at}) = r2"], ["r2 = 1", f"lock *(u32 *)({at}) += r2"],
         ["r2 = r10", f"r2 += {place}", "r3 = 9", f"*({size} *)(r2 + 0) = r3"],
         ["r2 = *(u32 *)(r1 + 16)", "r2 &= 7", "r3 = r10", f"r3 += {place - 7}", "r3 += r2", "*(u8 *)(r3 + 0) = 1"],
-        ["r1 = r10", f"r1 += {place}", "call write"], ["r2 = 0", f"r2 = xchg_64(r10 - 8, r2)", "*(u64 *)(r10 - 16) = r2"],
+        ["r1 = r10", f"r1 += {place}", "call write"], ["r2 = 0", "r2 = xchg_64(r10 - 8, r2)", "*(u64 *)(r10 - 16) = r2"],
     ])
     back, size = chance.choice(["u64", "u64", "u64", "u32"]), chance.choice(["u8", "u32"])
     lines.append(f"r7 = *({back} *)(r10 - {chance.choice([8, 8, 8, 16])})")
@@ -137,23 +142,32 @@ def spills(chance):
     return program(["map array 4 64 1"], lines, {"write": ["*(u8 *)(r1 + 0) = 3", "r0 = 0"]})
 
 
-def freed(chance):
+def freed(chance: random.Random) -> list[str]:
     """Pointers to values that are deleted, replaced or not found, kept in registers, on the stack
     and in other call frames."""
     key = chance.choice(["r2 = r10;  r2 += -4", "r2 = r10;  r2 += -8"])
-    find = lambda of: [f"r1 = map_by_idx({of})", key, "call 1"]
-    put = lambda of: [f"r1 = map_by_idx({of})", key, "r3 = r10", "r3 += -24", f"r4 = {chance.choice([0, 0, 1, 2])}", "call 2"]
-    delete = lambda of: [f"r1 = map_by_idx({of})", key, "call 3"]
+
+    def find(of: int) -> list[str]:
+        return [f"r1 = map_by_idx({of})", key, "call 1"]
+
+    def put(of: int) -> list[str]:
+        return [f"r1 = map_by_idx({of})", key, "r3 = r10", "r3 += -24", f"r4 = {chance.choice([0, 0, 1, 2])}", "call 2"]
+
+    def delete(of: int) -> list[str]:
+        return [f"r1 = map_by_idx({of})", key, "call 3"]
+
     maps = [0, 0, 0, 1, 2]
     own = chance.choice(maps)
     fill = ["*(u64 *)(r10 - 8) = 0", "*(u64 *)(r10 - 24) = 1", "*(u64 *)(r10 - 32) = 2", "*(u64 *)(r10 - 40) = 0"]
-    lines = fill + chance.choice([put(own), []]) + find(own)
+    first = put(own)
+    lines = [*fill, *(first if chance.choice([True, False]) else []), *find(own)]
     found = ["if r0 == 0 goto out"]
     lines += chance.choice([found, found, ["if r0 != 0 goto +1", "goto out"], [], ["r9 = r0", "if r9 == 0 goto out"]])
     lines += chance.choice([["r7 = r0"], ["*(u64 *)(r10 - 40) = r0"], ["r7 = r0", "*(u64 *)(r10 - 40) = r0"]])
-    between = [[], delete(chance.choice(maps)), put(chance.choice(maps)), find(own) + ["r7 = r0"], find(own), ["call remove"],
+    between: list[list[str]] = [[], delete(chance.choice(maps)), put(chance.choice(maps)), find(own) + ["r7 = r0"], find(own), ["call remove"],
                find(chance.choice(maps)) + ["if r0 == 0 goto out"], find(2) + ["if r0 == 0 goto out"], ["call 5"]]
-    lines += sum((chance.choice(between) for _ in range(chance.choice([1, 1, 2]))), [])
+    for _ in range(chance.choice([1, 1, 2])):
+        lines += chance.choice(between)
     lines += chance.choice([[], ["r7 = *(u64 *)(r10 - 40)"], ["r7 = r0"], ["r7 = r0", "if r7 == 0 goto out"]])
     size = chance.choice(list(SIZES))
     lines += [f"r0 = *({size} *)(r7 + {chance.choice([0, 8 - SIZES[size], 9 - SIZES[size]])})"]
@@ -161,7 +175,7 @@ def freed(chance):
     return program(["map hash 4 8 4", "map hash 4 8 4", "map array 4 8 2"], lines, {"remove": remove})
 
 
-def stored_in(chance):
+def stored_in(chance: random.Random) -> list[str]:
     """A pointer in a caller's call frame, which the function that is called overwrites, in part or
     beside it."""
     size = chance.choice(list(SIZES))
@@ -171,14 +185,14 @@ def stored_in(chance):
     return program([], lines, {"store": [f"*({size} *)(r1 + {place}) = 3".replace("+ -", "- "), "r0 = 0"]})
 
 
-def frames(chance):
+def frames(chance: random.Random) -> list[str]:
     """Pointers into call frames that have ended, or into a call frame of the same depth that came
     later, registers over calls, and stores in a caller's call frame."""
     keep = ["r6 = r10", "*(u64 *)(r10 - 8) = 4", "*(u64 *)(r10 - 16) = 4"]
     if chance.random() < 0.3:
         return stored_in(chance)
-    give = [["r1 = r10", "r1 += -8"], ["r1 = r10", "r1 += -16"], ["r1 = r10", "r1 += -16"], ["r1 = r6"], []]
-    lines = keep + chance.choice(give) + ["call first"]
+    give: list[list[str]] = [["r1 = r10", "r1 += -8"], ["r1 = r10", "r1 += -16"], ["r1 = r10", "r1 += -16"], ["r1 = r6"], []]
+    lines = [*keep, *chance.choice(give), "call first"]
     again = ["r1 = r0", "call second"]
     stored = ["r7 = *(u64 *)(r10 - 8)", "r1 = r7", "call second"]
     lines += chance.choice([[], again, again, chance.choice(give) + ["call second"], stored])
@@ -200,7 +214,7 @@ def frames(chance):
     return program([], lines, {"first": first, "second": second})
 
 
-def answers(chance):
+def answers(chance: random.Random) -> list[str]:
     """r0 of a program of version 2, whose low half is at most 4, or a little more, by a mask, a
     test, a shift or a sum."""
     lines = [*NUMBERS, f"r0 = {chance.choice(['r2', 'r3'])}"]
@@ -218,7 +232,7 @@ def answers(chance):
     return [*lines, "exit", *(["out: r0 = 2", "exit"] if any("goto out" in line for line in lines) else [])]
 
 
-def reached(chance, lines, spare):
+def reached(chance: random.Random, lines: list[str], spare: int) -> list[str]:
     """Where r2 is at most `spare`, or a little more, it moves a pointer to bytes of which so many and one are spare, in the
     packet, in a value or on the stack."""
     size = chance.choice(list(SIZES))
@@ -229,12 +243,13 @@ def reached(chance, lines, spare):
     at = f"*({size} *)(r6 + {place})".replace("+ -", "- ")
     packet = ["r6 = *(u32 *)(r1 + 0)", "r3 = *(u32 *)(r1 + 4)", "r7 = r6", f"r7 += {last}", "if r7 > r3 goto out"]
     value = ["r6 = map_val(map_by_idx(0)) + 0"]
-    base, maps = chance.choice([(packet, []), (packet, []), (value, [f"map array 4 {-(-last // 8) * 8} 1"])])
+    base = chance.choice([packet, packet, value])
+    maps = [f"map array 4 {-(-last // 8) * 8} 1"] if base is value else []
     order = [*base, *lines] if base is value or chance.random() < 0.7 else [*lines, *base]
     return program(maps, [*order, *move, chance.choice([f"r0 = {at}", f"{at} = r2"])], {})
 
 
-def moves(chance):
+def moves(chance: random.Random) -> list[str]:
     """Packet pointers moved by numbers on and back, with fixed moves and tests between: what is proved of the last one."""
     lines = ["r6 = *(u32 *)(r1 + 0)", "r3 = *(u32 *)(r1 + 4)", "r2 = *(u32 *)(r1 + 12)", "r5 = *(u32 *)(r1 + 16)"]
     near, far = chance.choice([(0, 3), (0, 7), (0, 15), (0, 31), (-4, 3), (-8, 7), (2, 9)])
@@ -242,7 +257,10 @@ def moves(chance):
     second = chance.choice([0, 3, 7])
     lines += [f"r2 &= {second}"]
     proved = chance.choice([8, 16, 24, 32, 40])
-    test = lambda of, by: ["r7 = r" + str(of), f"r7 += {by}", "if r7 > r3 goto out"]
+
+    def test(of: int, by: int) -> list[str]:
+        return [f"r7 = r{of}", f"r7 += {by}", "if r7 > r3 goto out"]
+
     step = chance.choice([0, 1, 4, 8, -2])
     moved = chance.choice([["r6 += r5"], ["r6 += r5"], ["r6 -= r5"], ["r5 += r6", "r6 = r5"]])
     lines += chance.choice([test(6, proved), test(6, proved), [], test(6, proved) + ["*(u64 *)(r10 - 8) = r6"]])
@@ -256,7 +274,7 @@ def moves(chance):
     return program([], [*lines, f"r0 = *({size} *)(r6 + {max(-64, min(64, place))})".replace("+ -", "- ")], {})
 
 
-def reversals(chance):
+def reversals(chance: random.Random) -> list[str]:
     """Known bits whose bytes are reversed, at each size, from both sides."""
     size = chance.choice([16, 32, 64])
     byte = chance.randrange(size // 8)
@@ -269,7 +287,7 @@ def reversals(chance):
     return reached(chance, lines, chance.choice([7, 15, 31, 32]))
 
 
-def parts(chance):
+def parts(chance: random.Random) -> list[str]:
     """Numbers with limits, spilled; of a part of them, whatever is stored between, a limit is kept or not."""
     limits = [[f"r2 &= {constant(chance, [31, 7, 0x1f00, 0x1f0000])}"], limit(chance), limit(chance), ["r2 &= 31", "r2 <<= 32"],
               ["r2 &= 15", f"r2 <<= {chance.choice([8, 16, 24, 40, 56])}"], ["r2 = (s8)r2"]]
@@ -288,9 +306,10 @@ def parts(chance):
     return reached(chance, lines, chance.choice([7, 15, 31, 63]))
 
 
-def divisions(chance):
+def divisions(chance: random.Random) -> list[str]:
     """Signed quotients and remainders by numbers near 0 and near the ends, at both widths."""
-    starts = [[], ["r2 <<= 32", "r2 |= r3"], ["r2 = (s32)r2"], ["r2 = (s8)r2"], ["r2 &= 255"], ["r2 &= 255", "r2 = -r2"],
+    starts: list[list[str]] = [
+              [], ["r2 <<= 32", "r2 |= r3"], ["r2 = (s32)r2"], ["r2 = (s8)r2"], ["r2 &= 255"], ["r2 &= 255", "r2 = -r2"],
               ["r2 = (s8)r2", "if r2 s> 20 goto out"], ["r2 = (s16)r2", "if r2 s< -64 goto out"], [f"r2 = {-2**63} ll", "r2 += r3"]]
     lines = NUMBERS + chance.choice(starts) + chance.choice([[], [], limit(chance)])
     target = register(chance, 2)
@@ -303,14 +322,14 @@ def divisions(chance):
     return reached(chance, lines, chance.choice([7, 15, 30, 31, 32, 63]))
 
 
-def stored(chance, at):
+def stored(chance: random.Random, at: int) -> list[str]:
     """Stores that write all eight bytes of a stack slot, at once or in parts."""
     source = chance.choice(["r2", "r3", "r5", "7", "-1"])
     size = chance.choice(["u64", "u64", "u64", "u32", "u16", "u8"])
     return [f"*({size} *)(r10 - {at - part}) = {source}" for part in range(0, 8, SIZES[size])]
 
 
-def loaded(chance, at):
+def loaded(chance: random.Random, at: int) -> list[str]:
     """Loads from a stack slot, through r10, another pointer, a function or a helper."""
     size = chance.choice(list(SIZES))
     place = at - SIZES[size] * chance.randrange(8 // SIZES[size])
@@ -323,7 +342,7 @@ def loaded(chance, at):
     return [*chance.choice([through, through, through, through, pointer_to, function, helper]), "r5 ^= r4", "r9 = r5"]
 
 
-def slots(chance):
+def slots(chance: random.Random) -> list[str]:
     """Stack slots that are written, kept over joins, loops and calls, and read again, all of them after they were written,
     as all registers are: so none of these programs may be refused."""
     places = chance.sample(range(8, 73, 8), chance.choice([2, 3, 4]))
@@ -344,7 +363,7 @@ def slots(chance):
     return program(["map hash 8 8 4"], lines, {"leaf": ["r0 = *(u64 *)(r1 + 0)", "*(u64 *)(r10 - 8) = r0", "r0 = *(u32 *)(r10 - 8)"]})
 
 
-def copy_of(chance, number, by):
+def copy_of(chance: random.Random, number: int, by: int) -> list[str]:
     """A copy of r6 that is `by` bytes further on, in one move, in two, by a known number, or over the stack."""
     r, way = f"r{number}", chance.randrange(6)
     if way == 0:
@@ -356,10 +375,10 @@ def copy_of(chance, number, by):
     if way == 3:
         return [f"{r} = r6", f"{r} += {by + 9}", f"{r} += -9"]
     over = ["*(u64 *)(r10 - 8) = " + r, f"{r} = *(u64 *)(r10 - 8)"]
-    return [f"{r} = r6", f"{r} += {by}", *chance.choice([over, []])]
+    return [f"{r} = r6", f"{r} += {by}", *(over if chance.choice([True, False]) else [])]
 
 
-def fixed(chance):
+def fixed(chance: random.Random) -> list[str]:
     """Copies of a packet pointer that differ by their fixed parts: a test of one proves bytes of the others, less or more.
     Some have another variable part, of which such a test shows nothing."""
     lines = ["r6 = *(u32 *)(r1 + 0)", "r3 = *(u32 *)(r1 + 4)", "r5 = *(u32 *)(r1 + 16)", "r2 = *(u32 *)(r1 + 12)"]
@@ -371,7 +390,7 @@ def fixed(chance):
         parts[number] = chance.choice([0, 1, 2, 4, 8, 8, 12, 16, 24, 64, -1, -4, -8, 300, 4096, 9216, 65535])
         lines += copy_of(chance, number, parts[number])
     other = chance.choice([6, 7, 8])
-    lines += chance.choice([[], [], [], [f"r{other} += r5", f"r{other} -= r5"], [f"r4 = r5", "r4 &= 3", f"r{other} += r4"],
+    lines += chance.choice([[], [], [], [f"r{other} += r5", f"r{other} -= r5"], ["r4 = r5", "r4 &= 3", f"r{other} += r4"],
                             ["if r2 & 1 goto +1", f"r{other} += 1"]])
     tested = chance.choice([6, 7, 7, 8, 8])
     t = f"r{tested}"
@@ -389,7 +408,7 @@ def fixed(chance):
     return program([], [*lines, chance.choice([f"r0 = {at}", f"{at} = r2"])], {})
 
 
-def held(chance, kind):
+def held(chance: random.Random, kind: str) -> list[str]:
     """Instructions that put what is of this kind into r0; r3 is the packet's end, r6 is 8 proved bytes of it, and the key at
     -96 was written."""
     key = ["r2 = r10", "r2 += -96", "r1 = map_by_idx(0)", "call 1"]
@@ -401,13 +420,15 @@ def held(chance, kind):
     }[kind]
 
 
-def used(chance, kind):
+def used(chance: random.Random, kind: str) -> list[str]:
     """Instructions that use r4 as what is of this kind may be used, or a little more."""
     size, near = chance.choice(list(SIZES)), chance.choice([0, 0, 0, 1])
-    at = lambda place: f"*({size} *)(r4 + {place})".replace("+ -", "- ")
-    moved = lambda room: ["r5 = r10", f"r5 += -{room + near + SIZES[size] - 1}", "r5 += r4", f"r0 = *({size} *)(r5 + 0)"]
+
+    def at(place: int) -> str:
+        return f"*({size} *)(r4 + {place})".replace("+ -", "- ")
+
     if kind == "small":
-        return moved(104)
+        return ["r5 = r10", f"r5 += -{104 + near + SIZES[size] - 1}", "r5 += r4", f"r0 = *({size} *)(r5 + 0)"]
     if kind == "found":
         return ["if r4 == 0 goto out", f"r0 = {at(8 - SIZES[size] + near)}"]
     if kind in ("stack", "value", "packet"):
@@ -421,7 +442,7 @@ NEAR = {"small": ["any", "stack"], "stack": ["lower", "value"], "value": ["insid
         "found": ["small", "value"], "context": ["stack"], "map": ["value"], "any": ["small"]}
 
 
-def kinds(chance):
+def kinds(chance: random.Random) -> list[str]:
     """Places that hold one kind of value on one path and perhaps another on the next, in this or in
     an outer function, which meet where the second path comes to a state that was stored; then they
     are used as the first."""

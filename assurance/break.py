@@ -1,6 +1,8 @@
 """The work of break.sh: runs the program under break.c, breaks one call at a time, and compares the
 results."""
 
+from __future__ import annotations
+
 import itertools
 import os
 import select
@@ -8,23 +10,28 @@ import struct
 import subprocess
 import sys
 from collections import Counter
+from collections.abc import Iterator
+from typing import IO
+
+sys.path.insert(0, os.path.join(os.path.dirname(os.path.abspath(__file__)), "../checks"))
+from common import bytes_of, there, write
 
 arguments = sys.argv[1:]
-few = arguments[0] == "--few"
-program, examples, work, *folders = arguments[few:]
+FEW = arguments[0] == "--few"
+program, examples, work, *folders = arguments[FEW:]
 KINDS = ("alloc", "allocs", "read", "write", "no-write", "short-read", "short-write")
 FEW_KINDS = ("alloc", "read", "write")
 
 
-def image(name):
+def image(name: str) -> str:
     return f"{examples}/{name}.image"
 
 
-def frames(name):
+def frames(name: str) -> str:
     return f"{examples}/{name}.frames"
 
 
-def by_table(name):
+def by_table(name: str) -> list[list[str]]:
     """The commands on a program and its proof table, and a run by that."""
     return [
         ["prove", image(name), "made"],
@@ -83,7 +90,7 @@ ENTRIES = "entry {} slot 0 to 1\nr1 context\nentry 1 slot 1\nr1 context\nr0 {}\n
 REFUSED = {"step": (2, "unset"), "successor": (2, "number 3"), "field": (0, "number 2")}
 
 
-def runs_of(folder):
+def runs_of(folder: str) -> Iterator[list[str]]:
     """The commands on the images of a folder, and on their frames where there are some of the same name."""
     for name in sorted(os.listdir(folder)):
         stem, kind = os.path.splitext(os.path.join(folder, name))
@@ -101,22 +108,20 @@ def runs_of(folder):
             yield ["asm", f"{stem}.text", "made"]
 
 
-def records(stream):
+def records(stream: bytes) -> list[bytes]:
     """The records of a frame stream, as bytes."""
     found, at, head = [], 4, 24 if stream[:4] == b"XPF2" else 20
     while at + head <= len(stream):
         size = head + struct.unpack_from("<I", stream, at + 16)[0]
-        found.append(stream[at:at + size])
+        found.append(stream[at : at + size])
         at += size
     return found
 
 
-def map_lines(words, count):
+def map_lines(words: list[str], count: int) -> list[bytes]:
     """The lines of maps after the first frames."""
-    with open(words[2], "rb") as it:
-        stream = it.read()
-    with open("first.frames", "wb") as it:
-        it.write(stream[:4] + b"".join(records(stream)[:count]))
+    stream = bytes_of(words[2])
+    write("first.frames", stream[:4] + b"".join(records(stream)[:count]))
     out = Answer([*words[:2], "first.frames", *words[3:]]).out
     return [line for line in out.splitlines() if line.startswith(b"map ")]
 
@@ -125,7 +130,7 @@ class Answer:
     """What a run wrote, its status, and whether the call that was to fail was reached. Standard output is a pipe, or a
     file where it is to be stored."""
 
-    def __init__(self, words, kind=None, call=0, stored=False):
+    def __init__(self, words: list[str], kind: str | None = None, call: int = 0, stored: bool = False) -> None:
         for name in ("made", "mark"):
             if os.path.exists(name):
                 os.remove(name)
@@ -133,37 +138,41 @@ class Answer:
         if kind:
             env.update({"BREAK": kind, "WHEN": str(call), "MARK": f"{work}/mark"})
         with open("report", "w+b") as report:
-            out = report if stored else subprocess.PIPE
+            out: int | IO[bytes] = report if stored else subprocess.PIPE
             ended = subprocess.run(
-                [program, *words], env=env, stdin=subprocess.DEVNULL, stdout=out, stderr=subprocess.PIPE, timeout=60
+                [program, *words],
+                env=env,
+                stdin=subprocess.DEVNULL,
+                stdout=out,
+                stderr=subprocess.PIPE,
+                timeout=60,
+                check=False,
             )
             report.seek(0)
-            self.out = report.read() if stored else ended.stdout
-        self.status, self.err = ended.returncode, ended.stderr
-        self.made = None
-        if os.path.exists("made"):
-            with open("made", "rb") as it:
-                self.made = it.read()
+            self.out: bytes = report.read() if stored else ended.stdout
+        self.status: int = ended.returncode
+        self.err: bytes = ended.stderr
+        self.made = bytes_of("made") if os.path.exists("made") else None
         self.reached = os.path.exists("mark")
         self.tried_again = self.reached and os.path.getsize("mark") > 0
 
-    def is_as(self, good):
+    def is_as(self, good: Answer) -> bool:
         return (self.status, self.out, self.err, self.made) == (good.status, good.out, good.err, good.made)
 
-    def message(self):
+    def message(self) -> bytes:
         """The first line of standard error; what follows it may say the cause."""
         return self.err.partition(b"\n")[0]
 
-    def is_quiet(self):
+    def is_quiet(self) -> bool:
         """Neither standard output nor the file got a byte."""
         return not self.out and not self.made
 
-    def begins(self, good):
+    def begins(self, good: Answer) -> bool:
         """Both outputs have a beginning of what they should have, and nothing else."""
         return good.out.startswith(self.out) and (good.made or b"").startswith(self.made or b"")
 
 
-def lacks_reason(found, good):
+def lacks_reason(found: Answer, good: Answer) -> bool:
     """What is known at the refusal of a text, of control flow, of a program or of an entry of a
     table is left out, and standard error has the sentence, the position, and for P7 the sentence of
     its V code."""
@@ -174,16 +183,16 @@ def lacks_reason(found, good):
     return same and good.out.startswith(known) and found.err == b"".join(kept)
 
 
-def lacks_stops(words, found, good):
+def lacks_stops(words: list[str], found: Answer, good: Answer) -> bool:
     """Where the runs of a trace stopped is left out, and standard error has why the stream ended
     early."""
     same = (found.status, found.out, found.made) == (good.status, good.out, good.made)
     lines = good.err.splitlines(keepends=True)
     stops = [k for k, line in enumerate(lines) if line.startswith(b"frame ")]
-    return words[0] == "trace" and same and bool(stops) and found.err == b"".join(lines[:stops[0]])
+    return words[0] == "trace" and same and bool(stops) and found.err == b"".join(lines[: stops[0]])
 
 
-def of_memory(words, found, good):
+def of_memory(words: list[str], found: Answer, good: Answer) -> str | None:
     if found.status == 5 and found.err == b"out of memory\n" and found.is_quiet():
         return "status 5"
     if found.is_as(good):
@@ -192,7 +201,7 @@ def of_memory(words, found, good):
     return "unchanged, what is known left away" if known else None
 
 
-def of_read(words, found, good):
+def of_read(words: list[str], found: Answer, good: Answer) -> str | None:
     named = [words[1]] + ([words[-1]] if words[0] == "recheck" or "--table" in words else [])
     if found.status == 4 and found.message() in [f"cannot read {name}".encode() for name in named] and found.is_quiet():
         return "status 4"
@@ -203,12 +212,12 @@ def of_read(words, found, good):
     made = found.made or b""
     # if the magic of the frames was not read, the frames out are XPF1
     begun = (good.made or b"").startswith(made) or (last == b"fault F5 at 0" and made == b"XPF1")
-    begun = begun and good.out.splitlines()[:len(of_frames)] == of_frames
-    whole = lines[len(of_frames):] == map_lines(words, len(of_frames))
+    begun = begun and good.out.splitlines()[: len(of_frames)] == of_frames
+    whole = lines[len(of_frames) :] == map_lines(words, len(of_frames))
     return "status 3, F5" if last.startswith(b"fault F5 at ") and begun and whole else None
 
 
-def of_write(words, found, good):
+def of_write(_: list[str], found: Answer, good: Answer) -> str | None:
     if found.tried_again:
         return None
     is_named = found.message() in (b"cannot write standard output", b"cannot write made")
@@ -218,14 +227,14 @@ def of_write(words, found, good):
     return "status unchanged, nothing said" if good.err and same else None
 
 
-def of_short(words, found, good):
+def of_short(_: list[str], found: Answer, good: Answer) -> str | None:
     return "unchanged" if found.is_as(good) else None
 
 
 ALLOWED = dict(zip(KINDS, (of_memory, of_memory, of_read, of_write, of_write, of_short, of_short)))
 
 
-def takes_memory_late(words, good):
+def takes_memory_late(words: list[str], good: Answer) -> bool:
     """Whether `run` or `trace` asks for memory once it has written a byte, or has another result if
     all of it is refused then. What is known of a refused program is looked for after the refusal is
     written, so refusals are left out; and where the runs of a trace stopped is put into words after
@@ -234,58 +243,52 @@ def takes_memory_late(words, good):
     return not lacks_stops(words, found, good) and (found.reached or not found.is_as(good))
 
 
-def comes_at_once():
+def comes_at_once() -> bool:
     """Whether the magic of the frames out and the line of the first frame, in a pipe, come before the second frame."""
-    with open(frames("two"), "rb") as it:
-        stream = it.read()
+    stream = bytes_of(frames("two"))
     front = stream[:4] + records(stream)[0]
     words = [program, "run", image("pass"), "/dev/stdin", "made"]
     with subprocess.Popen(words, stdin=subprocess.PIPE, stdout=subprocess.PIPE, bufsize=0) as running:
-        running.stdin.write(front)
+        given, said = there(running.stdin), there(running.stdout)
+        given.write(front)
         first = b""
-        while not first.endswith(b"\n") and select.select([running.stdout], [], [], 20)[0]:
-            first += os.read(running.stdout.fileno(), 4096) or b"\n"
-        with open("made", "rb") as it:
-            magic = it.read(4)
-        running.stdin.write(stream[len(front):])
-        running.stdin.close()
-        rest = running.stdout.read()
-    with open("made", "rb") as it:
-        made = it.read()
+        while not first.endswith(b"\n") and select.select([said], [], [], 20)[0]:
+            first += os.read(said.fileno(), 4096) or b"\n"
+        magic = bytes_of("made")[:4]
+        given.write(stream[len(front) :])
+        given.close()
+        rest = said.read()
+    made = bytes_of("made")
     good = Answer(words[1:3] + [frames("two"), "made"])
     begun = first == good.out.splitlines(keepends=True)[0] and magic == stream[:4]
     return begun and first + rest == good.out and made == good.made
 
 
-def make_tables():
+def make_tables() -> None:
     """The proof tables of some programs, and tables that are refused."""
     for name in ("pass", "echo", "allow", "reasons"):
         Answer(["prove", image(name), "made"])
         os.rename("made", f"{name}.table")
     for name, fields in REFUSED.items():
-        with open("table.text", "w") as it:
-            it.write(ENTRIES.format(*fields))
+        write("table.text", ENTRIES.format(*fields))
         subprocess.run(["python3", f"{examples}/../tools/table.py", "make", "table.text", f"{name}.table"], check=True)
 
 
-def main():
+def main() -> None:
     os.chdir(work)
-    with open("right.text", "w") as it:
-        it.write("  r0 = 2 # passes\nagain: r1 = 5; if r1 > 7 goto again\nexit\n")
-    with open("wrong.text", "w") as it:
-        it.write("exit\ngoto nowhere\n")
-    with open("again.text", "w") as it:
-        it.write("again: r6 = *(u32 *)(r1 + 12)\nif r6 != 0 goto again\nr0 = 2\nexit\n")
-    with open("falls.text", "w") as it:
-        it.write("r0 = 2\n")
+    write("right.text", "  r0 = 2 # passes\nagain: r1 = 5; if r1 > 7 goto again\nexit\n")
+    write("wrong.text", "exit\ngoto nowhere\n")
+    write("again.text", "again: r6 = *(u32 *)(r1 + 12)\nif r6 != 0 goto again\nr0 = 2\nexit\n")
+    write("falls.text", "r0 = 2\n")
     for name in ("again", "falls"):
         Answer(["asm", f"{name}.text", f"{name}.image"])
     make_tables()
-    given, wrong = Counter(), 0
+    given: Counter[tuple[str, str | None]] = Counter()
+    wrong = 0
     if not comes_at_once():
         wrong += 1
         print("WRONG the first line or the magic did not come before the second frame", flush=True)
-    runs = [words for folder in folders for words in runs_of(folder)] or (FEW_RUNS if few else RUNS)
+    runs = [words for folder in folders for words in runs_of(folder)] or (FEW_RUNS if FEW else RUNS)
     for words in runs:
         good = Answer(words)
         if words[0] in ("run", "trace") and good.status != 2 and takes_memory_late(words, good):
@@ -293,7 +296,7 @@ def main():
             print("WRONG memory was asked for after the first byte", words, flush=True)
     for words, stored in itertools.product(runs, (False, True)):
         good = Answer(words, stored=stored)
-        for kind in FEW_KINDS if few else KINDS:
+        for kind in FEW_KINDS if FEW else KINDS:
             for call in range(1, 100000):
                 found = Answer(words, kind, call, stored)
                 if not found.reached:

@@ -12,16 +12,19 @@ written to again. Where the frames out go to standard output, standard error has
 one of standard output. A read or a write that moves one byte changes nothing. It needs a C compiler (CC). The last line is
 'N tried, M wrong'. In the gate.
 """
+from __future__ import annotations
+
 import os
 import re
-import shutil
 import subprocess
 import sys
 import tempfile
 from collections import Counter
 
-HERE = os.path.dirname(os.path.abspath(__file__))
-TOP = os.path.dirname(HERE)
+sys.path.insert(0, os.path.join(os.path.dirname(os.path.abspath(__file__)), "../checks"))
+import common
+from common import TOP, bytes_of, compiler, write
+
 KINDS = ("alloc", "allocs", "read", "write", "no-write", "short-read", "short-write")
 OUTPUTS = ("made", "report", "held")
 EVERY_OUTPUT = ["--report", "report", "--maps-out", "held"]
@@ -47,7 +50,7 @@ RUNS = (
 class Answer:
     """What the program wrote, its status, and whether the call that was to fail was reached."""
 
-    def __init__(self, program, words, kind=None, call=0):
+    def __init__(self, program: str, words: list[str], kind: str | None = None, call: int = 0) -> None:
         for name in (*OUTPUTS, "mark"):
             if os.path.exists(name):
                 os.remove(name)
@@ -56,38 +59,34 @@ class Answer:
             env.update({"BREAK": kind, "WHEN": str(call), "MARK": "mark"})
         ran = subprocess.run([program, *words], env=env, stdin=subprocess.DEVNULL, capture_output=True, timeout=60, check=False)
         self.status, self.err = ran.returncode, ran.stderr
-        self.outputs = [ran.stdout]
-        for name in OUTPUTS:
-            self.outputs.append(None)
-            if os.path.exists(name):
-                with open(name, "rb") as file:
-                    self.outputs[-1] = file.read()
+        self.out = ran.stdout
+        self.outputs = [ran.stdout, *(bytes_of(name) if os.path.exists(name) else None for name in OUTPUTS)]
         self.reached = os.path.exists("mark")
         self.tried_again = self.reached and os.path.getsize("mark") > 0
 
-    def is_as(self, whole):
+    def is_as(self, whole: Answer) -> bool:
         return (self.status, self.outputs, self.err) == (whole.status, whole.outputs, whole.err)
 
-    def has_all_but_counts(self, whole):
+    def has_all_but_counts(self, whole: Answer) -> bool:
         """Whether the files are whole, and the frames out where they go to standard output."""
-        frames = whole.outputs[0] if whole.outputs[0].startswith(b"XPF") else b""
+        frames = whole.out if whole.out.startswith(b"XPF") else b""
         return self.outputs == [frames, *whole.outputs[1:]]
 
-    def begins(self, whole):
+    def begins(self, whole: Answer) -> bool:
         """Whether each output has a beginning of what it should have, and nothing else."""
         return all((right or b"").startswith(found or b"") for found, right in zip(self.outputs, whole.outputs))
 
-    def is_quiet(self):
+    def is_quiet(self) -> bool:
         return not any(self.outputs)
 
 
-def lacks_reason(answer, whole):
+def lacks_reason(answer: Answer, whole: Answer) -> bool:
     """Whether all is as it was, except that standard error has less of what is known of a refusal."""
-    known = b"refused " in whole.outputs[0] + whole.err and answer.outputs == whole.outputs
+    known = b"refused " in whole.out + whole.err and answer.outputs == whole.outputs
     return known and answer.status == whole.status and whole.err.startswith(answer.err.split(b"\n")[0])
 
 
-def of_memory(_, answer, whole):
+def of_memory(_: list[str], answer: Answer, whole: Answer) -> str | None:
     if answer.status == 5 and answer.err == b"out of memory\n":
         if answer.is_quiet():
             return "status 5, nothing written"
@@ -97,10 +96,10 @@ def of_memory(_, answer, whole):
     return "unchanged, what is known left away" if lacks_reason(answer, whole) else None
 
 
-def is_cut_off(words, answer, whole):
+def is_cut_off(words: list[str], answer: Answer, whole: Answer) -> bool:
     """Whether counts, frames out and report are those of frames that cannot be read on; what the maps hold is in the report."""
     _, made, report, held = answer.outputs
-    counts = (answer.err if words[2] == "-" else answer.outputs[0]).split(b"\n\n")[-1].splitlines()
+    counts = (answer.err if words[2] == "-" else answer.out).split(b"\n\n")[-1].splitlines()
     last = [line for line in counts if line.startswith(b"fault F5 at ")]
     run = sum(int(line.split()[-1]) for line in counts if re.match(rb"(?!fault|reason|other)[A-Z]+( \w+)? \d+$", line))
     right = len(last) == 1 and ((whole.outputs[1] or b"").startswith(made or b"") or made == b"XPF1")
@@ -112,14 +111,14 @@ def is_cut_off(words, answer, whole):
     return right and b"the stream cannot be read\n" in answer.err
 
 
-def of_read(words, answer, whole):
+def of_read(words: list[str], answer: Answer, whole: Answer) -> str | None:
     named = [words[0], *(word for word in words if word in ("list", "wrong", "examples/pass.table"))]
     if answer.status == 4 and answer.err.split(b"\n")[0].decode() in [f"cannot read {name}" for name in named]:
-        return "status 4" if not any(it is not None for it in answer.outputs[1:]) and not answer.outputs[0] else None
+        return "status 4" if not any(it is not None for it in answer.outputs[1:]) and not answer.out else None
     return "status 3, F5" if answer.status == 3 and is_cut_off(words, answer, whole) else None
 
 
-def of_write(words, answer, whole):
+def of_write(words: list[str], answer: Answer, whole: Answer) -> str | None:
     named = answer.status == 4 and re.search(rb"^cannot write (standard output|made|report|held)$", answer.err, re.M)
     if named and "-" in words and answer.outputs == whole.outputs:
         return "status 4, the counts"
@@ -131,26 +130,24 @@ def of_write(words, answer, whole):
     return "status unchanged, less said" if same and len(answer.err) < len(whole.err) else None
 
 
-def of_short(_, answer, whole):
+def of_short(_: list[str], answer: Answer, whole: Answer) -> str | None:
     return "unchanged" if answer.is_as(whole) else None
 
 
 ALLOWED = dict(zip(KINDS, (of_memory, of_memory, of_read, of_write, of_write, of_short, of_short)))
 
 
-def prepare():
+def prepare() -> None:
     os.symlink(os.path.join(TOP, "examples"), "examples")
-    with open("list", "w", encoding="utf-8") as file:
-        file.write("# counts\n" + "".join(f"map 0 c00002{number:02x} {number:02x}00000000000000\n" for number in range(200)))
-    with open("wrong", "w", encoding="utf-8") as file:
-        file.write("map 0 c0000201 0000000000000000\nmap 0 c00002 00\n")
-    compiler = os.environ.get("CC") or shutil.which("cc") or shutil.which("clang")
-    subprocess.run([compiler, "-O1", "-fPIC", "-shared", "-o", "between.so", os.path.join(HERE, "break.c")], check=True)
+    write("list", "# counts\n" + "".join(f"map 0 c00002{number:02x} {number:02x}00000000000000\n" for number in range(200)))
+    write("wrong", "map 0 c0000201 0000000000000000\nmap 0 c00002 00\n")
+    source = os.path.join(os.path.dirname(os.path.abspath(__file__)), "break.c")
+    subprocess.run([compiler(), "-O1", "-fPIC", "-shared", "-o", "between.so", source], check=True)
 
 
-def main():
-    program = os.path.abspath(sys.argv[1] if len(sys.argv) > 1 else os.path.join(TOP, "crates/xdpvm_filter/out/xdpvm_filter"))
-    given = Counter()
+def main() -> None:
+    program = common.program("xdpvm_filter")
+    given: Counter[tuple[str, str | None]] = Counter()
     with tempfile.TemporaryDirectory() as folder:
         os.chdir(folder)
         prepare()
@@ -162,7 +159,7 @@ def main():
                     result = ALLOWED[kind](words, answer, whole)
                     given[kind, result] += 1
                     if result is None:
-                        print(f"{' '.join(words)}: {kind} {call}: {answer.status} {answer.outputs} {answer.err[-200:]}")
+                        print(f"{' '.join(words)}: {kind} {call}: {answer.status} {answer.outputs} {answer.err[-200:]!r}")
                     call += 1
         os.chdir("/")
     for (kind, result), count in sorted(given.items(), key=str):

@@ -21,9 +21,12 @@ import shutil
 import subprocess
 import sys
 import tempfile
+from collections.abc import Iterator
 
-HERE = os.path.dirname(os.path.abspath(__file__))
-TOP = os.path.dirname(HERE)
+sys.path.insert(0, os.path.join(os.path.dirname(os.path.abspath(__file__)), "../checks"))
+import common
+from common import TOP, compiler, write
+
 RUNS = (
     ["examples/filter.image", "examples/unguarded.image", "--format", "csv"],
     ["few", "--sort", "bound"],
@@ -50,28 +53,31 @@ TOOK = {"milliseconds": "3703.701", "prove_milliseconds": "8641.969", "recheck_m
 class Answer:
     """What the program wrote, its status, and whether the call that was to fail was reached. Times are left out."""
 
-    def __init__(self, program, words, kind=None, call=0):
+    def __init__(self, program: str, words: list[str], kind: str | None = None, call: int = 0) -> None:
         env = {"LD_PRELOAD": os.path.abspath("between.so")}
         if os.path.exists("mark"):
             os.remove("mark")
         if kind:
             env.update({"BREAK": kind, "WHEN": str(call), "MARK": "mark"})
-        ran = subprocess.run([program, *words], env=env, stdin=subprocess.DEVNULL, stdout=subprocess.PIPE, stderr=subprocess.PIPE, timeout=60)
+        ran = subprocess.run([program, *words], env=env, stdin=subprocess.DEVNULL, capture_output=True, timeout=60, check=False)
         self.status, self.out, self.err = ran.returncode, TIMES.sub(b"T", ran.stdout), ran.stderr
         self.broken = os.path.exists("mark")
         self.tried_again = self.broken and os.path.getsize("mark") > 0
 
 
-def is_shorter(answer, whole):
+def is_shorter(answer: Answer, whole: Answer) -> bool:
     """Whether lines were left out at the end of what is known of a refusal."""
-    return (answer.status, answer.err) == (whole.status, whole.err) and b"refused" in answer.out and whole.out.startswith(answer.out)
+    return (
+        (answer.status, answer.err) == (whole.status, whole.err) and b"refused" in answer.out and whole.out.startswith(answer.out)
+    )
 
 
-def is_right(kind, answer, whole):
+def is_right(kind: str, answer: Answer, whole: Answer) -> bool:
     if answer.tried_again:
         return False
     if kind in REASONS:
-        return answer.status == 4 and re.search(rb"^cannot (read|write) \S+: " + REASONS[kind] + b"$", answer.err, re.M)
+        is_named = re.search(rb"^cannot (read|write) \S+: " + REASONS[kind] + b"$", answer.err, re.M)
+        return answer.status == 4 and is_named is not None
     if (answer.status, answer.out, answer.err) == (whole.status, whole.out, whole.err):
         return True
     if kind == "alloc":
@@ -83,10 +89,10 @@ def is_right(kind, answer, whole):
     return answer.status == 4 and b"cannot write" in answer.err or less_said
 
 
-def has_right_times(program):
+def has_right_times(program: str) -> bool:
     """Whether a row says of verify, prove and recheck how long they took by the clock."""
     env = {"LD_PRELOAD": os.path.abspath("between.so"), "TICK": str(TICK)}
-    rows = []
+    rows: list[dict[str, object]] = []
     for form in ("csv", "json"):
         words = [program, "examples/pass.image", "--tables", "made", "--format", form]
         ran = subprocess.run(words, env=env, stdin=subprocess.DEVNULL, capture_output=True, timeout=60, check=True)
@@ -98,7 +104,7 @@ def has_right_times(program):
     return took == [TOOK, TOOK]
 
 
-def runs_of(folder):
+def runs_of(folder: str) -> Iterator[list[str]]:
     """The command lines for the images of a folder."""
     for name in sorted(os.listdir(folder)):
         if name.endswith(".image"):
@@ -110,20 +116,19 @@ def runs_of(folder):
             yield ["dis", "--dot", path]
 
 
-def prepare():
+def prepare() -> None:
     os.symlink(os.path.join(TOP, "examples"), "examples")
     for name in ("few", "made"):
         os.mkdir(name)
     for name in ("filter", "talkers", "unguarded"):
         shutil.copy(f"examples/{name}.image", "few")
-    with open("old.csv", "w", encoding="utf-8") as file:
-        file.write("file,bound,explored\nfew/filter.image,5,7\n")
-    compiler = os.environ.get("CC") or shutil.which("cc") or shutil.which("clang")
-    subprocess.run([compiler, "-O1", "-fPIC", "-shared", "-o", "between.so", os.path.join(HERE, "break.c")], check=True)
+    write("old.csv", "file,bound,explored\nfew/filter.image,5,7\n")
+    source = os.path.join(os.path.dirname(os.path.abspath(__file__)), "break.c")
+    subprocess.run([compiler(), "-O1", "-fPIC", "-shared", "-o", "between.so", source], check=True)
 
 
-def main():
-    program = os.path.abspath(sys.argv[1] if len(sys.argv) > 1 else os.path.join(TOP, "crates/xdpvm_survey/out/xdpvm_survey"))
+def main() -> None:
+    program = common.program("xdpvm_survey")
     runs = list(runs_of(os.path.abspath(sys.argv[2]))) if len(sys.argv) > 2 else RUNS
     with tempfile.TemporaryDirectory() as folder:
         os.chdir(folder)
@@ -137,7 +142,7 @@ def main():
                     tried += 1
                     if not is_right(kind, answer, whole):
                         wrong += 1
-                        print(f"{' '.join(words)}: {kind} {call}: {answer.status} {answer.out[-200:]} {answer.err[-200:]}")
+                        print(f"{' '.join(words)}: {kind} {call}: {answer.status} {answer.out[-200:]!r} {answer.err[-200:]!r}")
                     call += 1
         os.chdir("/")
     print(f"{tried} tried, {wrong} wrong")

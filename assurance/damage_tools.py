@@ -8,7 +8,6 @@ place of four bytes. Each is read by the tool's own functions. What comes is wha
 other exception is printed with the bytes' place in the run. The last line counts; the exit status is 1 if there was one.
 """
 import argparse
-import collections
 import glob
 import io
 import os
@@ -50,7 +49,7 @@ def read_types(data: bytes) -> None:
 
 
 def read_frames(data: bytes) -> None:
-    source, state = frames.Source(io.BytesIO(data)), collections.Counter()
+    source, state = frames.Source(io.BytesIO(data)), frames.Met()
     try:
         for one in frames.reader_of(source)[0](source, state):
             assert len(one.body) <= frames.PIECE
@@ -93,7 +92,7 @@ def stored() -> Iterator[tuple[str, Reader, bytes]]:
                 for name, write in (("pcap", frames.write_pcap), ("text", frames.write_text)):
                     out: list[bytes] = []
                     source = frames.Source(io.BytesIO(data))
-                    write(frames.read_pcapng(source, collections.Counter()), out.append)
+                    write(frames.read_pcapng(source, frames.Met()), out.append)
                     yield f"firewall as {name}", read_frames, b"".join(out)
 
 

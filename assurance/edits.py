@@ -1,13 +1,15 @@
 """What an edit says: the lines of a crate's code that it changes, and the functions that they are in.
 
-An edit is a file of lines 'file: PATH', below the crate, and of pairs 'old: TEXT' and 'new: TEXT', one line for one line; a text that is
-replaced is in its file once. Where no changed line is in a function, as if a constant is changed, a line
+An edit is a file of lines 'file: PATH', below the crate, and of pairs 'old: TEXT' and 'new: TEXT', one line for one line; a text
+that is replaced is in its file once. Where no changed line is in a function, as if a constant is changed, a line
 '# refused in: FUNCTION' names the one that must be refused.
 """
 import os
 import re
-import sys
+from collections.abc import Iterator
+from typing import NamedTuple
 
+Change = tuple[str, str, str]  # a file, the old text and the new one
 FUNCTION = re.compile(r'(\s*)(?:pub(?:\([a-z ]+\))? )?(?:const )?(?:unsafe )?(?:extern "C" )?fn (\w+)')
 BLOCK = re.compile(
     r"(?:unsafe )?impl(?:<[^{]*?>)? (?:(?P<trait>[\w:<>, '&]+) for )?&?(?P<type>\w+)"
@@ -19,14 +21,24 @@ ROOTS = ("src/lib.rt", "src/main.rt")
 BY_NAME = re.compile(r"has no field|is not in scope|has no `|was not admitted")
 
 
-def text_of(path):
+class Function(NamedTuple):
+    """A function of a file: its lines, its name, and the type and the trait of the block `impl` that it is in."""
+
+    first: int
+    last: int
+    name: str
+    kind: str | None
+    trait: str | None
+
+
+def text_of(path: str) -> str:
     with open(path, encoding="utf-8") as file:
         return file.read()
 
 
-def changes(path):
+def changes(path: str) -> list[Change]:
     """The changes that an edit lists, each as (file, old text, new text)."""
-    found, file, old = [], None, None
+    found, file, old = [], "", ""
     for line in text_of(path).split("\n"):
         if line.startswith("file: "):
             file = line[len("file: ") :].strip()
@@ -37,32 +49,31 @@ def changes(path):
     return found
 
 
-def edited(folder, listed):
+def edited(folder: str, listed: list[Change]) -> tuple[dict[str, str], str | None]:
     """The texts of a crate's files with these changes made, by file; and why a change cannot be made, or None."""
-    texts = {}
+    texts: dict[str, str] = {}
     for file, old, new in listed:
         if file not in texts:
             if not file or not os.path.isfile(f"{folder}/{file}"):
                 return texts, f"there is no {file}"
             texts[file] = text_of(f"{folder}/{file}")
         if not old or texts[file].count(old) != 1:
-            return texts, f"its file has {texts[file].count(old) if old else 0} times: {(old or '').strip()}"
+            return texts, f"its file has {texts[file].count(old) if old else 0} times: {old.strip()}"
         texts[file] = texts[file].replace(old, new)
     return texts, None if texts else "it names no file"
 
 
-def module_of(file):
+def module_of(file: str) -> list[str]:
     return [] if file in ROOTS else file[len("src/") : -len(".rt")].split("/")
 
 
-def is_end(line, indent):
+def is_end(line: str, indent: str) -> bool:
     """Whether a line ends the function whose header has this indent: its last brace, or a header that has no body."""
     return line == indent + "}" or re.match(indent + r"[^ ].*(;|\})$", line) is not None
 
 
-def functions(file, text):
-    """The functions of a file: (first line, last line, name, type, trait). Lines begin at 0; outside a block `impl` there is no
-    type and no trait; in the block of a trait this is the type."""
+def functions(text: str) -> Iterator[Function]:
+    """The functions of a file. Lines begin at 0; in the block of a trait this is the type."""
     lines, block = text.split("\n"), None
     for at, line in enumerate(lines):
         if line.startswith("}"):
@@ -74,32 +85,33 @@ def functions(file, text):
             end = next((it for it in range(at, len(lines)) if is_end(lines[it], header[1])), at)
             own = block if header[1] else None
             trait = re.sub(r"<.*", "", own["trait"] or "").split("::")[-1].strip() if own else None
-            yield at, end, header[2], own and (own["type"] or own["own"]), trait
+            kind = (own["type"] or own["own"]) if own else None
+            yield Function(at, end, header[2], kind, trait)
 
 
-def shown(file, name, kind, trait):
+def shown(file: str, it: Function) -> str:
     """A function's name as a check ends it: with its type (and trait), or with its module."""
-    return "::".join(([kind + trait] if kind else module_of(file)) + [name])
+    return "::".join(([it.kind + (it.trait or "")] if it.kind else module_of(file)) + [it.name])
 
 
-def changed_functions(folder, path):
+def changed_functions(folder: str, path: str) -> tuple[set[str], bool]:
     """The names of the functions in which an edit must be refused, and whether all that it changes is in them."""
     names, is_all = set(), True
     for file, old, _ in changes(path):
         text = text_of(f"{folder}/{file}")
         at = text[: text.find(old)].count("\n")
-        inside = [shown(file, *it) for first, last, *it in functions(file, text) if first <= at <= last]
+        inside = [shown(file, it) for it in functions(text) if it.first <= at <= it.last]
         names.update(inside[-1:])
         is_all = is_all and bool(inside)
     return names | set(re.findall(r"(?m)^# refused in: (\S+)$", text_of(path))), is_all
 
 
-def is_in(name, file, text, line):
+def is_in(name: str, file: str, text: str, line: int) -> bool:
     """Whether a line of a file, from 0, is in the function of this name."""
-    return any(first <= line <= last and shown(file, *it) == name for first, last, *it in functions(file, text))
+    return any(it.first <= line <= it.last and shown(file, it) == name for it in functions(text))
 
 
-def source_files(folder):
+def source_files(folder: str) -> Iterator[str]:
     """The files of a crate's code, below its folder."""
     for at, _, names in os.walk(f"{folder}/src"):
         for name in sorted(names):
@@ -107,29 +119,29 @@ def source_files(folder):
                 yield os.path.relpath(f"{at}/{name}", folder)
 
 
-def all_functions(folder):
+def all_functions(folder: str) -> set[str]:
     """The names of the functions of a crate."""
     texts = {file: text_of(f"{folder}/{file}") for file in source_files(folder)}
-    return {shown(file, *it) for file, text in texts.items() for _, _, *it in functions(file, text)}
+    return {shown(file, it) for file, text in texts.items() for it in functions(text)}
 
 
-def calls_itself(text, first, last, name, kind):
+def calls_itself(text: str, first: int, last: int, name: str, kind: str | None) -> bool:
     """Whether a function of a file calls itself: its proof is then in a folder of another form."""
     body = "\n".join(text.split("\n")[first + 1 : last + 1])
     front = rf"(?:self\.|Self::|\b{kind}::)" if kind else r"(?<![\w.:])"
     return re.search(rf"{front}{name}\(", body) is not None
 
 
-def open_functions(folder):
+def open_functions(folder: str) -> Iterator[tuple[str, int, int, str]]:
     """The functions of a crate whose proofs can be left open: (file, first line, last line, folder below proofs/). Those of a trait
     and those that call themselves cannot."""
     texts = {file: text_of(f"{folder}/{file}") for file in source_files(folder)}
-    homes = {}
+    homes: dict[str, list[list[str]]] = {}
     for file, text in texts.items():
         for kind in re.findall(rf"(?m)^{TYPE.pattern}", text):
             homes.setdefault(kind, []).append(module_of(file))
     for file, text in texts.items():
-        for first, last, name, kind, trait in functions(file, text):
+        for first, last, name, kind, trait in functions(text):
             if trait or calls_itself(text, first, last, name, kind):
                 continue
             if kind is None:
@@ -138,10 +150,10 @@ def open_functions(folder):
                 yield file, first, last, "/".join(homes[kind][0] + [kind, name])
 
 
-def emptied(text, first, last):
+def emptied(text: str, first: int, last: int) -> str:
     """The text of a file in which the body of a function, at these lines, is one that is never run. The others keep their lines."""
     lines = text.split("\n")
-    indent = re.match(r"\s*", lines[first])[0]
+    indent = lines[first][: len(lines[first]) - len(lines[first].lstrip())]
     begins = [at for at in range(first, last) if lines[at] == indent + "{"]
     begins += [at for at in range(first, last) if lines[at].endswith(" {")]
     if begins and begins[0] + 1 < last and "const fn" not in lines[first]:
@@ -149,14 +161,16 @@ def emptied(text, first, last):
     return "\n".join(lines)
 
 
-def refusal(crate, name, said, texts):
+def refusal(crate: str, name: str, said: list[str], texts: dict[str, str]) -> str | None:
     """The line that says which goal of a function is not proved, or None."""
     ends = rf"fn {crate}::((?:\S*::)?{re.escape(name)}): (not proved|no proof)"
-    line = next((it for it in said if re.match(ends, it)), None)
-    if line and "did not prove" in line:
-        return line
-    own = line and "proofs/" + re.match(ends, line)[1].replace("::", "/") + "/"
-    for it in said if line else ():
+    line = next(filter(None, (re.match(ends, it) for it in said)), None)
+    if line is None:
+        return None
+    if "did not prove" in line.string:
+        return line.string
+    own = f"proofs/{line[1].replace('::', '/')}/"
+    for it in said:
         at = re.match(r"(?:note: )?(?:\./)?([\w/+-]+\.(?:antt|rt)):(\d+):\d+: (.*)", it)
         if at and at[1].startswith(own) and at[3].startswith("error") and not BY_NAME.search(at[3]):
             return it
@@ -165,16 +179,17 @@ def refusal(crate, name, said, texts):
     return None
 
 
-def in_rounds(folder, paths):
+def in_rounds(folder: str, paths: list[str]) -> list[list[tuple[str, set[str]]]]:
     """The edits of a crate in lists that are checked together, each with the functions that it changes: those of a list change
     different functions, and nothing else."""
-    rounds = []
+    rounds: list[tuple[set[str] | None, list[tuple[str, set[str]]]]] = []
     for path in paths:
         names, is_all = changed_functions(folder, path)
-        fits = [it for it in rounds if is_all and it[0] is not None and not it[0] & names]
-        if fits:
-            fits[0][0].update(names)
-            fits[0][1].append((path, names))
+        for known, listed in rounds:
+            if is_all and known is not None and not known & names:
+                known.update(names)
+                listed.append((path, names))
+                break
         else:
             rounds.append((set(names) if is_all else None, [(path, names)]))
     return [listed for _, listed in rounds]

@@ -17,12 +17,16 @@ import subprocess
 import sys
 import tempfile
 import threading
+from collections.abc import Iterator
+from typing import BinaryIO
 
-TOP = os.path.dirname(os.path.dirname(os.path.abspath(__file__)))
-PROGRAM = os.path.abspath(sys.argv[1] if len(sys.argv) > 1 else os.path.join(TOP, "crates/xdpvm/out/xdpvm"))
-SURVEY = os.path.abspath(sys.argv[2] if len(sys.argv) > 2 else os.path.join(TOP, "crates/xdpvm_survey/out/xdpvm_survey"))
+sys.path.insert(0, os.path.join(os.path.dirname(os.path.abspath(__file__)), "../checks"))
+from common import TOP, Ended, bytes_of, measured, program
+
+PROGRAM, SURVEY = program(), program("xdpvm_survey", 2)
 IMAGE = os.path.join(TOP, "examples/filter.image")
 FRAMES = os.path.join(TOP, "examples/numbers.frames")
+Given = int | BinaryIO  # what a command has as standard input
 TERABYTES = 1 << 42
 # At most so many KiB of memory, and seconds of the processor. A command that takes far longer is ended.
 MEMORY = 64 * 1024
@@ -33,32 +37,24 @@ LONG = 100_000_000
 WHOLE = 4
 
 
-def run(words, given=subprocess.DEVNULL):
-    """A command's status, standard output and standard error, its memory in KiB and its seconds."""
-    read, write = os.pipe()
-    errors = tempfile.TemporaryFile()
-    program = subprocess.Popen(["timeout", "-s", "KILL", str(LONGEST), *words], stdin=given, stdout=write, stderr=errors)
-    os.close(write)
-    with os.fdopen(read, "rb") as file:
-        out = file.read()
-    _, status, used = os.wait4(program.pid, 0)
-    program.returncode = os.waitstatus_to_exitcode(status)
-    errors.seek(0)
-    with errors:
-        return program.returncode, out.decode(), errors.read().decode(), used.ru_maxrss, used.ru_utime + used.ru_stime
+def run(words: list[str], given: Given = subprocess.DEVNULL) -> Ended:
+    """How a command ended, which is killed if it takes far longer than it may."""
+    return measured(["timeout", "-s", "KILL", str(LONGEST), *words], given)
 
 
-def tell(words, status, line, most=MEMORY, longest=SECONDS, given=subprocess.DEVNULL):
+def tell(
+    words: list[str], status: int, line: str, most: int = MEMORY, longest: float = SECONDS, given: Given = subprocess.DEVNULL
+) -> bool:
     """Whether a command ends with this status, after this line of its output, within the limits."""
-    ended, out, errors, memory, seconds = run(words, given)
-    said = (out + errors).splitlines()
-    is_right = ended == status and line in said and memory <= most and seconds <= longest
+    ended = run(words, given)
+    said = (ended.out + ended.err).splitlines()
+    is_right = ended.status == status and line in said and ended.kib <= most and ended.seconds <= longest
     if not is_right:
-        print(f"{' '.join(words[1:])}: status {ended}, {said[:9]}, {memory} KiB, {seconds:.2f} s")
+        print(f"{' '.join(words[1:])}: status {ended.status}, {said[:9]}, {ended.kib} KiB, {ended.seconds:.2f} s")
     return is_right
 
 
-def sparse(path, beginning):
+def sparse(path: str, beginning: bytes) -> str:
     """A file of terabytes that begins with these bytes and has zeros behind them."""
     with open(path, "wb") as file:
         file.write(beginning)
@@ -66,14 +62,13 @@ def sparse(path, beginning):
     return path
 
 
-def contents(words, path):
+def contents(words: list[str], path: str) -> bytes:
     """The bytes that a command writes into a file."""
     subprocess.run([*words, path], check=True, stdout=subprocess.DEVNULL)
-    with open(path, "rb") as file:
-        return file.read()
+    return bytes_of(path)
 
 
-def tables(folder):
+def tables(folder: str) -> Iterator[tuple[str, str]]:
     """Proof tables, and the line that each is refused with."""
     right = contents([PROGRAM, "prove", IMAGE], os.path.join(folder, "table"))
     yield "/dev/zero", "refused P1"
@@ -84,14 +79,14 @@ def tables(folder):
     yield sparse(os.path.join(folder, "right"), right), "refused P3"
 
 
-def tell_tables(folder):
+def tell_tables(folder: str) -> Iterator[bool]:
     sent = os.path.join(folder, "sent")
     for path, line in tables(folder):
         yield tell([PROGRAM, "recheck", IMAGE, path], 2, line)
         yield tell([PROGRAM, "run", IMAGE, FRAMES, sent, "--table", path], 2, line)
 
 
-def texts(folder):
+def texts(folder: str) -> Iterator[tuple[str, str]]:
     """Program texts, and the line that each is refused with."""
     yield "/dev/zero", "refused A1 line 1 column 1"
     yield sparse(os.path.join(folder, "no text"), b""), "refused A1 line 1 column 1"
@@ -103,19 +98,19 @@ def texts(folder):
     yield sparse(os.path.join(folder, "slots"), b"exit\n" * 4097), "refused A9 line 4097 column 1"
 
 
-def tell_texts(folder):
+def tell_texts(folder: str) -> Iterator[bool]:
     """Whether texts are refused that have no end."""
     image = os.path.join(folder, "image")
     for path, line in texts(folder):
         yield tell([PROGRAM, "asm", path, image], 2, line)
-    ended, out, errors, memory, seconds = run([PROGRAM, "asm", "/dev/urandom", image])
-    is_right = ended == 2 and out.startswith("refused A") and memory <= MEMORY and seconds <= SECONDS
+    ended = run([PROGRAM, "asm", "/dev/urandom", image])
+    is_right = ended.status == 2 and ended.out.startswith("refused A") and ended.kib <= MEMORY and ended.seconds <= SECONDS
     if not is_right:
-        print(f"asm /dev/urandom: status {ended}, {out}{errors}, {memory} KiB, {seconds:.2f} s")
+        print(f"asm /dev/urandom: status {ended.status}, {ended.out}{ended.err}, {ended.kib} KiB, {ended.seconds:.2f} s")
     yield is_right
 
 
-def long_texts():
+def long_texts() -> Iterator[tuple[bytes, bytes, str, bool]]:
     """What a text of 100 MB begins with and what it repeats, the line it is refused with, and whether only its end decides that."""
     yield b"", b"r0 = 1 ; ", "refused A9 line 1 column 36865", False
     yield b"", b" ", "refused A9 line 1 column 1", True
@@ -132,7 +127,7 @@ def long_texts():
     yield b"", b"r1 + 2 ", "refused A2 line 1 column 1", True
 
 
-def send(to, beginning, part):
+def send(to: int, beginning: bytes, part: bytes) -> None:
     """Sends a long text, or as much of it as is read."""
     try:
         with os.fdopen(to, "wb", buffering=0) as file:
@@ -143,7 +138,7 @@ def send(to, beginning, part):
         pass
 
 
-def tell_long_texts(folder):
+def tell_long_texts(folder: str) -> Iterator[bool]:
     """Whether long texts are refused within the limits, from a pipe, a file and standard input."""
     image = os.path.join(folder, "image")
     path = os.path.join(folder, "long")
@@ -164,28 +159,43 @@ def tell_long_texts(folder):
                 yield tell([PROGRAM, "asm", "/dev/stdin", image], 2, line, *limits, given)
 
 
-def tell_comparison(folder):
+def tell_comparison(folder: str) -> Iterator[bool]:
     """Whether a comparison keeps little of an earlier survey whose images are gone."""
     path = os.path.join(folder, "gone")
     with open(path, "w", encoding="utf-8") as file:
         file.write("file,verdict,slot,slots,maps,bound,explored,stored,deepest,stored_bytes,milliseconds\n")
-        file.writelines(f"compiled/payload_{number:07}.image,ok,,49,0,1546,13357,3473,1258,1390896,12.345\n" for number in range(480_000))
+        file.writelines(
+            f"compiled/payload_{number:07}.image,ok,,49,0,1546,13357,3473,1258,1390896,12.345\n" for number in range(480_000)
+        )
     size = os.path.getsize(path) // 1024
-    yield tell([SURVEY, "--format", "csv", "--compare", path, IMAGE], 0, "compiled/payload_0479999.image,verdict,ok,,", 3 * size, LONGEST)
+    yield tell(
+        [SURVEY, "--format", "csv", "--compare", path, IMAGE], 0, "compiled/payload_0479999.image,verdict,ok,,", 3 * size, LONGEST
+    )
 
 
-def tell_surveys(folder):
+def tell_surveys(folder: str) -> Iterator[bool]:
     """Whether earlier surveys are refused that have no end."""
     survey = subprocess.run([SURVEY, "--format", "csv", IMAGE], check=True, capture_output=True).stdout
-    paths = ["/dev/zero", "/dev/urandom", sparse(os.path.join(folder, "no survey"), b""),
-             sparse(os.path.join(folder, "survey"), survey), sparse(os.path.join(folder, "row"), survey + b"name,")]
+    paths = [
+        "/dev/zero",
+        "/dev/urandom",
+        sparse(os.path.join(folder, "no survey"), b""),
+        sparse(os.path.join(folder, "survey"), survey),
+        sparse(os.path.join(folder, "row"), survey + b"name,"),
+    ]
     for path in paths:
         yield tell([SURVEY, "--compare", path, IMAGE], 4, f"cannot compare with {path}: it is no survey as csv")
 
 
-def main():
+def main() -> int:
     with tempfile.TemporaryDirectory() as folder:
-        told = [*tell_tables(folder), *tell_texts(folder), *tell_long_texts(folder), *tell_surveys(folder), *tell_comparison(folder)]
+        told = [
+            *tell_tables(folder),
+            *tell_texts(folder),
+            *tell_long_texts(folder),
+            *tell_surveys(folder),
+            *tell_comparison(folder),
+        ]
     return 0 if all(told) else 1
 
 

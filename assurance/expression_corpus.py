@@ -38,6 +38,7 @@ class Composer:
         return self.random.choice(words)
 
     def primitive(self) -> str:
+        """A test of one word or some."""
         r, of = self.random, self.of
         d = of("", "", "src ", "dst ", "src or dst ", "src and dst ")
         kind = r.randrange(22)
@@ -53,11 +54,7 @@ class Composer:
             )
         if kind == 5:
             bits = of(16, 32, 48, 64, 128)
-            return (
-                f"{d}net "
-                + {16: "2001::", 32: "2001:db8::", 48: "2001:db8::", 64: "fe80::", 128: "ff02::1"}[bits]
-                + f"/{bits}"
-            )
+            return f"{d}net " + {16: "2001::", 32: "2001:db8::", 48: "2001:db8::", 64: "fe80::", 128: "ff02::1"}[bits] + f"/{bits}"
         if kind < 9:
             return f"{of('', 'tcp ', 'udp ', 'sctp ')}{d}port {r.choice(PORTS)}"
         if kind == 9:
@@ -100,13 +97,12 @@ class Composer:
         if depth <= 0 or kind < 4:
             return self.access(depth)
         if kind < 6:
-            return f"({self.access(depth)} {self.of('&', '|', '^')} {self.of('0xf', '0xff', '0x1fff', '0xf0', '1', '0x80000000', '0xffff0000')})"
+            access, sign = self.access(depth), self.of("&", "|", "^")
+            return f"({access} {sign} {self.of('0xf', '0xff', '0x1fff', '0xf0', '1', '0x80000000', '0xffff0000')})"
         if kind == 6:
             return f"({self.access(depth)} {self.of('<<', '>>')} {r.randrange(32)})"
         if kind == 7:
-            return (
-                f"({self.number(depth - 1)} {self.of('+', '-', '*', '/', '%', '&', '|', '^')} {self.number(depth - 1)})"
-            )
+            return f"({self.number(depth - 1)} {self.of('+', '-', '*', '/', '%', '&', '|', '^')} {self.number(depth - 1)})"
         if kind == 8:
             return f"({self.number(depth - 1)} {self.of('+', '-', '*', '/', '%')} {r.randrange(1, 100)})"
         return self.of("len", "(len - 14)", f"({self.number(depth - 1)} << {self.access(0)})")

@@ -55,23 +55,16 @@ class Maker:
         options = r.randbytes(4 * r.choice([0, 0, 1, 2, 5]))
         kind, body = r.choice([(0x6558, self.frame(1)), (0x800, self.ip4(2)), (0x86DD, self.ip6(2)), (0x1234, b"abcd")])
         body = (
-            struct.pack(">BBHI", len(options) // 4 | r.choice([0, 0, 0, 0x40]), 0, kind, r.choice([0xB, 5]) << 8)
-            + options
-            + body
+            struct.pack(">BBHI", len(options) // 4 | r.choice([0, 0, 0, 0x40]), 0, kind, r.choice([0xB, 5]) << 8) + options + body
         )
         return struct.pack(">HHHH", self.port(), 6081, 8 + len(body), 0) + body
 
     def icmp(self) -> bytes:
-        return (
-            struct.pack(">BBHHH", self.random.choice([0, 3, 5, 8, 11, 13]), self.random.randrange(3), 0, 1, 1)
-            + self.some()
-        )
+        return struct.pack(">BBHHH", self.random.choice([0, 3, 5, 8, 11, 13]), self.random.randrange(3), 0, 1, 1) + self.some()
 
     def icmp6(self) -> bytes:
         return (
-            struct.pack(
-                ">BBHHH", self.random.choice([1, 2, 128, 129, 133, 134, 135, 136]), self.random.randrange(2), 0, 1, 1
-            )
+            struct.pack(">BBHHH", self.random.choice([1, 2, 128, 129, 133, 134, 135, 136]), self.random.randrange(2), 0, 1, 1)
             + self.some()
         )
 
@@ -79,6 +72,7 @@ class Maker:
         return struct.pack(">HHII", self.port(), self.port(), 1, 0) + struct.pack(">BBHI", 1, 0, 20, 0) + self.some()
 
     def above(self, depth: int) -> Tuple[int, bytes]:
+        """What follows an Ethernet head: its type, and the bytes."""
         r = self.random
         kind = r.randrange(15)
         if kind < 4:
@@ -174,6 +168,7 @@ class Maker:
         )
 
     def llc(self) -> bytes:
+        """A frame of 802.3, with a length in place of a type."""
         r = self.random
         control = r.choice(
             [
@@ -195,11 +190,7 @@ class Maker:
         body = r.choice(
             [
                 b"\x42\x42\x03" + bytes(35),
-                b"\xfe\xfe\x03"
-                + bytes([r.choice([0x81, 0x82, 0x83])])
-                + b"\x1b\1\0"
-                + bytes([r.randrange(1, 32)])
-                + self.some(),
+                b"\xfe\xfe\x03" + bytes([r.choice([0x81, 0x82, 0x83])]) + b"\x1b\1\0" + bytes([r.randrange(1, 32)]) + self.some(),
                 b"\xf0\xf0" + control + self.some(),
                 b"\xe0\xe0" + control + b"\xff\xff" + self.some(),
                 b"\xaa\xaa\x03\x08\0\x07\x80\x9b" + self.some(),
@@ -244,9 +235,7 @@ class Maker:
             return (
                 struct.pack(
                     ">H",
-                    r.choice(
-                        [0x8863, 0x88CC, 0x6001, 0x6002, 0x6003, 0x6004, 0x6007, 0x809B, 0x80F3, 0x8137, 0x9000, 0x6003]
-                    ),
+                    r.choice([0x8863, 0x88CC, 0x6001, 0x6002, 0x6003, 0x6004, 0x6007, 0x809B, 0x80F3, 0x8137, 0x9000, 0x6003]),
                 )
                 + self.decnet()
             )

@@ -54,7 +54,7 @@ class Wrong(Exception):
 
 
 def ran(*words: str) -> "subprocess.CompletedProcess[str]":
-    return subprocess.run(words, stdin=subprocess.DEVNULL, capture_output=True, text=True, timeout=600)
+    return subprocess.run(words, stdin=subprocess.DEVNULL, capture_output=True, text=True, timeout=600, check=False)
 
 
 def stream_of(found: List[bytes]) -> bytes:
@@ -65,7 +65,7 @@ def tried(program: str, classic: str, stream: str) -> Trial:
     """The filter of a classic program, on a stream."""
     text = translated(classic_program(classic), "", Options())
     with tempfile.TemporaryDirectory() as folder:
-        with open(f"{folder}/text", "w") as file:
+        with open(f"{folder}/text", "w", encoding="utf-8") as file:
             file.write(text)
         made = ran(program, "asm", f"{folder}/text", f"{folder}/image")
         verdict = ran(program, "verify", f"{folder}/image") if made.returncode == 0 else made
@@ -85,7 +85,7 @@ def kept(expression: str, capture: str, optimizes: bool = True) -> Set[int]:
     with tempfile.TemporaryDirectory() as folder:
         words = ["tcpdump", "-r", capture, *([] if optimizes else ["-O"]), "-w", f"{folder}/out", "--", expression]
         try:
-            done = subprocess.run(words, stdin=subprocess.DEVNULL, capture_output=True, text=True, timeout=SECONDS)
+            done = subprocess.run(words, stdin=subprocess.DEVNULL, capture_output=True, text=True, timeout=SECONDS, check=False)
         except subprocess.TimeoutExpired:
             raise Failed(NO_END) from None
         if done.returncode:
@@ -197,6 +197,7 @@ def random_program(chance: random.Random) -> Codes:
 
 
 def randoms(given: argparse.Namespace) -> int:
+    """Random classic programs: the exit status."""
     library = ctypes.CDLL("libpcap.so.0.8")
     library.bpf_filter.restype = ctypes.c_uint
     chance, wrong = random.Random(given.seed), 0
@@ -209,7 +210,7 @@ def randoms(given: argparse.Namespace) -> int:
             rows = random_program(chance)
             array = (Row * len(rows))(*[Row(*row) for row in rows])
             wanted = {at for at, it in enumerate(found) if library.bpf_filter(array, it, len(it), len(it))}
-            text = f"{len(rows)}\n" + "".join("%d %d %d %d\n" % row for row in rows)
+            text = f"{len(rows)}\n" + "".join(" ".join(map(str, row)) + "\n" for row in rows)
             try:
                 differ = sorted(wanted ^ tried(given.program, text, stream).passed)
                 why = f"frames differ: {differ[:5]}" if differ else ""

@@ -26,7 +26,11 @@ def files_of(crate: Path, folder: str) -> dict[str, Path]:
     """The files of a crate's folder by their paths without ending, except those that only export others."""
     base = crate / folder
     found = {str(path.relative_to(base).with_suffix("")): path for path in sorted(base.rglob(f"*{FOLDERS[folder]}"))}
-    return {name: path for name, path in found.items() if name not in ("lib", "main", "Lib") and path.stem not in PARTS and not (base / name).is_dir()}
+    return {
+        name: path
+        for name, path in found.items()
+        if name not in ("lib", "main", "Lib") and path.stem not in PARTS and not (base / name).is_dir()
+    }
 
 
 def first_line(path: Path) -> str:
@@ -64,7 +68,10 @@ def wrong(top: Path) -> Iterator[str]:
             yield f"{crate}: not in the table of crates"
         for folder in FOLDERS:
             there = files_of(top / "crates" / crate, folder)
-            everything = {str(path.relative_to(top / "crates" / crate / folder).with_suffix("")) for path in (top / "crates" / crate / folder).rglob("*")}
+            everything = {
+                str(path.relative_to(top / "crates" / crate / folder).with_suffix(""))
+                for path in (top / "crates" / crate / folder).rglob("*")
+            }
             for name in sorted(set(re.findall(rf"`{folder}/([\w/*]+)`", found.get(crate, "")))):
                 if not fnmatch.filter(everything, name):
                     yield f"{crate}: {folder}/{name} is on the page, and not in the tree"

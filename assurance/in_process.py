@@ -6,14 +6,27 @@ A shared library is made of the archive (docs/EMBEDDING.md):
 cc -shared -o libxdpvm.so -Wl,--whole-archive libxdpvm_c.a -Wl,--no-whole-archive liblibc_c.a
 """
 import ctypes
+import os
 import struct
 import subprocess
+import sys
+from collections.abc import Callable, Iterable, Iterator
+from typing import Protocol
 
-MOST = 1_000_000                # instructions that are explored, and steps of a run
-UNDECIDED = 6                   # the status of a search that its caller's limit ended
+sys.path.insert(0, os.path.join(os.path.dirname(os.path.abspath(__file__)), "../checks"))
+from common import bytes_of, record, there, write
+
+MOST = 1_000_000  # instructions that are explored, and steps of a run
+UNDECIDED = 6  # the status of a search that its caller's limit ended
 ROOM = 1 << 20
 ACTIONS = ["ABORTED", "DROP", "PASS", "TX", "REDIRECT", "INVALID"]
 HEADS = {1: struct.Struct("<QIII"), 2: struct.Struct("<QIIII")}
+Head = tuple[int, int, int]  # time, interface and queue of a frame
+Ended = tuple[int, int, int, int, bytes]  # r0, the steps, how a run ended, the reason of a trap, and the packet then
+Answer = tuple[int, bytes, bytes]  # a status, standard output and standard error
+Ran = subprocess.CompletedProcess[bytes]
+Run = Callable[..., Ran]  # runs the program with these words
+Buffer = ctypes.Array[ctypes.c_char]
 CONST, PLACE, SIZE, WORD = ctypes.c_char_p, ctypes.c_void_p, ctypes.c_size_t, ctypes.c_uint32
 CALLS = {
     "xdpvm_assemble": [CONST, SIZE, PLACE, SIZE, PLACE, SIZE, PLACE],
@@ -28,7 +41,7 @@ CALLS = {
 }
 
 
-def records(stream):
+def records(stream: bytes) -> Iterator[tuple[Head, int, bytes]]:
     """The records of a stream without faults: what is before the length, the reason, and the
     bytes."""
     version = stream[3] - ord("0")
@@ -36,7 +49,14 @@ def records(stream):
     while at < len(stream):
         time, interface, queue, size, *reason = head.unpack_from(stream, at)
         at += head.size + size
-        yield (time, interface, queue), sum(reason), stream[at - size:at]
+        yield (time, interface, queue), sum(reason), stream[at - size : at]
+
+
+class Tracer(Protocol):
+    """What traces a run: the library, or what stands for it in tests."""
+
+    def trace(self, image: bytes, head: Head, packet: bytes) -> Ended:
+        """See Library."""
 
 
 class TooLong(Exception):
@@ -46,81 +66,89 @@ class TooLong(Exception):
 class Library:
     """The calls of examples/embed/xdpvm.h that the attacks make. Status 5 of any is an error."""
 
-    def __init__(self, path):
-        library = ctypes.CDLL(path)
+    def __init__(self, path: str) -> None:
+        self.calls = ctypes.CDLL(path)
         for name, arguments in CALLS.items():
-            call = getattr(library, name)
+            call = getattr(self.calls, name)
             call.argtypes, call.restype = arguments, WORD
-            setattr(self, name, call)
         self.one, self.two = ctypes.create_string_buffer(ROOM), ctypes.create_string_buffer(ROOM)
         self.out, self.session = ctypes.create_string_buffer(64), ctypes.create_string_buffer(8)
 
-    def taken(self, buffer, size):
+    def taken(self, buffer: Buffer, size: int) -> bytes:
         if size > ROOM:
             raise TooLong
         return ctypes.string_at(buffer, size)
 
-    def asked(self, status, *others):
+    def asked(self, status: int, *others: int) -> int:
         if status not in (0, 2, *others):
             raise MemoryError(f"status {status}")
         return status
 
-    def assemble(self, text):
+    def assemble(self, text: bytes) -> tuple[int, bytes]:
         """The status, and the image or why there is none."""
-        status = self.asked(self.xdpvm_assemble(text, len(text), self.one, ROOM, self.two, ROOM, self.out))
-        size, = struct.unpack_from("<Q", self.out.raw)
+        status = self.asked(self.calls.xdpvm_assemble(text, len(text), self.one, ROOM, self.two, ROOM, self.out))
+        (size,) = struct.unpack_from("<Q", self.out.raw)
         return status, self.taken(self.two if status else self.one, size)
 
-    def verify(self, image, limit=MOST):
+    def verify(self, image: bytes, limit: int = MOST) -> tuple[int, int, bytes] | None:
         """The status, the bound, and why there is none; or None where the limit of explored instructions came first."""
-        status = self.asked(self.xdpvm_verify(image, len(image), limit, self.one, ROOM, self.out), UNDECIDED)
+        status = self.asked(self.calls.xdpvm_verify(image, len(image), limit, self.one, ROOM, self.out), UNDECIDED)
         if status == UNDECIDED and limit < MOST:
             return None
         self.asked(status)
         said, _, bound = struct.unpack_from("<QQI", self.out.raw)
         return status, bound, self.taken(self.one, said) if status else b""
 
-    def recheck(self, image, proof):
-        status = self.asked(self.xdpvm_recheck(image, len(image), proof, len(proof), self.one, ROOM, self.out))
+    def recheck(self, image: bytes, proof: bytes) -> tuple[int, int, bytes]:
+        status = self.asked(self.calls.xdpvm_recheck(image, len(image), proof, len(proof), self.one, ROOM, self.out))
         said, _, bound = struct.unpack_from("<QQI", self.out.raw)
         return status, bound, self.taken(self.one, said) if status else b""
 
-    def run(self, image, stream):
+    def run(self, image: bytes, stream: bytes) -> tuple[int, bytes, bytes]:
         """The status, the report, and the frames out."""
-        status = self.asked(self.xdpvm_run_stream(image, len(image), stream, len(stream), self.one, ROOM, self.two, ROOM, self.out))
+        status = self.asked(
+            self.calls.xdpvm_run_stream(image, len(image), stream, len(stream), self.one, ROOM, self.two, ROOM, self.out)
+        )
         report, sent, _, _, fault = struct.unpack_from("<QQQII", self.out.raw)
         return 3 if fault else status, self.taken(self.one, report), self.taken(self.two, sent)
 
-    def trace(self, image, head, packet):
+    def trace(self, image: bytes, head: Head, packet: bytes) -> Ended:
         """r0, the steps, how it ended, the reason of a trap, and the packet then, of a traced run on starting maps."""
         ctypes.memmove(self.one, packet, len(packet))
         given = struct.pack("<QII", *head)
-        self.asked(self.xdpvm_trace_once(image, len(image), given, self.one, len(packet), MOST, self.out))
-        return *struct.unpack_from("<QIII", self.out.raw), self.taken(self.one, len(packet))
+        self.asked(self.calls.xdpvm_trace_once(image, len(image), given, self.one, len(packet), MOST, self.out))
+        r0, steps, kind, reason = struct.unpack_from("<QIII", self.out.raw)
+        return r0, steps, kind, reason, self.taken(self.one, len(packet))
 
-    def run_alone(self, image, head, packet):
+    def run_alone(self, image: bytes, head: Head, packet: bytes) -> tuple[int, int, bytes]:
         """The same of a verified run: r0, the steps, and the packet then."""
         ctypes.memmove(self.one, packet, len(packet))
-        if self.asked(self.xdpvm_run_once(image, len(image), struct.pack("<QII", *head), self.one, len(packet), self.out)):
+        if self.asked(self.calls.xdpvm_run_once(image, len(image), struct.pack("<QII", *head), self.one, len(packet), self.out)):
             raise ValueError("verify accepts what run_once refuses")
-        return *struct.unpack_from("<QI", self.out.raw), self.taken(self.one, len(packet))
+        return self.ended(packet)
 
-    def runs_by_table(self, image, proof, frames):
+    def ended(self, packet: bytes) -> tuple[int, int, bytes]:
+        r0, steps = struct.unpack_from("<QI", self.out.raw)
+        return r0, steps, self.taken(self.one, len(packet))
+
+    def runs_by_table(
+        self, image: bytes, proof: bytes, frames: Iterable[tuple[Head, int, bytes]]
+    ) -> list[tuple[int, int, bytes]] | None:
         """r0, the steps and the packet of each run by a table, on maps that go from run to run; None: the table is refused."""
         ctypes.memset(self.session, 0, 8)
-        if self.asked(self.xdpvm_open_with_table(image, len(image), proof, len(proof), self.session)):
+        if self.asked(self.calls.xdpvm_open_with_table(image, len(image), proof, len(proof), self.session)):
             return None
         ended = []
         for head, _, packet in frames:
             ctypes.memmove(self.one, packet, len(packet))
-            if self.xdpvm_run(self.session, struct.pack("<QII", *head), self.one, len(packet), self.out):
+            if self.calls.xdpvm_run(self.session, struct.pack("<QII", *head), self.one, len(packet), self.out):
                 raise MemoryError("a run in a session")
-            ended.append((*struct.unpack_from("<QI", self.out.raw), self.taken(self.one, len(packet))))
-        self.xdpvm_close(self.session)
+            ended.append(self.ended(packet))
+        self.calls.xdpvm_close(self.session)
         return ended
 
 
-def line_of(image, version, number, packet, ended):
+def line_of(image: bytes, version: int, number: int, packet: bytes, ended: Ended) -> tuple[str, int | None]:
     """The line of a report for a traced run, and the reason with which the frame is written out, or
     None if it is not."""
     r0, steps, kind, reason, _ = ended
@@ -133,7 +161,7 @@ def line_of(image, version, number, packet, ended):
     return (f"{line} {why}", why) if version == 2 else (line, 0 if goes else None)
 
 
-def traced(library, image, stream):
+def traced(library: Tracer, image: bytes, stream: bytes) -> tuple[bytes, bytes]:
     """The report of traced runs of a program without maps, and the frames out, by docs/FORMATS.md."""
     version, lines, sent = stream[3] - ord("0"), [], stream[:4]
     for number, (head, reason, packet) in enumerate(records(stream)):
@@ -143,14 +171,16 @@ def traced(library, image, stream):
         else:
             ended = library.trace(image, head, packet)
             after = ended[4]
-            line, reason = line_of(image, version, number, packet, ended)
+            line, why = line_of(image, version, number, packet, ended)
             lines.append(line)
-        if reason is not None:
-            sent += HEADS[version].pack(*head, len(packet), *[reason] * (version - 1)) + after
+            if why is None:
+                continue
+            reason = why
+        sent += record(version, head, reason, after)
     return "\n".join([*lines, f"end {len(lines)}", ""]).encode(), sent
 
 
-def differs_alone(library, image, stream, bound):
+def differs_alone(library: Library, image: bytes, stream: bytes, bound: int) -> str | None:
     """What is wrong with the traced runs of an accepted program on each frame of a stream, on starting maps, and with
     its verified runs on the first two, which each verify it once more: None, or a text."""
     for number, (head, _, packet) in enumerate(records(stream)):
@@ -162,17 +192,7 @@ def differs_alone(library, image, stream, bound):
     return None
 
 
-def read(path):
-    with open(path, "rb") as file:
-        return file.read()
-
-
-def write(path, data):
-    with open(path, "wb") as file:
-        file.write(data)
-
-
-def told(status, bound, why):
+def told(status: int, bound: int, why: bytes) -> Answer:
     """The status, standard output and standard error of a verdict."""
     line, end, rest = why.partition(b"\n")
     return (status, line + end, rest) if status else (0, b"ok bound %d\n" % bound, b"")
@@ -182,40 +202,44 @@ class Runner:
     """Does asm, verify, recheck, run and trace by the library; `run` with a table, `trace` of a
     program with maps, for which the library has no call, and other commands by a process."""
 
-    def __init__(self, path, process):
+    def __init__(self, path: str, process: Run) -> None:
         self.library, self.process = Library(path), process
 
-    def __call__(self, *words):
-        answer = getattr(self, words[0], None) if len(words) == {"asm": 3, "verify": 2, "recheck": 3, "run": 4, "trace": 4}.get(words[0]) else None
+    def __call__(self, *words: str) -> Ran:
+        answer = (
+            getattr(self, words[0], None)
+            if len(words) == {"asm": 3, "verify": 2, "recheck": 3, "run": 4, "trace": 4}.get(words[0])
+            else None
+        )
         try:
             answered = answer(*words[1:]) if answer else None
         except TooLong:
             answered = None
         return subprocess.CompletedProcess(words, *answered) if answered else self.process(*words)
 
-    def asm(self, text, image):
-        status, made = self.library.assemble(read(text))
+    def asm(self, text: str, image: str) -> Answer:
+        status, made = self.library.assemble(bytes_of(text))
         if status == 0:
             write(image, made)
         return status, b"" if status else b"ok\n", made if status else b""
 
-    def verify(self, image):
-        return told(*self.library.verify(read(image)))
+    def verify(self, image: str) -> Answer:
+        return told(*there(self.library.verify(bytes_of(image))))
 
-    def recheck(self, image, proof):
-        return told(*self.library.recheck(read(image), read(proof)))
+    def recheck(self, image: str, proof: str) -> Answer:
+        return told(*self.library.recheck(bytes_of(image), bytes_of(proof)))
 
-    def run(self, image, frames, sent):
-        status, report, out = self.library.run(read(image), read(frames))
+    def run(self, image: str, frames: str, sent: str) -> Answer | None:
+        status, report, out = self.library.run(bytes_of(image), bytes_of(frames))
         if status == 2:
             return None
         write(sent, out)
         return status, report, b""
 
-    def trace(self, image, frames, sent):
-        program = read(image)
+    def trace(self, image: str, frames: str, sent: str) -> Answer | None:
+        program = bytes_of(image)
         if program[4:6] != b"\0\0":
             return None
-        report, out = traced(self.library, program, read(frames))
+        report, out = traced(self.library, program, bytes_of(frames))
         write(sent, out)
         return 0, report, b""

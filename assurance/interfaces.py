@@ -67,7 +67,7 @@ class Tried:
 
 
 def ran(*words: str) -> "subprocess.CompletedProcess[str]":
-    return subprocess.run(words, stdin=subprocess.DEVNULL, capture_output=True, text=True)
+    return subprocess.run(words, stdin=subprocess.DEVNULL, capture_output=True, text=True, check=False)
 
 
 def must(*words: str) -> str:
@@ -94,7 +94,7 @@ def interfaces() -> None:
     """in0, which has the number 2, and out0, without what the kernel would send by itself."""
     must("ip", "link", "add", "name", "in0", "index", "2", "type", "veth", "peer", "name", "out0", "index", "3")
     for name in ("in0", "out0"):
-        with open(f"/proc/sys/net/ipv6/conf/{name}/disable_ipv6", "w") as file:
+        with open(f"/proc/sys/net/ipv6/conf/{name}/disable_ipv6", "w", encoding="utf-8") as file:
             file.write("1")
         must("ip", "link", "set", name, "up", "arp", "off", "mtu", str(MTU), "promisc", "on")
 
@@ -175,8 +175,9 @@ class Sender(threading.Thread):
 
 
 def updates(program: str, tried: Tried) -> None:
+    """Filters that are replaced while frames come."""
     for name, text in (("counting", COUNTING), ("refused", REFUSED), ("deep", TOO_DEEP)):
-        with open(f"{name}.text", "w") as file:
+        with open(f"{name}.text", "w", encoding="utf-8") as file:
             file.write(text)
         must(program, "asm", f"{name}.text", f"{name}.image")
     load = [*OBJECT, "--xdpvm", program, "--load", "in0"]
@@ -306,7 +307,8 @@ def sent_one(it: Expected, here: socket.socket, back: socket.socket) -> Optional
 
 
 def frames(program: str, tried: Tried, paths: List[str]) -> Tuple[int, int]:
-    """Each image on in0; the result is how many there were, and how many frames were sent. A program on out0 lets what comes back arrive."""
+    """Each image on in0; the result is how many there were, and how many frames were sent. A program on out0 lets what comes
+    back arrive."""
     must(*OBJECT, "--xdpvm", program, "--load", "out0", f"{EXAMPLES}/pass.image")
     time.sleep(0.3)
     count = total = 0
@@ -330,7 +332,7 @@ def run_all(given: argparse.Namespace) -> int:
     tried = Tried()
     with tempfile.TemporaryDirectory() as folder:
         os.chdir(folder)
-        with open("wrong.text", "w") as file:
+        with open("wrong.text", "w", encoding="utf-8") as file:
             file.write("# a value of one byte\nmap 0 00000000 01\n")
         interfaces()
         few = [f"{EXAMPLES}/{it}.image" for it in FEW]

@@ -30,73 +30,89 @@ import struct
 import subprocess
 import sys
 import tempfile
+from collections.abc import Iterable, Iterator
 
-HERE = os.path.dirname(os.path.abspath(__file__))
-sys.path.insert(0, f"{HERE}/../tools")
+sys.path.insert(0, os.path.join(os.path.dirname(os.path.abspath(__file__)), "../checks"))
+from common import bytes_of, image_of, insn, write
 import kernel
+import kernel_calls
 from attack_programs import FAMILIES
 from random_programs import Maker
 
-EDGES = [0, 1, 2, 3, 7, 8, 31, 32, 33, 63, 64, 127, 128, 255, 256, 32767, 32768, 65535, 65536, 2**31 - 1, 2**31, 2**31 + 1,
-         2**32 - 1, 2**32, 2**32 + 1, 2**62, 2**63 - 1, 2**63, 2**63 + 1, 2**64 - 2**31, 2**64 - 8, 2**64 - 2, 2**64 - 1]
+Frame = tuple[int, bytes]
+Item = tuple[str, bytes, list[Frame]]  # a program: its name, its image, and frames
+Told = tuple[list[tuple[list[str], int]], list[tuple[str, list[str]]], int, list[str]]
+EDGES = [0, 1, 2, 3, 7, 8, 31, 32, 33, 63, 64, 127, 128, 255, 256, 32767, 32768, 65535, 65536, 2**31 - 1, 2**31, 2**31 + 1]
+EDGES += [
+    2**32 - 1,
+    2**32,
+    2**32 + 1,
+    2**62,
+    2**63 - 1,
+    2**63,
+    2**63 + 1,
+    2**64 - 2**31,
+    2**64 - 8,
+    2**64 - 2,
+    2**64 - 1,
+]
 CONSTANTS = [0, 1, 2, 3, 7, 31, 32, 63, 127, 255, 65535, 2**31 - 1, -1, -2, -7, -128, -(2**31)]
 LENGTHS = [14, 15, 16, 20, 22, 23, 24, 31, 34, 40, 60, 64, 128, 255, 256, 300, 512, 1000, 1500, 3520]
 
 
-def insn(opcode, destination=0, source=0, offset=0, imm=0):
-    return struct.pack("<BBhi", opcode, destination | source << 4, offset, (imm + 2**31) % 2**32 - 2**31)
-
-
-def image_of(code, maps=()):
-    rows = b"".join(struct.pack("<HHII", *row) for row in maps)
-    return struct.pack("<4sHH", b"XBP1", len(maps), len(code)) + rows + b"".join(code)
-
-
-def frames_of(chance):
+def frames_of(chance: random.Random) -> list[Frame]:
     """20 frames, whose bytes are extreme, small or any."""
     found = []
     for length in LENGTHS:
-        byte = chance.choice([lambda: 0, lambda: 255, lambda: chance.choice([0, 1, 127, 128, 255]), lambda: chance.randrange(256)])
-        found.append((chance.randrange(2**64), bytes(byte() for _ in range(length))))
+        some = chance.choice((b"\0", b"\xff", b"\0\1\x7f\x80\xff", bytes(range(256))))
+        time = chance.randrange(2**64)
+        found.append((time, bytes(chance.choice(some) if len(some) > 1 else some[0] for _ in range(length))))
     return found
 
 
 # ---- sets of programs: (name, image, frames)
 
 
-def images(paths):
+def images(paths: list[str]) -> Iterator[Item]:
     for path in paths:
         files = [os.path.join(path, it) for it in sorted(os.listdir(path))] if os.path.isdir(path) else [path]
         for file in files:
             if file.endswith(".image"):
                 beside = file.removesuffix(".image") + ".frames"
                 found = kernel.frames_in(beside)[0] if os.path.exists(beside) else []
-                with open(file, "rb") as it:
-                    yield file, it.read(), found + frames_of(random.Random(file))
+                yield file, bytes_of(file), found + frames_of(random.Random(file))
 
 
-def randoms(count, seed):
+def randoms(count: int, seed: int) -> Iterator[Item]:
     for number in range(seed, seed + count):
         maker = Maker(number)
         yield f"random {number}", maker.program(), frames_of(random.Random(number))
 
 
-def attacks(count, seed, program):
+def attacks(count: int, seed: int, program: str) -> Iterator[Item]:
     with tempfile.TemporaryDirectory() as folder:
         for family in sorted(FAMILIES):
             for number in range(seed, seed + count):
                 chance = random.Random(f"{family} {number}")
-                with open(f"{folder}/text", "w") as file:
-                    file.write("\n".join(FAMILIES[family](chance)) + "\n")
-                if subprocess.run([program, "asm", f"{folder}/text", f"{folder}/image"], capture_output=True).returncode == 0:
-                    with open(f"{folder}/image", "rb") as file:
-                        yield f"{family} {number}", file.read(), frames_of(chance)
+                text = write(f"{folder}/text", "\n".join(FAMILIES[family](chance)) + "\n")
+                if subprocess.run([program, "asm", text, f"{folder}/image"], capture_output=True, check=False).returncode == 0:
+                    yield f"{family} {number}", bytes_of(f"{folder}/image"), frames_of(chance)
 
 
 # r6 and r7 are two numbers of the packet, and r0 is written into it after what is tried; the
 # packet's beginning is in r9
-OPENING = [insn(0x61, 9, 1, 0), insn(0x61, 3, 1, 4), insn(0xBF, 4, 9), insn(0x07, 4, imm=40), insn(0xBF, 0, 3),
-           insn(0x3D, 3, 4, 2), insn(0xB7, 0, imm=0), insn(0x95), insn(0x79, 6, 9, 0), insn(0x79, 7, 9, 8)]
+OPENING = [
+    insn(0x61, 9, 1, 0),
+    insn(0x61, 3, 1, 4),
+    insn(0xBF, 4, 9),
+    insn(0x07, 4, imm=40),
+    insn(0xBF, 0, 3),
+    insn(0x3D, 3, 4, 2),
+    insn(0xB7, 0, imm=0),
+    insn(0x95),
+    insn(0x79, 6, 9, 0),
+    insn(0x79, 7, 9, 8),
+]
 CLOSING = [insn(0x7B, 9, 0, 16), insn(0xB7, 0, imm=2), insn(0x95)]
 PAIRS = [(1, struct.pack("<QQQQQ", a, b, 0, 0, 0)) for a in EDGES for b in EDGES]
 SINGLES = [(1, struct.pack("<QQQQQ", a, 2**64 - a & 2**64 - 1, 0, 0, 0)) for a in EDGES]
@@ -105,11 +121,12 @@ TESTS = {"eq": 1, "gt": 2, "ge": 3, "set": 4, "ne": 5, "sgt": 6, "sge": 7, "lt":
 FETCHES = {"add": 0, "or": 0x40, "and": 0x50, "xor": 0xA0}
 
 
-def tried(name, code, frames=None):
-    return name, image_of(OPENING + code + CLOSING), frames or PAIRS
+def tried(name: str, code: list[bytes], frames: list[Frame] | None = None) -> Item:
+    return name, image_of(b"".join(OPENING + code + CLOSING)), frames or PAIRS
 
 
-def arithmetic():
+def arithmetic() -> Iterator[Item]:
+    """Each arithmetic instruction, byte swap, load and store, then atomics and jumps."""
     both = [("64", 7), ("32", 4)]
     for bits, kind in both:
         for name, code in CODES.items():
@@ -119,7 +136,11 @@ def arithmetic():
                 for number in CONSTANTS:
                     if name in ("lsh", "rsh", "arsh") and not 0 <= number < int(bits) or name in ("div", "mod") and number == 0:
                         continue
-                    yield tried(f"{name} {bits} signed {sign} by {number}", [insn(0xBF, 0, 6), insn(code << 4 | kind, 0, 0, sign, number)], SINGLES)
+                    yield tried(
+                        f"{name} {bits} signed {sign} by {number}",
+                        [insn(0xBF, 0, 6), insn(code << 4 | kind, 0, 0, sign, number)],
+                        SINGLES,
+                    )
         yield tried(f"neg {bits}", [insn(0xBF, 0, 6), insn(0x80 | kind, 0)], SINGLES)
         for size in (8, 16) + (32,) * (kind == 7):
             yield tried(f"movsx {bits} {size}", [insn(0xBF, 0, 6), insn(0xB8 | kind, 0, 0, size)], SINGLES)
@@ -137,12 +158,18 @@ def arithmetic():
     yield from jumps()
 
 
-def atomics():
+def atomics() -> Iterator[Item]:
     """On a stack slot, where the kernel allows them; the slot goes into the packet as well."""
     for opcode, bits in ((0xDB, 64), (0xC3, 32)):
         for name, code in FETCHES.items():
             for fetch in (0, 1):
-                step = [insn(0x7B, 10, 6, -8), insn(0xBF, 0, 7), insn(opcode, 10, 0, -8, code | fetch), insn(0x79, 1, 10, -8), insn(0x7B, 9, 1, 24)]
+                step = [
+                    insn(0x7B, 10, 6, -8),
+                    insn(0xBF, 0, 7),
+                    insn(opcode, 10, 0, -8, code | fetch),
+                    insn(0x79, 1, 10, -8),
+                    insn(0x7B, 9, 1, 24),
+                ]
                 yield tried(f"atomic {name} {bits} fetch {fetch}", step)
         step = [insn(0x7B, 10, 6, -8), insn(0xBF, 0, 7), insn(opcode, 10, 0, -8, 0xE1), insn(0x79, 1, 10, -8), insn(0x7B, 9, 1, 24)]
         yield tried(f"xchg {bits}", step)
@@ -152,7 +179,7 @@ def atomics():
             yield tried(f"cmpxchg {bits} same {same}", step)
 
 
-def jumps():
+def jumps() -> Iterator[Item]:
     for kind, bits in ((5, 64), (6, 32)):
         for name, code in TESTS.items():
             yield tried(f"jump {name} {bits}", [insn(0xB7, 0, imm=1), insn(code << 4 | 8 | kind, 6, 7, 1), insn(0xB7, 0, imm=0)])
@@ -161,11 +188,10 @@ def jumps():
                 yield tried(f"jump {name} {bits} with {number}", step, SINGLES)
 
 
-def maps():
+def maps() -> Iterator[Item]:
     """A program calls update with the packet's flags and key, then looks up and deletes; the answers go into the packet."""
     for kind in (1, 2):
-        key, rows = 4, [(kind, 4, 8, entries) for entries in (1, 2, 3)]
-        for row in rows:
+        for row in [(kind, 4, 8, entries) for entries in (1, 2, 3)]:
             for order in ("udl", "ulu", "ldu", "uud", "lud", "dul"):
                 code = list(OPENING[:8])
                 code += [insn(0x61, 2, 9, 0), insn(0x63, 10, 2, -4), insn(0x79, 2, 9, 16), insn(0x7B, 10, 2, -16)]
@@ -177,41 +203,53 @@ def maps():
                     else:
                         code += [insn(0x85, imm=1 if letter == "l" else 3)]
                     if letter == "l":
-                        code += [insn(0x15, 0, 0, 4, 0), insn(0x79, 1, 0, 0), insn(0x07, 1, imm=1), insn(0x7B, 0, 1, 0), insn(0xBF, 0, 1)]
+                        code += [
+                            insn(0x15, 0, 0, 4, 0),
+                            insn(0x79, 1, 0, 0),
+                            insn(0x07, 1, imm=1),
+                            insn(0x7B, 0, 1, 0),
+                            insn(0xBF, 0, 1),
+                        ]
                     code += [insn(0x73, 9, 0, at)]
                     at += 1
                 code += [insn(0xB7, 0, imm=2), insn(0x95)]
                 frames = []
                 chance = random.Random(f"{row} {order}")
-                for number in range(24):
+                for _ in range(24):
                     flags = chance.choice([0, 0, 1, 2, 2, 3, 8, 2**32, 2**64 - 1])
-                    frames.append((1, struct.pack("<IIQQQQ", chance.choice([0, 1, 2, 3, 2**32 - 1]), 0, flags, chance.randrange(2**64), 0, 0)))
-                yield f"maps {row} {order}", image_of(code, [row]), frames
+                    frames.append(
+                        (
+                            1,
+                            struct.pack(
+                                "<IIQQQQ", chance.choice([0, 1, 2, 3, 2**32 - 1]), 0, flags, chance.randrange(2**64), 0, 0
+                            ),
+                        )
+                    )
+                yield f"maps {row} {order}", image_of(b"".join(code), [row]), frames
 
 
 # ---- the comparison
 
 
-def calls_clock(image):
-    return any(it[0] == 0x85 and it[1] >> 4 == 0 and struct.unpack("<i", it[4:])[0] == 5 for it in kernel.parsed(image)[1])
+def calls_clock(image: bytes) -> bool:
+    return any(it[0] == 0x85 and it[1] >> 4 == 0 and struct.unpack("<i", it[4:])[0] == 5 for it in kernel_calls.parsed(image)[1])
 
 
-def shape(words):
+def shape(words: str) -> str:
     """A refusal without its numbers."""
     return re.sub(r"-?\b0x[0-9a-f]+|-?\d+", "N", words.split(" processed")[0])[:110]
 
 
-def compared(item, program, folder):
+def compared(item: Item, program: str, folder: str) -> tuple[tuple[str, str], list[str], int]:
     """The verdicts' class, and what differs between the runs."""
-    name, image, frames = item
+    _, image, frames = item
     path = f"{folder}/image"
-    with open(path, "wb") as file:
-        file.write(image)
+    write(path, image)
     ran = kernel.Ran(program, path, None)
     ours = "ok" if ran.accepted else " ".join(ran.verdict.split()[:2])
     if ours.startswith("refused I") or ours.startswith("refused C"):
         return (ours, "no image"), [], 0
-    with kernel.Kernel(image) as there:
+    with kernel_calls.Kernel(image) as there:
         theirs = "ok" if there.refusal is None else shape(there.refusal)
         if ours != "ok" or theirs != "ok" or calls_clock(image):
             return (ours, theirs), [], 0
@@ -220,16 +258,17 @@ def compared(item, program, folder):
         return ("ok", "ok"), found, both
 
 
-def keep(item, folder):
+def keep(item: Item, folder: str) -> None:
     os.makedirs(folder, exist_ok=True)
     kept = re.sub(r"\W+", "_", item[0])
     for ending, content in (("image", item[1]), ("frames", kernel.stream_of(item[2]))):
-        with open(f"{folder}/{kept}.{ending}", "wb") as file:
-            file.write(content)
+        write(f"{folder}/{kept}.{ending}", content)
 
 
-def work(items, given, job):
-    counts, differing, frames, named = collections.Counter(), [], 0, []
+def work(items: Iterable[Item], given: argparse.Namespace, job: int) -> Told:
+    """Compares the items of one job: the verdicts, what differs, the frames, and the names that were asked for."""
+    counts: collections.Counter[tuple[str, str]] = collections.Counter()
+    differing, frames, named = [], 0, []
     with tempfile.TemporaryDirectory() as folder:
         for number, item in enumerate(items):
             if number % given.jobs != job:
@@ -250,7 +289,7 @@ def work(items, given, job):
     return [(list(key), number) for key, number in counts.items()], differing, frames, named
 
 
-def items_of(given):
+def items_of(given: argparse.Namespace) -> Iterator[Item]:
     if given.set == "images":
         return images(given.paths)
     if given.set == "random":
@@ -260,8 +299,8 @@ def items_of(given):
     return {"arithmetic": arithmetic, "maps": maps}[given.set]()
 
 
-def main():
-    words = argparse.ArgumentParser(description=__doc__.split("\n")[0])
+def main() -> int:
+    words = argparse.ArgumentParser(description=__doc__.partition("\n")[0])
     words.add_argument("set", choices=["images", "random", "attacks", "arithmetic", "maps"])
     words.add_argument("paths", nargs="*")
     words.add_argument("--program", default=os.environ.get("XDPVM", "xdpvm"))
@@ -275,7 +314,7 @@ def main():
     if not shutil.which(given.program):
         sys.exit(f"kernel_sweep.py: there is no program {given.program}")
     if given.plain:
-        kernel.without_perfmon()
+        kernel_calls.without_perfmon()
     pipes = []
     for job in range(given.jobs):
         back, out = os.pipe()
@@ -283,19 +322,23 @@ def main():
             os.close(back)
             with os.fdopen(out, "w") as file:
                 json.dump(work(items_of(given), given, job), file)
-            os._exit(0)
+            os._exit(0)  # pylint: disable=protected-access
         os.close(out)
         pipes.append(back)
-    counts, differing, frames, named = collections.Counter(), [], 0, []
+    counts: collections.Counter[tuple[str, str]] = collections.Counter()
+    differing, frames, named = [], 0, []
     for back in pipes:
         with os.fdopen(back) as file:
             said, found, both, names = json.load(file)
         named += names
-        for key, number in said:
-            counts[tuple(key)] += number
+        for (ours, theirs), number in said:
+            counts[ours, theirs] += number
         differing += found
         frames += both
-    print(f"{sum(counts.values())} programs, {counts[('ok', 'ok')]} accepted by both, {frames} frames run by both, {len(differing)} programs run differently")
+    print(
+        f"{sum(counts.values())} programs, {counts[('ok', 'ok')]} accepted by both, {frames} frames run by both, "
+        f"{len(differing)} programs run differently"
+    )
     differing_verdicts = [(it, number) for it, number in counts.most_common() if (it[0] == "ok") != (it[1] == "ok")]
     for (ours, theirs), number in differing_verdicts:
         print(f"{number:6} xdpvm {ours}, kernel {theirs}")

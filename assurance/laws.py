@@ -12,38 +12,42 @@ is not given, of this one. In the gate.
 """
 import argparse
 import glob
+import os
 import sys
+from collections.abc import Iterator
 
-from definitions import TOP, Base, Code, Place, without_remarks
+sys.path.insert(0, os.path.join(os.path.dirname(os.path.abspath(__file__)), "../checks"))
+from common import TOP
+from definitions import Base, Code, Definitions, Module, Place, without_remarks
 
 
 class Cited(Base):
     """Definitions, and those of them that code rests on."""
 
-    def __init__(self, top, each):
+    def __init__(self, top: str, each: bool) -> None:
         super().__init__(top)
         self.each = each
         for path in sorted(glob.glob("crates/*/src/**/*.rt", root_dir=top, recursive=True)):
             code = Code(path, top)
             self.add(code, without_remarks(code.lines))
 
-    def named(self, module, text):
+    def named(self, module: Module, text: str) -> set[Place]:
         """The declarations that a text names, and those in one `module` with parameters with them."""
         places = super().named(module, text)
         if self.each:
             return places
         return places | {Place(place.file, name) for place in places for name in place.file.beside(place.name)}
 
-    def laws(self):
+    def laws(self) -> Iterator[tuple[str, str, bool]]:
         """Each law of specs/ except the worked examples, and whether code rests on it."""
         needed = {(place.file.path, place.name) for place in self.found}
         for file in self.modules.values():
-            if "/Worked/" not in file.path:
+            if isinstance(file, Definitions) and "/Worked/" not in file.path:
                 yield from ((file.path, name, (file.path, name) in needed) for name in file.laws())
 
 
-def main():
-    words = argparse.ArgumentParser(description=__doc__.split("\n")[0])
+def main() -> None:
+    words = argparse.ArgumentParser(description=__doc__.partition("\n")[0])
     words.add_argument("top", nargs="?", default=TOP)
     words.add_argument("--each", action="store_true", help="laws of a `module` with parameters count by themselves")
     given = words.parse_args()

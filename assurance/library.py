@@ -26,7 +26,9 @@ def built(kit: Path, crate: Any, words: list[str], made: str) -> bool:
     """Whether the toolchain builds a crate into a file of its out/."""
     os.makedirs(f"{crate.folder}/out", exist_ok=True)
     words = [f"{kit}/bin/rattle", "build", *words, "--toolchain", f"{kit}/toolchain", "--backend", "llvm", "-o", made]
-    ran = subprocess.run(words, cwd=crate.folder, stdin=subprocess.DEVNULL, capture_output=True, text=True, errors="replace", check=False)
+    ran = subprocess.run(
+        words, cwd=crate.folder, stdin=subprocess.DEVNULL, capture_output=True, text=True, errors="replace", check=False
+    )
     if ran.returncode:
         sys.stderr.write(ran.stdout[-2000:] + ran.stderr[-2000:])
     return not ran.returncode
@@ -36,7 +38,16 @@ def is_linked(kit: Path, made: Path, program: Path) -> bool:
     """Whether the toolchain links this object file to just this program."""
     with tempfile.TemporaryDirectory() as work:
         again = Path(work) / program.name
-        words = [f"{kit}/bin/rattle-link", "--target", "x86_64-unknown-linux-gnu", "--toolchain", f"{kit}/toolchain", "-o", str(again), str(made)]
+        words = [
+            f"{kit}/bin/rattle-link",
+            "--target",
+            "x86_64-unknown-linux-gnu",
+            "--toolchain",
+            f"{kit}/toolchain",
+            "-o",
+            str(again),
+            str(made),
+        ]
         ran = subprocess.run([*words, f"{kit}/c/libos_c.a", f"{kit}/c/liblibc_c.a"], capture_output=True, check=False)
         return not ran.returncode and again.read_bytes() == program.read_bytes()
 

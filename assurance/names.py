@@ -10,8 +10,13 @@ import glob
 import os
 import re
 import sys
+from collections.abc import Collection
 
-TOP = os.path.dirname(os.path.dirname(os.path.abspath(__file__)))
+sys.path.insert(0, os.path.join(os.path.dirname(os.path.abspath(__file__)), "../checks"))
+from common import TOP, text_of
+
+
+Places = dict[str, dict[str, list[str]]]  # the files that declare a name, by crate
 
 # names that crates share on purpose, and why
 SHARED = {
@@ -30,21 +35,20 @@ TYPE = re.compile(r"^pub (?:unsafe )?(?:struct|enum|trait|type|union) (\w+)", re
 RELATION = re.compile(r"^(?:(?:abbrev|unfoldable) )*pub (?:(?:record|data) )?([A-Z][\w'-]*)", re.M)
 
 
-def names_of(top):
+def names_of(top: str) -> Places:
     """The files that declare each name, by crate."""
-    places = collections.defaultdict(lambda: collections.defaultdict(list))
+    places: Places = collections.defaultdict(lambda: collections.defaultdict(list))
     for pattern, form in (("src/**/*.rt", TYPE), ("specs/**/*.antt", RELATION)):
         for path in sorted(glob.glob(f"crates/*/{pattern}", root_dir=top, recursive=True)):
             crate = path.split("/")[1]
             if crate.endswith("_tests") or "/specs/Worked/" in path:
                 continue
-            with open(os.path.join(top, path), encoding="utf-8") as file:
-                for name in form.findall(file.read()):
-                    places[name][crate].append(path)
+            for name in form.findall(text_of(os.path.join(top, path))):
+                places[name][crate].append(path)
     return places
 
 
-def wrong_names(top, shared):
+def wrong_names(top: str, shared: Collection[str]) -> list[str]:
     """A line for each name of several crates that is not in the list, and for each needless one."""
     places = names_of(top)
     lines = []
@@ -52,8 +56,9 @@ def wrong_names(top, shared):
         paths = [path for found in places[name].values() for path in found]
         if len(places[name]) > 1 and name not in shared:
             lines.append(f"{name}: {', '.join(paths)}")
-    return lines + [f"{name}: in the list of shared names, and not of two crates"
-                    for name in sorted(shared) if len(places.get(name, ())) < 2]
+    return lines + [
+        f"{name}: in the list of shared names, and not of two crates" for name in sorted(shared) if len(places.get(name, ())) < 2
+    ]
 
 
 if __name__ == "__main__":

@@ -21,7 +21,7 @@ import re
 import subprocess
 import sys
 import tempfile
-from typing import Callable, Counter, Iterator, List, Optional, Tuple
+from typing import Callable, Counter, Iterator, Optional, Tuple
 
 HERE = os.path.dirname(os.path.abspath(__file__))
 TOP = os.path.dirname(HERE)
@@ -31,7 +31,6 @@ import image
 import libbpf
 import object_check
 import object_link
-import object_types
 from kernel_sweep import attacks
 from object_image import Program, Refused, map_names
 from objects import Refused as Unreadable
@@ -70,7 +69,7 @@ def case_image(program: str, kind: str, value: str, bytes_of: Callable[[str], by
     with tempfile.TemporaryDirectory() as folder:
         with open(f"{folder}/text", "wb") as file:
             file.write(value.encode() if kind == "text" else bytes_of(value))
-        ran = subprocess.run([program, "asm", f"{folder}/text", f"{folder}/image"], capture_output=True)
+        ran = subprocess.run([program, "asm", f"{folder}/text", f"{folder}/image"], capture_output=True, check=False)
         return content(f"{folder}/image") if ran.returncode == 0 else None
 
 
@@ -89,7 +88,7 @@ def randoms(seed: int) -> Iterator[Tuple[str, bytes]]:
 def is_accepted(program: str, data: bytes, folder: str) -> bool:
     with open(f"{folder}/an.image", "wb") as file:
         file.write(data)
-    return subprocess.run([program, "verify", f"{folder}/an.image"], capture_output=True).returncode == 0
+    return subprocess.run([program, "verify", f"{folder}/an.image"], capture_output=True, check=False).returncode == 0
 
 
 class Sweep:
@@ -120,7 +119,8 @@ class Sweep:
         try:
             again = image.bytes_of(image.made(made))
         except Unreadable as why:
-            return self.say(name, f"image.py refuses the object: {why}")
+            self.say(name, f"image.py refuses the object: {why}")
+            return
         is_same, is_in_order = again == data, Program(data).is_in_order_of_calls()
         self.counts["the same image again" if is_same else "functions in another order"] += 1
         if is_same != is_in_order:

@@ -99,8 +99,9 @@ def tell_prompt(folder: str, command: str, name: str) -> bool:
             open(sent, "wb").close()
         # A named pipe is opened for both, so that nobody waits for the other side.
         out, words = os.open(sent, os.O_RDWR), sent
-    with subprocess.Popen([PROGRAM, command, IMAGE, "/dev/stdin", words], stdin=subprocess.PIPE,
-                          stdout=subprocess.PIPE, pass_fds=kept) as program:
+    with subprocess.Popen(
+        [PROGRAM, command, IMAGE, "/dev/stdin", words], stdin=subprocess.PIPE, stdout=subprocess.PIPE, pass_fds=kept
+    ) as program:
         for file in kept:
             os.close(file)
         assert program.stdin and program.stdout
@@ -116,8 +117,9 @@ def tell_slow() -> bool:
     """Whether frames of a slow writer are soon downstream."""
     out, into = os.pipe()
     delays: list[float] = []
-    with subprocess.Popen([PROGRAM, "run", IMAGE, "/dev/stdin", f"/dev/fd/{into}"], stdin=subprocess.PIPE,
-                          stdout=subprocess.DEVNULL, pass_fds=(into,)) as program:
+    with subprocess.Popen(
+        [PROGRAM, "run", IMAGE, "/dev/stdin", f"/dev/fd/{into}"], stdin=subprocess.PIPE, stdout=subprocess.DEVNULL, pass_fds=(into,)
+    ) as program:
         assert program.stdin
         os.close(into)
         program.stdin.write(b"XPF1")
@@ -157,8 +159,9 @@ def calls(frames: str, out: str, report: str) -> Optional[int]:
 
 def calls_through_pipes(frames: bytes) -> Optional[int]:
     """The same where the frames come through a pipe together, and the report goes into one."""
-    with subprocess.Popen([PROGRAM, "run", IMAGE, "/dev/stdin", "/dev/stderr"], stdin=subprocess.PIPE,
-                          stdout=subprocess.PIPE, stderr=subprocess.PIPE) as program:
+    with subprocess.Popen(
+        [PROGRAM, "run", IMAGE, "/dev/stdin", "/dev/stderr"], stdin=subprocess.PIPE, stdout=subprocess.PIPE, stderr=subprocess.PIPE
+    ) as program:
         assert program.stdin
         program.stdin.write(frames)
         program.stdin.close()
@@ -172,8 +175,12 @@ def tell_unwatched(folder: str) -> bool:
     with open(frames, "wb") as file:
         file.write(stream)
     sent = os.path.join(folder, "sent")
-    counts = [calls(frames, sent, os.path.join(folder, "report")), calls(frames, sent, "/dev/null"),
-              calls(frames, "/dev/null", "/dev/null"), calls_through_pipes(stream)]
+    counts = [
+        calls(frames, sent, os.path.join(folder, "report")),
+        calls(frames, sent, "/dev/null"),
+        calls(frames, "/dev/null", "/dev/null"),
+        calls_through_pipes(stream),
+    ]
     counted = [count for count in counts if count is not None]
     if len(counted) < len(counts):
         print("calls are not counted here", file=sys.stderr)
@@ -185,8 +192,7 @@ def tell_unwatched(folder: str) -> bool:
 
 def main() -> int:
     with tempfile.TemporaryDirectory() as folder:
-        told = [tell_prompt(folder, command, name) for command in ("run", "trace")
-                for name in ("a pipe", "a named pipe", "a file")]
+        told = [tell_prompt(folder, command, name) for command in ("run", "trace") for name in ("a pipe", "a named pipe", "a file")]
         told += [tell_slow(), tell_unwatched(folder)]
     return 0 if all(told) else 1
 

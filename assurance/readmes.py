@@ -12,32 +12,30 @@ import glob
 import os
 import re
 import sys
+from collections.abc import Iterator
 
-TOP = os.path.dirname(os.path.dirname(os.path.abspath(__file__)))
+sys.path.insert(0, os.path.join(os.path.dirname(os.path.abspath(__file__)), "../checks"))
+import common
+from common import TOP, text_of
+
 MOST_LINES = 40
 WORD = re.compile(r"[^\W\d][\w'\-]*")
 
 
-def text_of(path):
-    with open(path, encoding="utf-8") as file:
-        return file.read()
+def crates() -> set[str]:
+    return set(common.crates())
 
 
-def crates():
-    rows = text_of(os.path.join(TOP, "crates.txt")).splitlines()
-    return {row.split(":")[0].split()[0] for row in rows if row.strip() and row[0] != "#"}
-
-
-def heads_of(pattern):
+def heads_of(pattern: str) -> dict[str, str]:
     """The contracts of the functions of each name."""
-    heads = {}
+    heads: dict[str, str] = {}
     for path in glob.glob(os.path.join(TOP, pattern), recursive=True):
         for name, head in re.findall(r"\bfn (\w+)(.*?)(?=\n\s*\{\n|\bfn |\Z)", text_of(path), re.S):
             heads[name] = heads.get(name, "") + head
     return heads
 
 
-def words():
+def words() -> set[str]:
     """Each name of the sources, and each name of a file or a crate."""
     found = set(crates())
     for path in glob.glob(os.path.join(TOP, "crates/*/*/**/*.*"), recursive=True):
@@ -47,20 +45,20 @@ def words():
     return found
 
 
-def named(text, heads):
+def named(text: str, heads: dict[str, str]) -> list[tuple[str, str]]:
     """The functions and the clauses that a text names together."""
     pairs = [it for it in re.findall(r"`([\w:]+): ([\w, ]+)`", text) if it != ("function", "clause")]
     return pairs + [it for it in re.findall(r"`([\w:]+)`: ((?:`\w+`(?:, )?)+)", text) if it[0].split("::")[-1] in heads]
 
 
-def wrong_clauses(text, heads):
+def wrong_clauses(text: str, heads: dict[str, str]) -> Iterator[str]:
     """Which clauses no function of the name has."""
     for function, clauses in named(text, heads):
         head = heads.get(function.split("::")[-1], "")
         yield from (f"{function}: {it}" for it in re.findall(r"\w+", clauses) if not re.search(rf"\b{it}\b", head))
 
 
-def wrong_rows(text, heads):
+def wrong_rows(text: str, heads: dict[str, str]) -> Iterator[str]:
     """Which clauses of a README's tables no function of their row has."""
     functions = ""
     for first, second in re.findall(r"^\| ?(.*?) \| (.*) \|$", text, re.M):
@@ -71,12 +69,12 @@ def wrong_rows(text, heads):
             yield from (f"{calls}: {it}" for it in re.findall(r"\w+", clauses) if not re.search(rf"\b{it}\b", head))
 
 
-def is_there(crate, name):
+def is_there(crate: str, name: str) -> bool:
     folders = ("", "crates", os.path.join("crates", crate), os.path.join("crates", crate, "src"))
     return any(glob.glob(os.path.join(TOP, folder, name) + "*") for folder in folders)
 
 
-def wrong_names(crate, text, known):
+def wrong_names(crate: str, text: str, known: set[str]) -> Iterator[str]:
     """Which names in a README are nowhere in the sources."""
     text = re.sub(r"^```.*?^```$", "", text, flags=re.M | re.S)
     for name in re.findall(r"`([^`\n]+)`", text):
@@ -88,7 +86,7 @@ def wrong_names(crate, text, known):
             yield from (name for part in parts[-2:] if part not in known)
 
 
-def wrong_readme(crate, known, everywhere):
+def wrong_readme(crate: str, known: set[str], everywhere: dict[str, str]) -> Iterator[str]:
     """What is wrong with the README of a crate."""
     path = os.path.join(TOP, "crates", crate, "README.md")
     text, heads = text_of(path), heads_of(f"crates/{crate}/src/**/*.rt")
@@ -100,7 +98,7 @@ def wrong_readme(crate, known, everywhere):
     yield from wrong_names(crate, text, known)
 
 
-def main():
+def main() -> None:
     lacking = {it for it in crates() if not os.path.exists(os.path.join(TOP, "crates", it, "README.md"))}
     wrong = [f"crates/{it}: no README.md" for it in sorted(lacking)]
     known, heads = words(), heads_of("crates/*/src/**/*.rt")

@@ -11,12 +11,15 @@ exit status is rt's. An equation that is changed is refused (--keep leaves the c
 Takes some three processor minutes if isa_model is proved. Run by hand.
 """
 import argparse
+import operator
 import os
 import random
 import shutil
 import subprocess
 import sys
 import tempfile
+from collections.abc import Callable, Iterable
+from functools import partial
 
 TOP = os.path.dirname(os.path.dirname(os.path.abspath(__file__)))
 WIDTHS = {"Low32": 32, "Full64": 64}
@@ -27,24 +30,25 @@ OPERANDS = sorted(
     | {0x0123456789ABCDEF, 0xFEDCBA9876543210}
 )
 PER_FILE = 40
+Octets = tuple[int, ...]
 
 
-def signed(n, bits):
-    n %= 2**bits
-    return n - 2**bits if n >= 2 ** (bits - 1) else n
+def signed(n: int, bits: int) -> int:
+    n %= 1 << bits
+    return n - (1 << bits) if n >> bits - 1 else n
 
 
-def truncated(a, b):
+def truncated(a: int, b: int) -> int:
     """a / b, cut toward zero."""
     return abs(a) // abs(b) * (1 if (a < 0) == (b < 0) else -1)
 
 
-def arithmetic(op, bits, dst, src):
+def arithmetic(op: str, bits: int, dst: int, src: int) -> int:
     """RFC 9669, section 4.1. With 32 bits the upper half of the result is zero."""
-    a, b = dst % 2**bits, src % 2**bits
+    a, b = dst % (1 << bits), src % (1 << bits)
     s, t = signed(dst, bits), signed(src, bits)
     shift = src & (bits - 1)
-    return {
+    results: dict[str, Callable[[], int]] = {
         "Add": lambda: a + b,
         "Sub": lambda: a - b,
         "Mul": lambda: a * b,
@@ -59,16 +63,17 @@ def arithmetic(op, bits, dst, src):
         "Xor": lambda: a ^ b,
         "Mov": lambda: b,
         "Arsh": lambda: s >> shift,
-    }[op]() % 2**bits
+    }
+    return results[op]() % (1 << bits)
 
 
 OPS = "Add Sub Mul Div SignedDiv Or And Lsh Rsh Mod SignedMod Xor Mov Arsh".split()
 
 
-def condition(op, bits, dst, src):
+def condition(op: str, bits: int, dst: int, src: int) -> bool:
     """RFC 9669, section 4.3."""
-    a, b, s, t = dst % 2**bits, src % 2**bits, signed(dst, bits), signed(src, bits)
-    return {
+    a, b, s, t = dst % (1 << bits), src % (1 << bits), signed(dst, bits), signed(src, bits)
+    holds: dict[str, bool] = {
         "Equal": a == b,
         "NotEqual": a != b,
         "Greater": a > b,
@@ -80,15 +85,18 @@ def condition(op, bits, dst, src):
         "SignedGreaterEqual": s >= t,
         "SignedLess": s < t,
         "SignedLessEqual": s <= t,
-    }[op]
+    }
+    return holds[op]
 
 
-CONDITIONS = "Equal NotEqual Greater GreaterEqual Less LessEqual AnyBit SignedGreater SignedGreaterEqual SignedLess SignedLessEqual".split()
+CONDITIONS = (
+    "Equal NotEqual Greater GreaterEqual Less LessEqual AnyBit SignedGreater SignedGreaterEqual SignedLess SignedLessEqual".split()
+)
 EXTENSIONS = {"Low8": (8, 32), "Low16": (16, 32), "Full8": (8, 64), "Full16": (16, 64), "Full32": (32, 64)}
 SPANS = {"B16": 16, "B32": 32, "B64": 64}
 
 
-def byte_order(order, bits, n):
+def byte_order(order: str, bits: int, n: int) -> int:
     """RFC 9669, section 4.2, on a machine with the low byte first."""
     octets = (n % 2**bits).to_bytes(bits // 8, "little")
     return int.from_bytes(octets, "little" if order == "Little" else "big")
@@ -100,13 +108,13 @@ class Map:
 
     ERRORS = {"ENOENT": 2, "E2BIG": 7, "EEXIST": 17, "EINVAL": 22}
 
-    def __init__(self, kind, key_size, value_size, entries):
+    def __init__(self, kind: str, key_size: int, value_size: int, entries: int) -> None:
         self.kind, self.key_size, self.value_size, self.entries = kind, key_size, value_size, entries
         self.values = {}
         if kind == "Array":
             self.values = {tuple(k.to_bytes(4, "little")): (0,) * value_size for k in range(entries)}
 
-    def update(self, key, value, flags):
+    def update(self, key: Octets, value: Octets, flags: int) -> int:
         if flags > 2:
             return self.error("EINVAL")
         if self.kind == "Array" and key not in self.values:
@@ -120,7 +128,7 @@ class Map:
         self.values[key] = value
         return 0
 
-    def delete(self, key):
+    def delete(self, key: Octets) -> int:
         if self.kind == "Array":
             return self.error("EINVAL")
         if key not in self.values:
@@ -128,35 +136,36 @@ class Map:
         del self.values[key]
         return 0
 
-    def error(self, name):
+    def error(self, name: str) -> int:
         return 2**64 - self.ERRORS[name]
 
 
-def listed(items):
+def listed(items: Iterable[str]) -> str:
     return " ∷ ".join([*items, "[]"])
 
 
-def bytes_text(octets):
+def bytes_text(octets: Octets) -> str:
     return f"({listed(map(str, octets))})"
 
 
 class Equations:
     """Equations of one subject, some in each file."""
 
-    def __init__(self, name, imports, unfolding):
+    def __init__(self, name: str, imports: str, unfolding: str) -> None:
         self.name, self.imports, self.unfolding = name, imports, unfolding
-        self.rows, self.numbers = [], 0
+        self.rows: list[str] = []
+        self.numbers = 0
 
-    def add(self, left, right, numbers):
+    def add(self, left: str, right: str, numbers: int) -> None:
         self.rows.append(f"{left}\n    ≡ {right}")
         self.numbers += numbers
 
-    def write(self, folder):
+    def write(self, folder: str) -> list[str]:
         """Writes the files, and returns their names."""
         names = []
         for at in range(0, len(self.rows), PER_FILE):
             name = f"{self.name}{at // PER_FILE}"
-            with open(f"{folder}/{name}.antt", "w") as file:
+            with open(f"{folder}/{name}.antt", "w", encoding="utf-8") as file:
                 file.write("-- Equations that assurance/recompute.py wrote.\n" + self.imports)
                 for k, row in enumerate(self.rows[at : at + PER_FILE]):
                     file.write(f"\npub row{k} : {row}\n{self.unfolding}\nrow{k} = refl\n")
@@ -169,7 +178,8 @@ DECLARED = "use Rattle.isa_model.specs.declared"
 NUMBERS = "use Rattle.isa_model.specs.Code.Numbers"
 
 
-def numbers():
+def numbers() -> list[Equations]:
+    """Arithmetic and comparisons of each pair of operands."""
     arithmetics = Equations(
         "Arithmetic",
         f"{PRELUDE}{DECLARED}.sizes.Width.TheVariants.{{Low32, Full64}}\n"
@@ -194,7 +204,7 @@ def numbers():
     return [arithmetics, comparisons]
 
 
-def forms():
+def forms() -> list[Equations]:
     extensions = Equations(
         "Extensions",
         f"{PRELUDE}{DECLARED}.sizes.Extension.TheVariants.{{{', '.join(EXTENSIONS)}}}\n{NUMBERS}.{{sign_extended}}\n",
@@ -229,16 +239,20 @@ MAP_IMPORTS = (
 )
 
 
-def content_text(it):
+def content_text(it: Map) -> str:
     return f"({listed(f'({bytes_text(k)}, {bytes_text(it.values[k])})' for k in sorted(it.values))})"
 
 
-def commands():
+def commands() -> list[Equations]:
     """Lists of commands over maps of some shapes, each with the content that it finds and leaves."""
     maps = Equations("Maps", MAP_IMPORTS, "")
     chance = random.Random(9669)
     for kind, key_size, value_size, entries in [
-        ("Array", 4, 1, 1), ("Array", 4, 2, 3), ("Hash", 1, 1, 1), ("Hash", 2, 3, 3), ("Hash", 4, 2, 5)
+        ("Array", 4, 1, 1),
+        ("Array", 4, 2, 3),
+        ("Hash", 1, 1, 1),
+        ("Hash", 2, 3, 3),
+        ("Hash", 4, 2, 5),
     ] * 3:
         it = Map(kind, key_size, value_size, entries)
         row = f"(record {{ kind = {kind}; key_size = {key_size}; value_size = {value_size}; entries = {entries} }})"
@@ -262,18 +276,19 @@ class Run:
     """A random program of jumps forward, over numbers in r0 and r2 to r9 and the stack, and its run: RFC 9669, 3 to 5."""
 
     SIZES = {"U8": 1, "U16": 2, "U32": 4, "U64": 8}
-    ATOMICS = {"Add": lambda a, b: a + b, "Or": lambda a, b: a | b, "And": lambda a, b: a & b, "Xor": lambda a, b: a ^ b}
+    ATOMICS = {"Add": operator.add, "Or": operator.or_, "And": operator.and_, "Xor": operator.xor}
     REGISTERS = (0, 2, 3, 4, 5, 6, 7, 8, 9)
 
-    def __init__(self, chance):
-        self.chance, self.code, self.steps = chance, [], 0
-        self.registers, self.stack = {}, bytearray(64)
+    def __init__(self, chance: random.Random) -> None:
+        self.chance, self.steps, self.stack = chance, 0, bytearray(64)
+        self.code: list[str] = []
+        self.registers: dict[int, int] = {}
         for r in self.REGISTERS:
             number = chance.choice(OPERANDS)
-            self.do(f"insn.LoadNumber R{r} {number}", lambda r=r, number=number: self.registers.update({r: number}))
+            self.do(f"insn.LoadNumber R{r} {number}", partial(self.set, r, number))
         for at in range(8):
             r = self.any()
-            self.do(f"insn.Store U64 (below R10 {64 - 8 * at}) R{r}", lambda r=r, at=at: self.put(8 * at, 8, self.registers[r]))
+            self.do(f"insn.Store U64 (below R10 {64 - 8 * at}) R{r}", partial(self.put, 8 * at, 8, self.registers[r]))
         skipped = 0
         for left in range(16, 0, -1):
             skipped = self.instruction(skipped > 0, left) if skipped == 0 else self.instruction(True, left) or skipped - 1
@@ -285,25 +300,25 @@ class Run:
             self.alu("Full64", "Add", 0, self.registers[2], "Register R2", False)
         self.do("insn.Exit", lambda: None)
 
-    def any(self):
+    def any(self) -> int:
         return self.chance.choice(self.REGISTERS)
 
-    def do(self, text, effect, skip=False):
+    def do(self, text: str, effect: Callable[[], object], skip: bool = False) -> None:
         self.code.append(text)
         if not skip:
             self.steps += 1
             effect()
 
-    def put(self, at, size, number):
+    def put(self, at: int, size: int, number: int) -> None:
         self.stack[at : at + size] = (number % 2 ** (8 * size)).to_bytes(size, "little")
 
-    def get(self, at, size):
+    def get(self, at: int, size: int) -> int:
         return int.from_bytes(self.stack[at : at + size], "little")
 
-    def set(self, r, number):
+    def set(self, r: int, number: int) -> None:
         self.registers[r] = number % 2**64
 
-    def operand(self):
+    def operand(self) -> tuple[int, str]:
         """A constant or a register, as a number and as a text."""
         if self.chance.random() < 0.4:
             k = self.chance.choice([0, 1, 7, 63, 2**31 - 1, -1, -2, -(2**31)])
@@ -311,14 +326,14 @@ class Run:
         r = self.any()
         return self.registers[r], f"Register R{r}"
 
-    def alu(self, width, op, r, number, text, skip):
-        result = lambda: self.set(r, arithmetic(op, WIDTHS[width], self.registers[r], number))
-        self.do(f"insn.Alu {width} {op} R{r} ({text})", result, skip)
+    def alu(self, width: str, op: str, r: int, number: int, text: str, skip: bool) -> None:
+        words = f"insn.Alu {width} {op} R{r} ({text})"
+        self.do(words, lambda: self.set(r, arithmetic(op, WIDTHS[width], self.registers[r], number)), skip)
 
-    def load(self, size, r, at, skip):
+    def load(self, size: str, r: int, at: int, skip: bool) -> None:
         self.do(f"insn.Load {size} R{r} (below R10 {64 - at})", lambda: self.set(r, self.get(at, self.SIZES[size])), skip)
 
-    def instruction(self, skip, left):
+    def instruction(self, skip: bool, left: int) -> int:
         """Makes one more, which is run unless a jump skips it. Returns how many are skipped after
         it."""
         r, q, width = self.any(), self.any(), self.chance.choice(list(WIDTHS))
@@ -331,12 +346,12 @@ class Run:
             self.do(f"insn.MovSx {name} R{r} R{q}", lambda: self.set(r, signed(self.registers[q], low) % 2**bits), skip)
         elif form == 4:
             order, span = self.chance.choice(["Little", "Big", "Swap"]), self.chance.choice(list(SPANS))
-            swap = lambda: self.set(r, byte_order(order, SPANS[span], self.registers[r]))
-            self.do(f"insn.ByteSwap {order} {span} R{r}", swap, skip)
+            text = f"insn.ByteSwap {order} {span} R{r}"
+            self.do(text, lambda: self.set(r, byte_order(order, SPANS[span], self.registers[r])), skip)
         elif form == 5:
             self.do(f"insn.Neg {width} R{r}", lambda: self.set(r, -self.registers[r] % 2 ** WIDTHS[width]), skip)
         elif form == 6:
-            self.memory(r, q, width, skip)
+            self.memory(r, width, skip)
         elif form == 7 and left > 1:
             return self.jump(r, width, min(self.chance.randrange(1, 4), left - 1), skip)
         else:
@@ -344,12 +359,12 @@ class Run:
             self.load(size, r, self.chance.randrange(64 - self.SIZES[size] + 1), skip)
         return 0
 
-    def memory(self, r, q, width, skip):
+    def memory(self, r: int, width: str, skip: bool) -> None:
         size = self.chance.choice(list(self.SIZES))
         at = self.chance.randrange(64 - self.SIZES[size] + 1)
         if self.chance.random() < 0.5:
-            store = lambda: self.put(at, self.SIZES[size], self.registers[r])
-            return self.do(f"insn.Store {size} (below R10 {64 - at}) R{r}", store, skip)
+            text = f"insn.Store {size} (below R10 {64 - at}) R{r}"
+            return self.do(text, lambda: self.put(at, self.SIZES[size], self.registers[r]), skip)
         octets, place = WIDTHS[width] // 8, self.chance.randrange(8) * 8
         form = self.chance.choice([*self.ATOMICS, "Exchange", "CompareExchange"])
         where = f"{width} (below R10 {64 - place})"
@@ -362,7 +377,7 @@ class Run:
             text = f"insn.Atomic {width} atomic.{form} {fetch} (below R10 {64 - place}) R{r}"
         return self.do(text, lambda: self.atomic(form, r, place, octets, "true" in text), skip)
 
-    def atomic(self, form, r, place, octets, fetch):
+    def atomic(self, form: str, r: int, place: int, octets: int, fetch: bool) -> None:
         """RFC 9669, section 5.3."""
         old = self.get(place, octets)
         if form == "Exchange":
@@ -377,7 +392,7 @@ class Run:
             if fetch:
                 self.set(r, old)
 
-    def jump(self, r, width, by, skip):
+    def jump(self, r: int, width: str, by: int, skip: bool) -> int:
         """A jump forward over some instructions; returns how many are skipped."""
         op, (number, text) = self.chance.choice(CONDITIONS), self.operand()
         test = f"record {{ width = {width}; comparison = {op}; register = R{r}; operand = {text} }}"
@@ -408,9 +423,11 @@ RUN_IMPORTS = (
 )
 
 
-def runs():
+def runs() -> list[Equations]:
     """Whole runs: what each returns, mixed from all registers and 64 bytes of the stack, and its steps."""
-    programs = Equations("Runs", RUN_IMPORTS, "unfolding turn progress start_state new_call_frame step act alu holds sign_extended reordered")
+    programs = Equations(
+        "Runs", RUN_IMPORTS, "unfolding turn progress start_state new_call_frame step act alu holds sign_extended reordered"
+    )
     chance = random.Random(4)
     for _ in range(300):
         it = Run(chance)
@@ -418,31 +435,31 @@ def runs():
     return [programs]
 
 
-def write_crate(folder, subjects):
+def write_crate(folder: str, subjects: list[Equations]) -> None:
     crate = f"{folder}/crates/recomputed"
     for name in ("src", "specs"):
         os.makedirs(f"{crate}/{name}")
     shutil.copytree(f"{TOP}/crates/isa_model", f"{folder}/crates/isa_model", symlinks=True)
-    with open(f"{TOP}/crates.txt") as file:
+    with open(f"{TOP}/crates.txt", encoding="utf-8") as file:
         model = next(line for line in file if line.startswith("isa_model:"))
-    with open(f"{folder}/crates.txt", "w") as file:
+    with open(f"{folder}/crates.txt", "w", encoding="utf-8") as file:
         file.write(f"{model.rstrip()}\nrecomputed: isa_model\n")
     files = [name for it in subjects for name in it.write(f"{crate}/specs")]
-    with open(f"{crate}/specs/Lib.antt", "w") as file:
+    with open(f"{crate}/specs/Lib.antt", "w", encoding="utf-8") as file:
         file.write("".join(f"pub mod {name}\n" for name in files))
-    with open(f"{crate}/src/lib.rt", "w") as file:
+    with open(f"{crate}/src/lib.rt", "w", encoding="utf-8") as file:
         file.write("//! Equations that assurance/recompute.py wrote.\n#![tactic(auto)]\n")
 
 
-def main():
-    parser = argparse.ArgumentParser(description=__doc__.split("\n")[0])
+def main() -> int:
+    parser = argparse.ArgumentParser(description=__doc__.partition("\n")[0])
     parser.add_argument("--keep", metavar="FOLDER", help="write the crate into this new folder, and leave it there")
     words = parser.parse_args()
     subjects = numbers() + forms() + runs() + commands()
     with tempfile.TemporaryDirectory() as made:
         folder = words.keep or f"{made}/recomputed"
         write_crate(folder, subjects)
-        status = subprocess.run(["rt", "check"], cwd=f"{folder}/crates/recomputed").returncode
+        status = subprocess.run(["rt", "check"], cwd=f"{folder}/crates/recomputed", check=False).returncode
     for it in subjects:
         print(f"{it.name}: {len(it.rows)} equations, {it.numbers} numbers")
     print(f"{sum(it.numbers for it in subjects)} numbers: {'all as recomputed' if status == 0 else 'REFUSED'}")

@@ -7,9 +7,10 @@ usage: python3 assurance/record.py --write 'N passed, 0 failed' SECONDS
 --write is called by .ci/run at its end. It keeps crates/*/out's programs, their object files and the library in
 ~/.cache/xdpvm/gate/COMMIT, beside record.json: the commit, the toolchain, the date, the cores and seconds, what the gate said,
 and the SHA-256 of each. The object files are there where the programs were proved in this run, and else are those of an
-earlier record with the same programs, if there is one. Nothing is kept of a tree with changes that are not committed. The five newest records stay. --find
-prints the folder of the commit that is checked out; its status is 1 if there is none, if the tree has changes, or if a file
-is not the one that the record names. So install.sh and release.sh take what was proved, and prove nothing again.
+earlier record with the same programs, if there is one. Nothing is kept of a tree with changes that are not committed. The five
+newest records stay. --find prints the folder of the commit that is checked out; its status is 1 if there is none, if the tree has
+changes, or if a file is not the one that the record names. So install.sh and release.sh take what was proved, and prove nothing
+again.
 """
 import datetime
 import hashlib
@@ -21,7 +22,9 @@ import sys
 from pathlib import Path
 
 TOP = Path(__file__).resolve().parent.parent
-OBJECTS = tuple(f"crates/{name}/out/{name}" for name in ("xdpvm", "xdpvm_survey", "xdpvm_filter"))  # programs, beside which their object files may be
+OBJECTS = tuple(
+    f"crates/{name}/out/{name}" for name in ("xdpvm", "xdpvm_survey", "xdpvm_filter")
+)  # programs, beside which their object files may be
 FILES = (*OBJECTS, "crates/xdpvm_c/out/libxdpvm_c.a")
 MOST = 5
 
@@ -55,6 +58,7 @@ def object_of(program: Path) -> Path | None:
 
 
 def write(said: str, seconds: str) -> int:
+    """Keeps the record and the programs; the exit status."""
     if git("status", "--porcelain"):
         print("record.py: nothing is kept, since there are changes that are not committed", file=sys.stderr)
         return 0

@@ -27,10 +27,13 @@ import subprocess
 import sys
 import tempfile
 import time
+from collections.abc import Collection, Iterable
 
+sys.path.insert(0, os.path.join(os.path.dirname(os.path.abspath(__file__)), "../checks"))
+import common
+from common import TOP, there
 import edits
 
-TOP = os.path.dirname(os.path.dirname(os.path.abspath(__file__)))
 KIT = os.path.dirname(os.path.dirname(os.path.realpath(shutil.which("rt") or "/opt/rattle/bin/rt")))
 KEPT = os.path.join(os.environ.get("XDG_CACHE_HOME") or os.path.expanduser("~/.cache"), "xdpvm_edits")
 PARTS = ("src", "specs", "proofs")
@@ -38,20 +41,10 @@ PARTS = ("src", "specs", "proofs")
 MEMORY = 2.5
 
 
-def crates_below():
-    """Each crate of crates.txt, with what it builds on."""
-    found = {}
-    for line in edits.text_of(f"{TOP}/crates.txt").splitlines():
-        if line.strip() and not line.startswith("#"):
-            name, _, below = line.partition(":")
-            found[name.split()[0]] = below.split()
-    return found
+BELOW = common.crates()
 
 
-BELOW = crates_below()
-
-
-def all_below(crate):
+def all_below(crate: str) -> list[str]:
     """The crates of this repository that a crate builds on, directly or not."""
     found = [it for it in BELOW[crate] if it in BELOW]
     for it in found:
@@ -59,12 +52,12 @@ def all_below(crate):
     return found
 
 
-def edits_of(crate, in_gate):
+def edits_of(crate: str, in_gate: bool) -> list[str]:
     folder = f"crates/{crate}/must-fail" if in_gate else f"assurance/{crate}"
     return sorted(glob.glob(f"{TOP}/{folder}/*.edit"))
 
 
-def words(crate, libraries):
+def words(crate: str, libraries: str) -> list[str]:
     """The words of a check of a crate, over libraries that are built."""
     is_program = os.path.isfile(f"{TOP}/crates/{crate}/src/main.rt")
     given = ["--crate-name", crate, "src/main.rt" if is_program else "src/lib.rt", "-L", f"dependency={KIT}/rlibs"]
@@ -77,43 +70,41 @@ def words(crate, libraries):
     return [*given, *logic, "--links", f"{crate}=", "--jobs", "1"]
 
 
-def leave_open(room, crate, tried):
+def leave_open(room: str, crate: str, tried: Collection[str]) -> None:
     """Takes all functions but those that are tried by their contracts: their proofs are left open, and their bodies are emptied."""
     for file, first, last, folder in list(edits.open_functions(room)):
         name = folder.replace("/", "::")
         if any(name == it or name.endswith("::" + it) for it in tried):
             continue
-        text = edits.emptied(edits.text_of(f"{room}/{file}"), first, last)
-        with open(f"{room}/{file}", "w", encoding="utf-8") as code:
-            code.write(text)
+        common.write(f"{room}/{file}", edits.emptied(edits.text_of(f"{room}/{file}"), first, last))
         at = f"{room}/proofs/{folder}"
         os.makedirs(at, exist_ok=True)
         for file in ("Answers.antt", "Invariants.antt"):
             if os.path.isfile(f"{at}/{file}"):
                 os.remove(f"{at}/{file}")
-        with open(f"{at}/Proof.antt", "w", encoding="utf-8") as proof:
-            last = folder.rpartition("/")[2]
-            proof.write(f"use Rattle.{crate}.proofs.{folder.replace('/', '.')}.Statement.{{statement}}\n\n")
-            proof.write(f"pub {last}_spec : {{M : Type 1}} → statement M\n{last}_spec = ?\n")
+        own = folder.rpartition("/")[2]
+        head = f"use Rattle.{crate}.proofs.{folder.replace('/', '.')}.Statement.{{statement}}\n\n"
+        common.write(f"{at}/Proof.antt", f"{head}pub {own}_spec : {{M : Type 1}} → statement M\n{own}_spec = ?\n")
 
 
-def check(crate, texts, tried, libraries, made):
+def check(crate: str, texts: dict[str, str], tried: Collection[str], libraries: str, made: str) -> list[str]:
     """Checks these functions of a crate with these texts, and returns what the check printed; made has what was proved."""
     with tempfile.TemporaryDirectory(prefix="edits-") as room:
         for part in PARTS:
             if os.path.isdir(f"{TOP}/crates/{crate}/{part}"):
                 shutil.copytree(f"{TOP}/crates/{crate}/{part}", f"{room}/{part}")
         for file, text in texts.items():
-            with open(f"{room}/{file}", "w", encoding="utf-8") as code:
-                code.write(text)
+            common.write(f"{room}/{file}", text)
         leave_open(room, crate, tried)
         only = [word for name in sorted(tried) for word in ("--only", name)]
         command = [f"{KIT}/bin/rattle", "check", *words(crate, libraries), *only, "--allow-holes", "--incremental", made]
-        how = {"stdin": subprocess.DEVNULL, "stdout": subprocess.PIPE, "stderr": subprocess.STDOUT}
-        return subprocess.run(command, cwd=room, text=True, errors="replace", **how).stdout.splitlines()
+        ran = subprocess.run(
+            command, cwd=room, stdin=subprocess.DEVNULL, stdout=subprocess.PIPE, stderr=subprocess.STDOUT, check=False
+        )
+        return ran.stdout.decode(errors="replace").splitlines()
 
 
-def unfit(crate, paths):
+def unfit(crate: str, paths: list[str]) -> tuple[dict[str, str], str | None]:
     """The texts of the files that these edits change together, and why they cannot be made, or None."""
     folder = f"{TOP}/crates/{crate}"
     texts, why = edits.edited(folder, [it for path in paths for it in edits.changes(path)])
@@ -126,7 +117,7 @@ def unfit(crate, paths):
     return texts, why
 
 
-def try_together(crate, listed, libraries, made):
+def try_together(crate: str, listed: list[tuple[str, set[str]]], libraries: str, made: str) -> dict[str, str]:
     """What is said of each of these edits that is not refused, by its path below the top."""
     texts, why = unfit(crate, [path for path, _ in listed])
     if why:
@@ -137,7 +128,7 @@ def try_together(crate, listed, libraries, made):
     return {path: last[:200] for path, names in listed if not any(edits.refusal(crate, it, said, texts) for it in names)}
 
 
-def try_crate(crate, paths, libraries):
+def try_crate(crate: str, paths: list[str], libraries: str) -> tuple[dict[str, str], float]:
     """What is said of the edits of a crate that are not refused, by their paths, and the seconds that it took."""
     began, left = time.time(), {}
     with tempfile.TemporaryDirectory(prefix="edits-made-") as made:
@@ -151,7 +142,7 @@ def try_crate(crate, paths, libraries):
     return left, time.time() - began
 
 
-def sum_of(crate, paths):
+def sum_of(crate: str, paths: list[str]) -> str:
     """A sum of all that a verdict on these edits rests on."""
     sums = hashlib.sha256(edits.text_of(f"{KIT}/KIT-ID").encode())
     own = [f"{TOP}/assurance/{name}" for name in ("run.py", "edits.py")]
@@ -165,7 +156,7 @@ def sum_of(crate, paths):
     return sums.hexdigest()
 
 
-def judged(crate, paths, libraries, anew):
+def judged(crate: str, paths: list[str], libraries: str, anew: bool) -> dict[str, str]:
     """What is said of the edits of a crate that are not refused; prints a line. What an earlier run refused is taken from it."""
     kept = f"{KEPT}/{sum_of(crate, paths)}"
     if os.path.isfile(kept) and not anew:
@@ -175,12 +166,11 @@ def judged(crate, paths, libraries, anew):
     print(f"{crate}: {len(paths) - len(left)} of {len(paths)} edits refused, {seconds:.0f} s", flush=True)
     if not left:
         os.makedirs(KEPT, exist_ok=True)
-        with open(kept, "w", encoding="utf-8"):
-            pass
+        common.write(kept, "")
     return left
 
 
-def build_libraries(room, crates):
+def build_libraries(room: str, crates: Iterable[str]) -> None:
     """Copies the repository, and builds what these crates build on."""
     for name in ("crates.txt", "HANDLES"):
         shutil.copy(f"{TOP}/{name}", room)
@@ -188,36 +178,37 @@ def build_libraries(room, crates):
         shutil.copytree(f"{TOP}/crates/{crate}", f"{room}/crates/{crate}", ignore=shutil.ignore_patterns("must-fail"))
     needed = {it for crate in crates for it in all_below(crate)}
     for crate in (it for it in BELOW if it in needed):
-        if subprocess.run(["rt", "lib"], cwd=f"{room}/crates/{crate}", stdout=subprocess.DEVNULL).returncode:
+        if subprocess.run(["rt", "lib"], cwd=f"{room}/crates/{crate}", stdout=subprocess.DEVNULL, check=False).returncode:
             sys.exit(f"{crate} is not proved, so nothing above it can be tried")
 
 
-def proved_in(told):
+def proved_in(told: str) -> tuple[set[str], bool]:
     """The crates that rt ci says are proved, in what it has printed so far; and whether it has ended."""
     text = edits.text_of(told)
     proved = set(re.findall(r"(?m)^rt: (\w+) (?:proved|is kept:)", text))
     return proved, re.search(r"(?m)^\d+ passed, \d+ failed", text) is not None
 
 
-def lanes(is_shared):
+def lanes(is_shared: bool) -> int:
     """How many checks may run at once; where they share the machine with rt ci, in half of its memory."""
-    free = int(re.search(r"MemAvailable: +(\d+)", edits.text_of("/proc/meminfo"))[1]) / 1e6
+    free = int(there(re.search(r"MemAvailable: +(\d+)", edits.text_of("/proc/meminfo")))[1]) / 1e6
     return max(1, min(len(os.sched_getaffinity(0)), int(free / MEMORY / (2 if is_shared else 1))))
 
 
-def in_order(given):
+def in_order(given: dict[str, list[str]]) -> list[str]:
     """The crates with edits, those first that take longest: the size of the code, and so much for each edit."""
 
-    def cost(crate):
+    def cost(crate: str) -> int:
         folder = f"{TOP}/crates/{crate}"
         return sum(os.path.getsize(f"{folder}/{file}") for file in edits.source_files(folder)) + 10_000 * len(given[crate])
 
     return sorted(given, key=cost, reverse=True)
 
 
-def try_all(given, libraries, told, anew):
+def try_all(given: dict[str, list[str]], libraries: str, told: str | None, anew: bool) -> dict[str, str]:
     """What is said of the edits that are not refused. With told, a crate is tried once rt ci has proved all that it builds on."""
-    waiting, running, left = in_order(given), set(), {}
+    waiting, left = in_order(given), {}
+    running: set[concurrent.futures.Future[dict[str, str]]] = set()
     most, began = lanes(told is not None), time.time()
     with concurrent.futures.ThreadPoolExecutor(most) as pool:
         while waiting or running:
@@ -238,8 +229,8 @@ def try_all(given, libraries, told, anew):
     return left
 
 
-def main():
-    parser = argparse.ArgumentParser(description=__doc__.split("\n")[0])
+def main() -> None:
+    parser = argparse.ArgumentParser(description=__doc__.partition("\n")[0])
     parser.add_argument("crates", nargs="*", metavar="CRATE")
     parser.add_argument("--gate", action="store_true", help="the edits of the gate, in crates/CRATE/must-fail")
     parser.add_argument("--fit", action="store_true", help="only see whether each edit can be made")

@@ -20,31 +20,39 @@ import struct
 import subprocess
 import sys
 import tempfile
+from collections.abc import Iterator
 
-HERE = os.path.dirname(os.path.abspath(__file__))
-sys.path.insert(0, f"{HERE}/../tools")
+sys.path.insert(0, os.path.join(os.path.dirname(os.path.abspath(__file__)), "../checks"))
+from common import bytes_of, record, write
 import table
 from table import Refused
 
 SMALL = "r0 = 2\nexit\n"
 LARGER = {
-    "calls": ("r6 = *(u32 *)(r1 + 12)\nr1 = r6\ncall leaf\nr7 = r0\nr1 = 5\ncall leaf\nr0 += r7\nexit\n"
-              "leaf: *(u64 *)(r10 - 8) = r1\nr0 = *(u64 *)(r10 - 8)\nif r0 > 9 goto big\nr0 += 1\nexit\nbig: r0 = 9\nexit\n"),
-    "packet": ("r2 = *(u32 *)(r1 + 0)\nr3 = *(u32 *)(r1 + 4)\n*(u64 *)(r10 - 8) = r2\nr4 = r2\nr4 += 14\nif r4 > r3 goto out\n"
-               "r5 = *(u8 *)(r2 + 0)\nr5 &= 7\nr2 += r5\nr0 = *(u8 *)(r2 + 1)\nr0 &= 1\nexit\nout: r0 = 2\nexit\n"),
+    "calls": (
+        "r6 = *(u32 *)(r1 + 12)\nr1 = r6\ncall leaf\nr7 = r0\nr1 = 5\ncall leaf\nr0 += r7\nexit\n"
+        "leaf: *(u64 *)(r10 - 8) = r1\nr0 = *(u64 *)(r10 - 8)\nif r0 > 9 goto big\nr0 += 1\nexit\nbig: r0 = 9\nexit\n"
+    ),
+    "packet": (
+        "r2 = *(u32 *)(r1 + 0)\nr3 = *(u32 *)(r1 + 4)\n*(u64 *)(r10 - 8) = r2\nr4 = r2\nr4 += 14\nif r4 > r3 goto out\n"
+        "r5 = *(u8 *)(r2 + 0)\nr5 &= 7\nr2 += r5\nr0 = *(u8 *)(r2 + 1)\nr0 &= 1\nexit\nout: r0 = 2\nexit\n"
+    ),
     "loop": "r1 = 0\nr2 = 7\nloop: r1 += 1\nr2 ^= r1\n*(u64 *)(r10 - 16) = r2\nif r1 < 5 goto loop\nr0 = 1\nexit\n",
-    "maps": ("map array 4 8 2\nmap hash 4 8 2\n*(u32 *)(r10 - 4) = 1\nr2 = r10\nr2 += -4\nr1 = map_by_idx(0)\ncall 1\n"
-             "if r0 == 0 goto none\nr1 = *(u64 *)(r0 + 0)\nr1 += 1\n*(u64 *)(r0 + 0) = r1\nnone: r0 = 2\nexit\n"),
+    "maps": (
+        "map array 4 8 2\nmap hash 4 8 2\n*(u32 *)(r10 - 4) = 1\nr2 = r10\nr2 += -4\nr1 = map_by_idx(0)\ncall 1\n"
+        "if r0 == 0 goto none\nr1 = *(u64 *)(r0 + 0)\nr1 += 1\n*(u64 *)(r0 + 0) = r1\nnone: r0 = 2\nexit\n"
+    ),
 }
-FRAMES = b"XPF1" + b"".join(struct.pack("<QIII", at, 1, 0, size) + bytes(size) for at, size in enumerate([0, 14, 64]))
+FRAMES = b"XPF1" + b"".join(record(1, (at, 1, 0), 0, bytes(size)) for at, size in enumerate([0, 14, 64]))
 
 
 # ---- the judge
 
-def allowed(value, holder, rows):
+
+def allowed(value: table.Value, holder: int, rows: int) -> bool:
     """Whether the fields of a value are allowed, in that call frame of a program with this many map
     rows."""
-    name, *fields = value
+    name, fields = value[0], list[int](value[1:])
     if name == "number":
         known, mask, *limits = fields
         return not known & mask and all(limits[at] <= limits[at + 1] for at in range(0, 8, 2))
@@ -58,19 +66,26 @@ def allowed(value, holder, rows):
     return name not in ("map", "null") or fields[0] < rows
 
 
-def frame_allowed(frame, holder, inner, rows):
+def frame_allowed(frame: table.Frame, holder: int, inner: bool, rows: int) -> bool:
     slots = [slot for slot in frame.slots if slot[0] != "bytes"]
-    return (all(allowed(value, holder, rows) for value in frame.registers + slots) and ("unset",) not in slots
-            and (holder or not frame.leads) and (inner or all(value == table.UNSET for value in frame.registers[:6])))
+    return (
+        all(allowed(value, holder, rows) for value in frame.registers + slots)
+        and ("unset",) not in slots
+        and (holder > 0 or not frame.leads)
+        and (inner or all(value == table.UNSET for value in frame.registers[:6]))
+    )
 
 
-def entry_allowed(entry, starts, rows):
+def entry_allowed(entry: table.Entry, starts: set[int], rows: int) -> bool:
     frames = entry.frames
-    return (1 <= entry.number <= table.MOST and entry.slot in starts
-            and all(frame_allowed(frame, at, at == len(frames) - 1, rows) for at, frame in enumerate(frames)))
+    return (
+        1 <= entry.number <= table.MOST
+        and entry.slot in starts
+        and all(frame_allowed(frame, at, at == len(frames) - 1, rows) for at, frame in enumerate(frames))
+    )
 
 
-def read(data, starts, rows):
+def read(data: bytes, starts: set[int], rows: int) -> list[table.Entry]:
     """The entries of a table. Refused: P1 to P5."""
     entries = table.entries_of(data)
     for at, entry in enumerate(entries):
@@ -79,8 +94,8 @@ def read(data, starts, rows):
     return entries
 
 
-def value_covers(one, other):
-    if one == table.UNSET or one == other:
+def value_covers(one: table.Value, other: table.Value) -> bool:
+    if one in (table.UNSET, other):
         return True
     if one[0] != "number" or other[0] != "number":
         return False
@@ -89,21 +104,26 @@ def value_covers(one, other):
     return not unknown & ~mask and there & ~mask == value and least and all(limits[at] >= theirs[at] for at in range(1, 8, 2))
 
 
-def slot_covers(one, other):
+def slot_covers(one: table.Value, other: table.Value) -> bool:
     if one[0] == "bytes":
-        marks = other[1] if other[0] == "bytes" else 255
-        return one[1] & marks == one[1]
+        marks: int = other[1] if other[0] == "bytes" else 255
+        return bool(one[1] & marks == one[1])
     return other[0] != "bytes" and value_covers(one, other)
 
 
-def covers(slot, frames, other_slot, others):
+def covers(slot: int, frames: list[table.Frame], other_slot: int, others: list[table.Frame]) -> bool:
     """Whether a state of one call frame covers another of one call frame."""
     one, other = frames[0], others[0]
-    return (slot == other_slot and len(frames) == len(others) == 1 and one.leads == other.leads
-            and all(map(value_covers, one.registers, other.registers)) and all(map(slot_covers, one.slots, other.slots)))
+    return (
+        slot == other_slot
+        and len(frames) == len(others) == 1
+        and one.leads == other.leads
+        and all(map(value_covers, one.registers, other.registers))
+        and all(map(slot_covers, one.slots, other.slots))
+    )
 
 
-def judged_small(data):
+def judged_small(data: bytes) -> str:
     """The verdict on a table of `r0 = 2; exit`."""
     try:
         entries = read(data, {0, 1}, 0)
@@ -132,31 +152,32 @@ def judged_small(data):
 
 # ---- the program
 
+
 class Tried:
     """A program, and what was tried with it."""
 
-    def __init__(self, program):
-        self.program, self.counts, self.wrong, self.ran = program, collections.Counter(), [], {}
+    def __init__(self, program: str) -> None:
+        self.program = program
+        self.counts: collections.Counter[str] = collections.Counter()
+        self.wrong: list[tuple[object, ...]] = []
+        self.ran: dict[str, tuple[int, str]] = {}
 
-    def said(self, *words):
-        ended = subprocess.run([self.program, *words], stdout=subprocess.PIPE, stderr=subprocess.DEVNULL, text=True)
+    def said(self, *words: str) -> tuple[int, str]:
+        ended = subprocess.run([self.program, *words], stdout=subprocess.PIPE, stderr=subprocess.DEVNULL, text=True, check=False)
         return ended.returncode, ended.stdout.strip()
 
-    def make(self, name, text):
-        with open(f"{name}.text", "w") as file:
-            file.write(text)
+    def make(self, name: str, text: str) -> bytes:
+        write(f"{name}.text", text)
         for words in (["asm", f"{name}.text", f"{name}.image"], ["prove", f"{name}.image", f"{name}.table"]):
             status, out = self.said(*words)
             if status:
                 sys.exit(f"{name}: {' '.join(words)}: {out}")
         self.ran[name] = self.said("run", f"{name}.image", "frames", "sent")
-        with open(f"{name}.table", "rb") as file:
-            return file.read()
+        return bytes_of(f"{name}.table")
 
-    def answer(self, name, data):
+    def answer(self, name: str, data: bytes) -> str:
         """The answer of recheck, as the judge words it; an accepted table's program is run."""
-        with open("damaged", "wb") as file:
-            file.write(data)
+        write("damaged", data)
         status, out = self.said("recheck", f"{name}.image", "damaged")
         words = out.split()
         answer = out if words[:1] == ["ok"] else " ".join(words[1:4] if "entry" in words else words[1:2])
@@ -166,30 +187,35 @@ class Tried:
         if status == 0:
             if self.said("run", f"{name}.image", "frames", "sent", "--table", "damaged") != self.ran[name]:
                 self.wrong.append((name, "runs otherwise", out))
-            steps = [int(word) for line in self.ran[name][1].splitlines() for key, word in zip(line.split(), line.split()[1:]) if key == "steps"]
+            steps = [
+                int(word)
+                for line in self.ran[name][1].splitlines()
+                for key, word in zip(line.split(), line.split()[1:])
+                if key == "steps"
+            ]
             if steps and int(words[2]) < max(steps):
                 self.wrong.append((name, "bound below the steps", out))
         return answer
 
 
-def changed_bytes(data, every):
+def changed_bytes(data: bytes, every: int) -> Iterator[bytes]:
     cuts = [data[:at] for at in range(len(data))]
-    changes = (data[:at] + bytes([byte]) + data[at + 1:] for at in range(len(data)) for byte in range(256) if byte != data[at])
+    changes = (data[:at] + bytes([byte]) + data[at + 1 :] for at in range(len(data)) for byte in range(256) if byte != data[at])
     yield from cuts
     for at, one in enumerate(changes):
         if at % every == 0:
             yield one
 
 
-def damaged(data, chance):
-    data = bytearray(data)
+def damaged(right: bytes, chance: random.Random) -> bytes:
+    data = bytearray(right)
     for _ in range(chance.choice([1, 1, 1, 2, 3])):
         at = chance.randrange(len(data))
         form = chance.randrange(8)
         if form < 5:
             data[at] = chance.choice([chance.randrange(256), data[at] ^ 1 << chance.randrange(8), 0, 1, 255])
         elif form == 5:
-            del data[at:at + chance.choice([1, 1, 4, 66])]
+            del data[at : at + chance.choice([1, 1, 4, 66])]
         elif form == 6:
             data[at:at] = bytes(chance.choice([1, 1, 4, 66]))
         else:
@@ -198,7 +224,7 @@ def damaged(data, chance):
     return bytes(data)
 
 
-def main():
+def main() -> None:
     words = argparse.ArgumentParser()
     words.add_argument("program")
     words.add_argument("--random", type=int, default=20_000)
@@ -208,8 +234,7 @@ def main():
     tried, chance = Tried(os.path.abspath(given.program)), random.Random(given.seed)
     with tempfile.TemporaryDirectory() as room:
         os.chdir(room)
-        with open("frames", "wb") as file:
-            file.write(FRAMES)
+        write("frames", FRAMES)
         data = tried.make("small", SMALL)
         for one in changed_bytes(data, given.few):
             answer, judged = tried.answer("small", one), judged_small(one)
@@ -219,10 +244,9 @@ def main():
         tried.counts.clear()
         for name, text in LARGER.items():
             data = tried.make(name, text)
-            with open(f"{name}.image", "rb") as file:
-                image = file.read()
+            image = bytes_of(f"{name}.image")
             rows, slots = struct.unpack_from("<HH", image, 4)
-            code = image[len(image) - 8 * slots:]
+            code = image[len(image) - 8 * slots :]
             wide = {at for at in range(1, slots) if code[8 * at - 8] == 0x18}
             starts = set(range(slots)) - {at for at in wide if at - 1 not in wide}
             for _ in range(given.random // len(LARGER)):
@@ -236,8 +260,8 @@ def main():
                     if answer != str(refused):
                         tried.wrong.append((name, answer, str(refused)))
         print("random damages:", dict(tried.counts))
-    for one in tried.wrong[:20]:
-        print("DIFFERS", *one)
+    for wrong in tried.wrong[:20]:
+        print("DIFFERS", *wrong)
     sys.exit(1 if tried.wrong else 0)
 
 

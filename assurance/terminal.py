@@ -27,10 +27,13 @@ import subprocess
 import sys
 import tempfile
 import time
+from typing import BinaryIO
 
-TOP = os.path.dirname(os.path.dirname(os.path.abspath(__file__)))
-PROGRAM = os.path.abspath(sys.argv[1] if len(sys.argv) > 1 else os.path.join(TOP, "crates/xdpvm/out/xdpvm"))
-SURVEY = os.path.abspath(sys.argv[2] if len(sys.argv) > 2 else os.path.join(TOP, "crates/xdpvm_survey/out/xdpvm_survey"))
+sys.path.insert(0, os.path.join(os.path.dirname(os.path.abspath(__file__)), "../checks"))
+from common import CANNOT, TOP, branches, bytes_of, program, there, write
+
+PROGRAM, SURVEY = program(), program("xdpvm_survey", 2)
+Output = int | BinaryIO  # a file of a command
 CLEARED = b"\r\x1b[K"
 FRAME = bytes(16) + b"\x02\0\0\0\xaa\xbb"
 # How many frames come at once: with the last one they have 3,326 bytes.
@@ -45,47 +48,52 @@ TO_EXPLORE = 2 * (2**TESTS - 1) + 2 * 2**TESTS + 5
 TERMINALS = {3: False, 4: True, 5: True, 6: False, 135: False, 136: True, 143: True, 144: False}
 
 
-def running(folder, output, error):
+def running(folder: str, output: Output, error: Output) -> subprocess.Popen[bytes]:
     """A run on frames that are written to it; these files are standard output and standard error."""
     words = [PROGRAM, "run", os.path.join(TOP, "examples/pass.image"), "/dev/stdin", os.path.join(folder, "sent")]
     return subprocess.Popen(words, stdin=subprocess.PIPE, stdout=output, stderr=error)
 
 
-def run(folder, output, error):
+def give(child: subprocess.Popen[bytes], data: bytes) -> None:
+    """Sends a run some frames."""
+    given = there(child.stdin)
+    given.write(data)
+    given.flush()
+
+
+def run(folder: str, output: Output, error: Output) -> int:
     """Runs frames of which the last one comes late; these files are standard output and standard error."""
-    with running(folder, output, error) as program:
-        program.stdin.write(b"XPF1" + AT_ONCE * FRAME)
-        program.stdin.flush()
+    with running(folder, output, error) as child:
+        give(child, b"XPF1" + AT_ONCE * FRAME)
         time.sleep(1.3)
-        program.stdin.write(FRAME)
-        program.stdin.close()
-    return program.returncode
+        give(child, FRAME)
+        there(child.stdin).close()
+    return child.returncode
 
 
-def read(kib):
+def read(kib: int) -> bytes:
     """What a terminal shows of a run that has read this many KiB when it is shown, and then ends."""
     return CLEARED + b"%d KiB of frames read" % kib + CLEARED
 
 
-def is_early(folder):
+def is_early(folder: str) -> bool | None:
     """Whether a terminal gets anything within a second. `None`: the frames came too late to say."""
     reading, terminal = os.openpty()
     started = time.monotonic()
-    with running(folder, subprocess.PIPE, terminal) as program:
+    with running(folder, subprocess.PIPE, terminal) as child:
         for data in (b"XPF1" + FRAME, FRAME):
-            program.stdin.write(data)
-            program.stdin.flush()
-            program.stdout.readline()
+            give(child, data)
+            there(child.stdout).readline()
             early = bool(select.select([reading], [], [], 0)[0])
             is_in_time = time.monotonic() - started < 1
             time.sleep(0.4)
-        program.stdin.close()
+        there(child.stdin).close()
     os.close(terminal)
     os.close(reading)
     return early if is_in_time else None
 
 
-def tell_start(folder):
+def tell_start(folder: str) -> bool:
     """Whether a terminal gets nothing within a second, as far as frames come in time to say that."""
     found = next((early for early in (is_early(folder) for _ in range(5)) if early is not None), None)
     if found is None:
@@ -93,7 +101,7 @@ def tell_start(folder):
     return tell("shown within a second", found or False, False)
 
 
-def shown_beside(folder, devices):
+def shown_beside(folder: str, devices: list[str]) -> list[bytes]:
     """What a terminal shows of a run whose standard output is a device, for each of these paths."""
     runs = []
     for path in devices:
@@ -102,18 +110,17 @@ def shown_beside(folder, devices):
         runs.append((reading, running(folder, device, terminal)))
         os.close(device)
         os.close(terminal)
-    for _, program in runs:
-        program.stdin.write(b"XPF1")
-        program.stdin.flush()
+    for _, child in runs:
+        give(child, b"XPF1")
     time.sleep(1.3)
-    for _, program in runs:
-        program.stdin.write(FRAME)
-        program.stdin.close()
-        program.wait()
+    for _, child in runs:
+        give(child, FRAME)
+        there(child.stdin).close()
+        child.wait()
     return [shown(reading) for reading, _ in runs]
 
 
-def tell_numbers(folder):
+def tell_numbers(folder: str) -> bool:
     """Whether a run takes the devices with the numbers of terminals for terminals, and no others."""
     devices = [os.path.join(folder, f"device{number}") for number in TERMINALS]
     try:
@@ -123,48 +130,44 @@ def tell_numbers(folder):
         print(f"no device can be made here, so none is tried: {error}", file=sys.stderr)
         return True
     wanted = [(b"" if is_one else read(0)) + UNWRITTEN for is_one in TERMINALS.values()]
-    return all([tell(f"beside {path}", got, its) for path, got, its
-                in zip(devices, shown_beside(folder, devices), wanted)])
+    told = [tell(f"beside {path}", got, its) for path, got, its in zip(devices, shown_beside(folder, devices), wanted)]
+    return all(told)
 
 
-def many_paths():
+def many_paths() -> str:
     """A program on whose paths r0 is another number each, until all of them end in one state. It
     calls a function, so these numbers are kept."""
-    lines = ["r6 = *(u32 *)(r1 + 12)", "call zero"]
-    for bit in range(TESTS):
-        lines += [f"if r6 & {1 << bit} goto +1", f"r0 += {1 << bit}"]
-    return "\n".join([*lines, "r0 &= 0", "goto +0", "exit", "zero: r0 = 0", "exit"]) + "\n"
+    return branches(TESTS, ["r0 &= 0", "goto +0", "exit"])
 
 
-def used_by(program):
+def used_by(child: subprocess.Popen[bytes]) -> float:
     """The processor seconds of a process, or 0 if it has ended."""
     try:
-        return time.clock_gettime((~program.pid << 3) | 2)
+        return time.clock_gettime((~child.pid << 3) | 2)
     except OSError:
         return 0
 
 
-def stopped_often(words, output):
+def stopped_often(words: list[str], output: int) -> int:
     """Runs a command that takes seconds, since it is stopped after each 30 milliseconds of its own."""
-    with subprocess.Popen(words, stdin=subprocess.DEVNULL, stdout=output, stderr=output) as program:
+    with subprocess.Popen(words, stdin=subprocess.DEVNULL, stdout=output, stderr=output) as child:
         pause, most, end = 1.1, 0.03, time.monotonic() + 60
-        while program.poll() is None and time.monotonic() < end:
-            if used_by(program) < most:
+        while child.poll() is None and time.monotonic() < end:
+            if used_by(child) < most:
                 time.sleep(0.002)
                 continue
-            program.send_signal(signal.SIGSTOP)
+            child.send_signal(signal.SIGSTOP)
             time.sleep(pause)
-            program.send_signal(signal.SIGCONT)
+            child.send_signal(signal.SIGCONT)
             pause, most = 0.21, most + 0.03
-        program.kill()
-    return program.returncode
+        child.kill()
+    return child.returncode
 
 
-def tell_counts(folder):
+def tell_counts(folder: str) -> bool:
     """Whether `verify` shows on a terminal how far it is, and clears that before it says the bound."""
     text, image = os.path.join(folder, "text"), os.path.join(folder, "image")
-    with open(text, "w", encoding="utf-8") as file:
-        file.write(many_paths())
+    write(text, many_paths())
     subprocess.run([PROGRAM, "asm", text, image], stdout=subprocess.DEVNULL, check=True)
     reading, terminal = os.openpty()
     status = stopped_often([PROGRAM, "verify", image], terminal)
@@ -180,13 +183,13 @@ def tell_counts(folder):
     return all(good)
 
 
-def survey(count, output, error):
+def survey(count: int, output: Output, error: Output) -> int:
     """Judges an image this many times; these files are standard output and standard error."""
     words = [SURVEY, "--format", "csv", "--no-header", *count * [os.path.join(TOP, "examples/pass.image")]]
     return subprocess.run(words, stdin=subprocess.DEVNULL, stdout=output, stderr=error, check=False).returncode
 
 
-def progress(count):
+def progress(count: int) -> bytes:
     """What a terminal shows of a survey of this many images that are accepted."""
     shown_at = [at for at in range(count) if at == 0 or at * 100 // count != (at - 1) * 100 // count]
     lines = [CLEARED + f"{at} of {count}".encode() if at in shown_at else b"" for at in range(count)]
@@ -194,7 +197,7 @@ def progress(count):
     return b"".join(line + CLEARED for line in lines) + CLEARED + said
 
 
-def shown(terminal):
+def shown(terminal: int) -> bytes:
     """What was written to a terminal whose other end is closed."""
     data = b""
     try:
@@ -205,18 +208,18 @@ def shown(terminal):
     return data
 
 
-def tell(what, got, wanted):
+def tell(what: str, got: object, wanted: object) -> bool:
     if got != wanted:
         print(f"{what}: {got!r}, not {wanted!r}")
     return got == wanted
 
 
-def main():
+def main() -> int:
     try:
         reading, terminal = os.openpty()
     except OSError as error:
         print(f"there are no terminals here: {error}", file=sys.stderr)
-        return 77
+        return CANNOT
     good = []
     with tempfile.TemporaryDirectory() as folder:
         report = os.path.join(folder, "report")
@@ -224,13 +227,11 @@ def main():
             good.append(tell("status", run(folder, output, terminal), 0))
         os.close(terminal)
         good.append(tell("a terminal", shown(reading), read(3)))
-        with open(report, "rb") as file:
-            good.append(tell("the report", file.read(), REPORT))
-        error = os.path.join(folder, "error")
-        with open(report, "wb") as output, open(error, "wb") as plain:
+        good.append(tell("the report", bytes_of(report), REPORT))
+        errors = os.path.join(folder, "error")
+        with open(report, "wb") as output, open(errors, "wb") as plain:
             good.append(tell("status", run(folder, output, plain), 0))
-        with open(error, "rb") as file:
-            good.append(tell("a file", file.read(), b""))
+        good.append(tell("a file", bytes_of(errors), b""))
         reading, terminal = os.openpty()
         good.append(tell("status", run(folder, terminal, terminal), 0))
         os.close(terminal)

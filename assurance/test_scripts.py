@@ -12,7 +12,8 @@ import unittest
 from pathlib import Path
 
 sys.dont_write_bytecode = True
-sys.path.append(os.path.join(os.path.dirname(os.path.abspath(__file__)), "../bench"))
+sys.path.insert(0, os.path.join(os.path.dirname(os.path.abspath(__file__)), "../checks"))
+from common import TOP
 import damage
 import edits
 import file_map
@@ -25,7 +26,6 @@ import proofs
 import table
 from attack_witnesses import witness_of
 from attacks import FAMILIES, near
-from definitions import TOP
 
 SPECS = """-- Some numbers.
 use Rattle.std.specs.Prelude.{ℕ}
@@ -70,7 +70,7 @@ pub fn three() -> u32
 class Tree(unittest.TestCase):
     """A repository of one crate, `low`, whose files a test changes."""
 
-    def setUp(self):
+    def setUp(self) -> None:
         self.room = tempfile.TemporaryDirectory()
         self.addCleanup(self.room.cleanup)
         self.write("crates.txt", "# crates\nlow:\n")
@@ -78,7 +78,7 @@ class Tree(unittest.TestCase):
         self.write("crates/low/specs/Numbers.antt", SPECS)
         self.write("crates/low/src/lib.rt", CODE)
 
-    def write(self, path, text):
+    def write(self, path: str, text: str) -> None:
         full = os.path.join(self.room.name, path)
         os.makedirs(os.path.dirname(full), exist_ok=True)
         with open(full, "w", encoding="utf-8") as file:
@@ -86,61 +86,61 @@ class Tree(unittest.TestCase):
 
 
 class Names(Tree):
-    def wrong(self, *shared):
+    def wrong(self, *shared: str) -> list[str]:
         return [line.split(":")[0] for line in names.wrong_names(self.room.name, shared)]
 
-    def test_a_name_of_one_crate_is_its_own(self):
+    def test_a_name_of_one_crate_is_its_own(self) -> None:
         self.write("crates/low/src/more.rt", "pub struct Small;\nimpl Small {\n}\n")
         self.assertEqual(self.wrong(), [])
 
-    def test_a_name_of_two_crates_is_found(self):
+    def test_a_name_of_two_crates_is_found(self) -> None:
         self.write("crates/high/src/lib.rt", "#[derive(Drop)]\npub struct Small {}\nenum Half {}\n")
         self.write("crates/high/specs/Sizes.antt", "pub record Bounded (n : ℕ) : Type 0 where\n")
         self.assertEqual(self.wrong(), ["Bounded", "Small"])
         self.assertEqual(self.wrong("Small"), ["Bounded"])
 
-    def test_tests_and_worked_examples_share_names(self):
+    def test_tests_and_worked_examples_share_names(self) -> None:
         self.write("crates/low_tests/src/lib.rt", "pub struct Small;\n")
         self.write("crates/high/specs/Worked/Sizes.antt", "abbrev pub Bounded : ℕ → Type 0\n")
         self.assertEqual(self.wrong(), [])
 
-    def test_a_list_has_no_name_without_need(self):
+    def test_a_list_has_no_name_without_need(self) -> None:
         self.assertEqual(self.wrong("Small"), ["Small"])
 
 
 class Laws(Tree):
-    def stray(self, each=False):
+    def stray(self, each: bool = False) -> set[str]:
         return {name for _, name, needed in laws.Cited(self.room.name, each).laws() if not needed}
 
-    def test_a_law_that_no_code_cites_is_found(self):
+    def test_a_law_that_no_code_cites_is_found(self) -> None:
         self.assertEqual(self.stray(), {"idle", "half_small"})
 
-    def test_what_a_cited_law_rests_on_stays(self):
+    def test_what_a_cited_law_rests_on_stays(self) -> None:
         self.write("crates/low/src/lib.rt", CODE.replace(", small_enough", ""))
         self.assertEqual(self.stray(), {"small_enough", "below", "idle", "half_small"})
 
-    def test_a_module_with_parameters_counts_as_a_whole(self):
+    def test_a_module_with_parameters_counts_as_a_whole(self) -> None:
         self.write("crates/low/src/lib.rt", CODE.replace("{ Small result }", "{ half }").replace("{Small", "{half, Small"))
         self.assertEqual(self.stray(), {"idle"})
         self.assertEqual(self.stray(each=True), {"idle", "half_small"})
 
-    def test_names_are_followed_through_lib_and_other_names(self):
+    def test_names_are_followed_through_lib_and_other_names(self) -> None:
         self.write("crates/low/specs/Lib.antt", "pub mod Numbers\npub use Rattle.low.specs.Numbers.{idle}\n")
         self.write("crates/low/src/more.rt", "ghost use Rattle.low.specs.{idle as lazy};\n")
         self.assertEqual(self.stray(), {"half_small"})
         self.write("crates/low/src/more.rt", "ghost use Rattle.low.specs.Numbers as numbers;\nensures { numbers.idle }\n")
         self.assertEqual(self.stray(), {"half_small"})
 
-    def test_comments_cite_nothing(self):
+    def test_comments_cite_nothing(self) -> None:
         self.write("crates/low/src/more.rt", "ghost use Rattle.low.specs.Numbers as numbers;\n// numbers.idle\n/// numbers.idle\n")
         self.assertEqual(self.stray(), {"idle", "half_small"})
 
-    def test_operators_are_names(self):
+    def test_operators_are_names(self) -> None:
         self.write("crates/low/specs/Signs.antt", "use Rattle.low.specs.Numbers.{idle}\nabbrev pub ◌=<◌ : ℕ\na =< b = idle\n")
         self.write("crates/low/src/more.rt", "ghost use Rattle.low.specs.Signs.{◌=<◌};\nensures { 1 =< 2 }\n")
         self.assertEqual(self.stray(), {"half_small"})
 
-    def test_worked_examples_stay(self):
+    def test_worked_examples_stay(self) -> None:
         self.write("crates/low/specs/Worked/Examples.antt", "two : 1 + 1 ≡ 2\ntwo = refl\n")
         self.assertEqual(self.stray(), {"idle", "half_small"})
 
@@ -160,22 +160,22 @@ Its code is in `src/lib`, and `specs/Num*` has the definitions.
 
 
 class Map(Tree):
-    def wrong(self, page=PAGE):
+    def wrong(self, page: str = PAGE) -> list[str]:
         self.write("docs/ARCHITECTURE.md", page)
         return [" ".join(line.split()[1:3]) for line in file_map.wrong(Path(self.room.name))]
 
-    def test_a_page_that_fits(self):
+    def test_a_page_that_fits(self) -> None:
         self.assertEqual(self.wrong(), [])
         self.assertEqual(self.wrong("| `low` | numbers |\n"), [])
 
-    def test_what_is_missing_on_the_page(self):
+    def test_what_is_missing_on_the_page(self) -> None:
         self.assertEqual(self.wrong(PAGE.replace("| `low` |", "| low |")), ["not in"])
 
-    def test_what_is_missing_in_the_tree(self):
+    def test_what_is_missing_in_the_tree(self) -> None:
         self.assertEqual(self.wrong(PAGE.replace("`specs/Num*`", "`specs/Num*`, `specs/Sets`")), ["specs/Sets is"])
         self.assertEqual(self.wrong(PAGE.replace("### low", "### high").replace("`specs/Num*`", "`specs/Sets`")), [])
 
-    def test_a_file_says_what_it_has(self):
+    def test_a_file_says_what_it_has(self) -> None:
         self.write("crates/low/src/sums.rt", "//! Sums.\n//!\n//! More.\n")
         self.write("crates/low/specs/Code.antt", "pub mod Sets\n")
         self.write("crates/low/specs/Code/Sets.antt", "use Sums\n")
@@ -227,17 +227,17 @@ pub trait Counted {
 class Edits(Tree):
     """A crate with a type whose methods are in another file."""
 
-    def setUp(self):
+    def setUp(self) -> None:
         super().setUp()
         self.write("crates/low/src/lib.rt", CODE + "\npub struct Count(u32);\n")
         self.write("crates/low/src/counts.rt", COUNTS)
         self.folder = os.path.join(self.room.name, "crates/low")
 
-    def edit(self, name, *lines):
+    def edit(self, name: str, *lines: str) -> str:
         self.write(f"edits/{name}", "file: src/counts.rt\n" + "".join(f"{line}\n" for line in lines))
         return os.path.join(self.room.name, "edits", name)
 
-    def test_the_functions_that_an_edit_changes(self):
+    def test_the_functions_that_an_edit_changes(self) -> None:
         more = self.edit("more", "old:         self.0 + 1", "new:         self.0 + 2")
         other = self.edit("other", "old:         count.0", "new:         0")
         ten = self.edit("ten", "old: u32 = 9", "new: u32 = 10")
@@ -247,7 +247,7 @@ class Edits(Tree):
         rounds = [[names for _, names in listed] for listed in edits.in_rounds(self.folder, [more, named, other, more])]
         self.assertEqual(rounds, [[{"Count::next"}, {"u32From::from"}], [{"counts::most"}], [{"Count::next"}]])
 
-    def test_functions_that_are_left_open(self):
+    def test_functions_that_are_left_open(self) -> None:
         found = {folder: (file, first, last) for file, first, last, folder in edits.open_functions(self.folder)}
         self.assertEqual(sorted(found), ["Count/next", "counts/most", "three"])
         for folder, was in (("Count/next", "        self.0 + 1\n"), ("counts/most", "    MOST\n")):
@@ -257,13 +257,13 @@ class Edits(Tree):
         self.assertEqual(edits.emptied(header, 0, 7), header[: header.index("    if")] + "unreachable!()\n\n\n\n}")
         self.assertEqual(edits.emptied("fn none() {}", 0, 0), "fn none() {}")
 
-    def test_edits_that_cannot_be_made(self):
+    def test_edits_that_cannot_be_made(self) -> None:
         lost = self.edit("lost", "old: self.1", "new: self.0")
         self.assertEqual(edits.edited(self.folder, edits.changes(lost))[1], "its file has 0 times: self.1")
         texts, why = edits.edited(self.folder, edits.changes(self.edit("more", "old:         self.0 + 1", "new: 1")))
         self.assertEqual((why, texts["src/counts.rt"].count("self.0 + 1")), (None, 0))
 
-    def test_what_counts_as_a_refusal(self):
+    def test_what_counts_as_a_refusal(self) -> None:
         texts = {"src/counts.rt": COUNTS}
         fails = "fn low::Count::next: not proved"
         goal = "./proofs/Count/next/Answers.antt:3:5: error: `returns`: `omega`: the goal does not follow"
@@ -272,14 +272,19 @@ class Edits(Tree):
         beside = "./proofs/counts/most/Answers.antt:3:5: error: `returns`: no proof"
         told = "fn low::Count::next: no proof: expected answers; `search` did not prove `returns`"
         for said, wanted in (
-            ([goal, fails], goal), ([note, fails], note), ([by_name, fails], None), ([beside, fails], None), ([told], told),
-            ([goal, "fn low::Count::next: depends on a hole in `x`"], None), ([goal, "fn low::counts::next: not proved"], None),
+            ([goal, fails], goal),
+            ([note, fails], note),
+            ([by_name, fails], None),
+            ([beside, fails], None),
+            ([told], told),
+            ([goal, "fn low::Count::next: depends on a hole in `x`"], None),
+            ([goal, "fn low::counts::next: not proved"], None),
         ):
             self.assertEqual(edits.refusal("low", "Count::next", said, texts), wanted, said)
 
 
 class Attacks(unittest.TestCase):
-    def test_the_judge_of_streams(self):
+    def test_the_judge_of_streams(self) -> None:
         """The reports that docs/FORMATS.md wants."""
         for stream, lines, sent in (
             (b"", ["fault F1 at 0"], b"XPF1"),
@@ -295,18 +300,18 @@ class Attacks(unittest.TestCase):
             with self.subTest(stream):
                 self.assertEqual(damage.judged(stream), (lines, sent))
 
-    def test_each_family_makes_texts(self):
+    def test_each_family_makes_texts(self) -> None:
         for name, family in FAMILIES.items():
             for seed in range(100):
                 text = family(random.Random(f"{name} {seed}"))
                 self.assertTrue(any("exit" in line for line in text), name)
                 self.assertEqual(witness_of(text) is not None, name in ("witnesses", "loops"))
 
-    def test_numbers_near_those_of_a_text(self):
+    def test_numbers_near_those_of_a_text(self) -> None:
         words = near(["r2 = 4294967301 ll", "if w7 s> -2 goto +1", "r0 = *(u64 *)(r10 - 8)"])
         self.assertEqual(words, [0, 1, 2, 4, 5, 6, 7, 8, 9, 2**32 - 3, 2**32 - 2, 2**32 - 1])
 
-    def test_each_damage_of_a_table(self):
+    def test_each_damage_of_a_table(self) -> None:
         """Each makes another table, or none; the entries that it was made of stay as they are."""
         with open(os.path.join(TOP, "examples/pass.table"), "rb") as file:
             data = file.read()
@@ -323,7 +328,7 @@ class Attacks(unittest.TestCase):
                 self.assertTrue(made - {data} or damage_of in (proofs.renamed, proofs.respilled))
         self.assertEqual(table.table_bytes(proof.entries), data)
 
-    def test_another_program_is_one(self):
+    def test_another_program_is_one(self) -> None:
         with open(os.path.join(TOP, "examples/firewall.image"), "rb") as file:
             image = file.read()
         others = {proofs.other_program(random.Random(seed), image) for seed in range(50)}
@@ -334,53 +339,76 @@ class Attacks(unittest.TestCase):
 class Traced:
     """Stands for the library: each traced run ends with one of these, and turns the packet's first byte."""
 
-    def __init__(self, *ends):
+    def __init__(self, *ends: tuple[int, int, int, int]) -> None:
         self.ends = list(ends)
 
-    def trace(self, image, head, packet):
+    def trace(self, image: bytes, head: in_process.Head, packet: bytes) -> in_process.Ended:  # pylint: disable=unused-argument
         return *self.ends.pop(0), bytes([packet[0] ^ 255]) + packet[1:]
 
 
 class InProcess(unittest.TestCase):
-    def test_the_report_of_traced_runs(self):
+    def test_the_report_of_traced_runs(self) -> None:
         """What docs/FORMATS.md says of actions, reasons and frames out."""
         turned = b"\x35\xfe"
-        record = lambda reason: struct.pack("<QIIII", 1000, 1, 0, 2, reason)
+
+        def record(reason: int) -> bytes:
+            return struct.pack("<QIIII", 1000, 1, 0, 2, reason)
+
         first = struct.pack("<QIII", 1000, 1, 0, 2)
         for image, stream, ends, lines, sent in (
-            (b"XBP1", b"XPF1" + ONE * 3, [(2, 5, 0, 0), (1, 6, 0, 0), (9, 7, 0, 0)],
-             ["0 PASS 2 5", "1 DROP 2 6", "2 INVALID 2 7", "end 3"], b"XPF1" + first + turned),
-            (b"XBP1", b"XPF2" + FIRST + SKIPPED + FIRST, [(3 | 7 << 32, 5, 0, 0), (1 | 7 << 32, 5, 0, 0)],
-             ["0 TX 2 5 0", "1 SKIP 0 0 7", "2 DROP 2 5 1", "end 3"], b"XPF2" + record(0) + turned + SKIPPED + record(1) + turned),
-            (b"XBP2", b"XPF2" + FIRST + FIRST, [(1 | 7 << 32, 5, 0, 0), (4, 5, 0, 0)],
-             ["0 DROP 2 5 7", "1 REDIRECT 2 5 1", "end 2"], b"XPF2" + record(7) + turned + record(1) + turned),
+            (
+                b"XBP1",
+                b"XPF1" + ONE * 3,
+                [(2, 5, 0, 0), (1, 6, 0, 0), (9, 7, 0, 0)],
+                ["0 PASS 2 5", "1 DROP 2 6", "2 INVALID 2 7", "end 3"],
+                b"XPF1" + first + turned,
+            ),
+            (
+                b"XBP1",
+                b"XPF2" + FIRST + SKIPPED + FIRST,
+                [(3 | 7 << 32, 5, 0, 0), (1 | 7 << 32, 5, 0, 0)],
+                ["0 TX 2 5 0", "1 SKIP 0 0 7", "2 DROP 2 5 1", "end 3"],
+                b"XPF2" + record(0) + turned + SKIPPED + record(1) + turned,
+            ),
+            (
+                b"XBP2",
+                b"XPF2" + FIRST + FIRST,
+                [(1 | 7 << 32, 5, 0, 0), (4, 5, 0, 0)],
+                ["0 DROP 2 5 7", "1 REDIRECT 2 5 1", "end 2"],
+                b"XPF2" + record(7) + turned + record(1) + turned,
+            ),
             (b"XBP1", b"XPF1" + ONE * 2, [(0, 5, 1, 4), (0, 9, 2, 0)], ["0 TRAP 4 5", "1 LIMIT 0 9", "end 2"], b"XPF1"),
         ):
             with self.subTest(lines=lines):
                 self.assertEqual(in_process.traced(Traced(*ends), image, stream), ("\n".join([*lines, ""]).encode(), sent))
 
-    def test_a_job_that_dies_is_found(self):
+    def test_a_job_that_dies_is_found(self) -> None:
+        def dies(_run: in_process.Run, seed: int, _folder: str) -> tuple[str | None, str]:
+            if seed == 2:
+                os._exit(1)  # pylint: disable=protected-access
+            return None, "V1"
+
         asked = argparse.Namespace(jobs=2, seed=1, programs=4, program="", library=None, keep="")
         self.assertEqual(fuzz.spread(asked, "seed", lambda run, seed, folder: (None, "V1")), ({"V1": 4}, 0))
-        out, sys.stdout = sys.stdout, open(os.devnull, "w")
+        out, sys.stdout = sys.stdout, open(os.devnull, "w", encoding="utf-8")
         with sys.stdout:
-            told = fuzz.spread(asked, "seed", lambda run, seed, folder: os._exit(1) if seed == 2 else (None, "V1"))
+            told = fuzz.spread(asked, "seed", dies)
         sys.stdout = out
         self.assertEqual(told, ({"V1": 2}, 1))
 
 
 class Hostile(unittest.TestCase):
-    def test_keys_of_one_hash(self):
+    def test_keys_of_one_hash(self) -> None:
         with open(os.path.join(TOP, "crates/map_indexes/src/hashing.rt"), encoding="utf-8") as file:
-            spread = re.search("SPREAD: u64 = (0x[0-9a-f_]+)", file.read())
-        self.assertEqual(int(spread[1].replace("_", ""), 16), hostile_inputs.SPREAD)
+            spread = re.findall("SPREAD: u64 = (0x[0-9a-f_]+)", file.read())
+        self.assertEqual(int(spread[0].replace("_", ""), 16), hostile_inputs.SPREAD)
         keys = hostile_inputs.one_chain_keys(300, 16)
         self.assertEqual((len(set(keys)), len({hostile_inputs.hash_of(key) for key in keys})), (300, 1))
         self.assertTrue(all(len(key) == 16 for key in keys))
 
 
 class Here(unittest.TestCase):
-    def test_this_repository_has_laws_that_code_cites(self):
+    def test_this_repository_has_laws_that_code_cites(self) -> None:
         needed = [name for _, name, needed in laws.Cited(TOP, each=False).laws() if needed]
         self.assertGreater(len(needed), 10)
 

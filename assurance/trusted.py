@@ -4,9 +4,9 @@
 usage: python3 assurance/trusted.py [--print | --write]
 
 The main promise begins with the bytes of an image. So it begins here with the term that says it, and with the names in
-the clauses of `Image::parse` and `host::run`, in what holds of every `Image` and of every `Verified`, and in what `recheck` says of the `Verified` that it
-returns; and follows each name through the definitions of all crates/*/specs to the definitions, and to the types and
-constants of crates/*/src. What the calls of the library say with status 0 and with status 2, and what a row of the survey
+the clauses of `Image::parse` and `host::run`, in what holds of every `Image` and of every `Verified`, and in what `recheck` says of
+the `Verified` that it returns; and follows each name through the definitions of all crates/*/specs to the definitions, and to the
+types and constants of crates/*/src. What the calls of the library say with status 0 and with status 2, and what a row of the survey
 says, rest on more: these lists are of what comes beside the main one, and beside the one before.
 
 With --print the rows are printed as the page has them, and with --write the page's numbers and its lists by crate are set.
@@ -18,7 +18,9 @@ import os
 import re
 import sys
 
-from definitions import TOP, Base, Code
+sys.path.insert(0, os.path.join(os.path.dirname(os.path.abspath(__file__)), "../checks"))
+from common import TOP
+from definitions import Base, Code
 
 PAGE = os.path.join(TOP, "docs/TRUSTED.md")
 

@@ -14,7 +14,8 @@ import os
 import re
 import sys
 
-import gate
+sys.path.insert(0, os.path.join(os.path.dirname(os.path.abspath(__file__)), "../checks"))
+from common import TOP, crates_below, text_of
 
 ROW = re.compile(r"^\| (\w+) \| (\d+) \| (\d+) \| (\d+) \| [\d.]+ \|$", re.M)
 
@@ -29,17 +30,16 @@ def above(graph: dict[str, list[str]], crate: str) -> list[str]:
 
 def size_of(crate: str) -> int:
     """How many bytes the crate's code and proofs have."""
-    files = [it for part in ("src", "specs", "proofs") for it in glob.glob(f"{gate.TOP}/crates/{crate}/{part}/**/*.*", recursive=True)]
+    files = [it for part in ("src", "specs", "proofs") for it in glob.glob(f"{TOP}/crates/{crate}/{part}/**/*.*", recursive=True)]
     return sum(os.path.getsize(path) for path in files if path.endswith((".rt", ".antt")))
 
 
 def seconds_of(graph: dict[str, list[str]], path: str) -> tuple[dict[str, tuple[float, float]], list[str]]:
     """The seconds of each crate, with its edits and without, and which crates are estimated."""
-    with open(path, encoding="utf-8") as file:
-        rows = {name: tuple(map(int, numbers)) for name, *numbers in ROW.findall(file.read()) if name in graph}
+    rows = {name: [int(it) for it in numbers] for name, *numbers in ROW.findall(text_of(path)) if name in graph}
     if not rows:
         sys.exit(f"costs.py: {path} has no table of seconds by crate")
-    a_byte = sum(map(sum, rows.values())) / sum(map(size_of, rows))
+    a_byte = sum(sum(row) for row in rows.values()) / sum(map(size_of, rows))
     left = [it for it in graph if it not in rows]
     found = {it: (float(sum(row)), float(row[0] + row[1])) for it, row in rows.items()}
     found.update({it: (size_of(it) * a_byte, size_of(it) * a_byte * 0.75) for it in left})
@@ -59,11 +59,11 @@ def longest(graph: dict[str, list[str]], crates: list[str], seconds: dict[str, t
 
 
 def main() -> None:
-    parser = argparse.ArgumentParser(usage="costs.py [--from FILE] [CRATE ..]", description=(__doc__ or "").split("\n")[0])
-    parser.add_argument("--from", dest="path", default=f"{gate.TOP}/bench/LOG.md", metavar="FILE", help="the seconds of each crate")
+    parser = argparse.ArgumentParser(usage="costs.py [--from FILE] [CRATE ..]", description=(__doc__ or "").partition("\n")[0])
+    parser.add_argument("--from", dest="path", default=f"{TOP}/bench/LOG.md", metavar="FILE", help="the seconds of each crate")
     parser.add_argument("crates", nargs="*", metavar="CRATE")
     words = parser.parse_args()
-    graph = gate.below()
+    graph = crates_below()
     for it in words.crates:
         if it not in graph:
             sys.exit(f"costs.py: there is no crate {it} in crates.txt")

@@ -9,13 +9,14 @@ the differences from a run on a text with a comment only. Files are made in a fo
 import argparse
 import os
 import random
-import resource
 import struct
 import subprocess
 import sys
 import tempfile
 
-TOP = os.path.dirname(os.path.dirname(os.path.abspath(__file__)))
+sys.path.insert(0, os.path.join(os.path.dirname(os.path.abspath(__file__)), "../checks"))
+from common import TOP, built, measured, record, write
+
 KEYS = 65_536
 FRAMES = 200_000
 LISTED = f"map hash 8 8 {KEYS}\n        r0 = 2\n        exit\n"
@@ -24,10 +25,10 @@ WANTED = 60  # milliseconds for all lines
 
 def seconds_of(words: list[str]) -> float:
     """The processor seconds of a command."""
-    before = resource.getrusage(resource.RUSAGE_CHILDREN)
-    subprocess.run(words, stdout=subprocess.DEVNULL, check=True)
-    after = resource.getrusage(resource.RUSAGE_CHILDREN)
-    return after.ru_utime - before.ru_utime + after.ru_stime - before.ru_stime
+    ran = measured(words)
+    if ran.status:
+        sys.exit(f"{' '.join(words)}: status {ran.status}: {ran.err}")
+    return ran.seconds
 
 
 def least(commands: dict[str, list[str]], times: int) -> dict[str, float]:
@@ -39,18 +40,11 @@ def least(commands: dict[str, list[str]], times: int) -> dict[str, float]:
     return {name: min(each) for name, each in found.items()}
 
 
-def write(path: str, data: bytes) -> str:
-    """Writes a file; its path."""
-    with open(path, "wb") as file:
-        file.write(data)
-    return path
-
-
 def main() -> None:
     """Prints the figures."""
     words = argparse.ArgumentParser(description=__doc__, formatter_class=argparse.RawDescriptionHelpFormatter)
-    words.add_argument("--xdpvm", default=f"{TOP}/crates/xdpvm/out/xdpvm")
-    words.add_argument("--filter", default=f"{TOP}/crates/xdpvm_filter/out/xdpvm_filter")
+    words.add_argument("--xdpvm", default=built())
+    words.add_argument("--filter", default=built("xdpvm_filter"))
     words.add_argument("--times", type=int, default=5)
     given = words.parse_args()
     for program in (given.xdpvm, given.filter):
@@ -75,7 +69,7 @@ def main() -> None:
         filling, writing = found["filled"] - found["empty"], found["kept"] - found["filled"]
         print(f"{KEYS:,} lines into a hash map of 8-byte keys: {filling:.1f} ms ({WANTED} wanted)")
         print(f"{KEYS:,} lines written, in the order of their keys: {writing:.1f} ms")
-        frame = struct.pack("<QIII", 1, 1, 0, 60) + bytes(60)
+        frame = record(1, (1, 1, 0), 0, bytes(60))
         many = write(f"{folder}/many", b"XPF1" + frame * FRAMES)
         its = [f"{TOP}/examples/firewall.image", many, "/dev/null"]
         report = ["--report", f"{folder}/report"]

@@ -12,8 +12,8 @@ examples/bridge/ports.text, and every frame is of UDP to the one port of its lis
   median, 99%  the delay of one frame of 1,000, a millisecond apart, in microseconds
 
 `xdp, generic` is the filter by tools/object.py, before Linux's bridge; there is no row of it where bpf(2) is forbidden. --cores N
-runs all on N processors (the default: all), of which the sender has the first for itself. Last comes the time of the filter alone, by a bridge that runs it
-11 times on each frame.
+runs all on N processors (the default: all), of which the sender has the first for itself. Last comes the time of the filter alone,
+by a bridge that runs it 11 times on each frame.
 
 The exit status is 0; 1 with a message; and 77 where network namespaces cannot be made.
 """
@@ -116,12 +116,19 @@ class Bench:
         said = output(*self.left("delay", "left0", f"/proc/{self.ends.right}/ns/net", "right0", str(size), str(DELAYS))).split()
         if int(said[0]) != DELAYS:
             raise Wrong(f"{way}: {said[0]} of {DELAYS} frames came out")
-        return Row(way, size, most, min(every) * 1e9, self.own(pid, size) * 1e9 if pid else 0.0, int(said[1]) / 1e3, int(said[2]) / 1e3)
+        return Row(
+            way, size, most, min(every) * 1e9, self.own(pid, size) * 1e9 if pid else 0.0, int(said[1]) / 1e3, int(said[2]) / 1e3
+        )
 
     @contextlib.contextmanager
     def bridge(self, name: str, flags: str) -> Iterator[int]:
         program = self.work / name
-        words = ["bash", str(TOP / "examples/bridge/build.sh"), str(program), *([str(self.given.library)] if self.given.library else [])]
+        words = [
+            "bash",
+            str(TOP / "examples/bridge/build.sh"),
+            str(program),
+            *([str(self.given.library)] if self.given.library else []),
+        ]
         subprocess.run(words, env={**os.environ, "CFLAGS": f"-O2 {flags}"}, check=True)
         os.sched_setaffinity(0, self.cores[1:] or self.cores)
         there = Bridge(program, self.work, str(self.image), "in0", "out0", "--maps", str(self.maps))
@@ -141,7 +148,17 @@ class Bench:
                 called("ip", "link", "set", "dev", name, "master", "between0")
             called("ip", "link", "set", "dev", "between0", "up")
             if filtered:
-                words = ["--load", "in0", str(self.image), "--fill", str(self.maps), "--mode", "generic", "--xdpvm", str(self.given.program)]
+                words = [
+                    "--load",
+                    "in0",
+                    str(self.image),
+                    "--fill",
+                    str(self.maps),
+                    "--mode",
+                    "generic",
+                    "--xdpvm",
+                    str(self.given.program),
+                ]
                 called(*tool, *words)
             time.sleep(1)
             yield
@@ -195,7 +212,8 @@ def main() -> int:
             for size in (int(it) for it in given.sizes.split(",")):
                 for row in bench.rows(size):
                     print(
-                        f"{row.way:30} {row.size:6} {row.rate:10.0f} {row.processor:7.0f} ns {row.own:7.0f} ns {row.median:5.1f} us {row.late:5.1f} us",
+                        f"{row.way:30} {row.size:6} {row.rate:10.0f} {row.processor:7.0f} ns {row.own:7.0f} ns"
+                        f" {row.median:5.1f} us {row.late:5.1f} us",
                         flush=True,
                     )
                 print(f"{size} bytes: the filter takes {bench.filter_alone(size) * 1e9:.0f} ns a frame", flush=True)

@@ -7,21 +7,25 @@ The seconds are those of the provers (user and system), by crate: its code, its 
 greatest memory of one of them. They are read from /proc twice a second, so a prover loses half a
 second at most. The command's output is passed on, and its status is the script's. --most: only the
 N crates that took most; --to: the table is written to a file. After it comes the longest chain: crates of crates.txt, each
-of which waits for the one before, whose code and tests take most together, so that no number of cores can be faster. With `taskset -c 0,1` in front it all
-runs on two cores. In the gate: `.ci/run` prints the ten crates that took most.
+of which waits for the one before, whose code and tests take most together, so that no number of cores can be faster. With
+`taskset -c 0,1` in front it all runs on two cores. In the gate: `.ci/run` prints the ten crates that took most.
 """
 import argparse
 import os
 import subprocess
 import sys
 import time
+from collections.abc import Iterator
 
-TOP = os.path.dirname(os.path.dirname(os.path.abspath(__file__)))
+sys.path.insert(0, os.path.join(os.path.dirname(os.path.abspath(__file__)), "../checks"))
+from common import crates_below, write
+
 TICKS = os.sysconf("SC_CLK_TCK")
+Seen = dict[tuple[str, str, int], tuple[float, int]]  # seconds and megabytes of a prover: its crate, its kind and its number
 KINDS = ("code", "tests", "edits")
 
 
-def read(path):
+def read(path: str) -> bytes:
     try:
         with open(path, "rb") as file:
             return file.read()
@@ -29,7 +33,7 @@ def read(path):
         return b""
 
 
-def prover(pid):
+def prover(pid: int) -> tuple[str, str] | None:
     """The crate and the kind of work of a process that proves, or None."""
     words = read(f"/proc/{pid}/cmdline").decode(errors="replace").split("\0")
     if not words[0].endswith("/rattle") or "--crate-name" not in words:
@@ -42,13 +46,13 @@ def prover(pid):
     return words[words.index("--crate-name") + 1], kind
 
 
-def sample(seen, root):
+def sample(seen: Seen, root: int) -> None:
     """Notes the processor seconds and the peak memory (MB) of each prover that descends from the process."""
     parents, times = {}, {}
-    for pid in filter(str.isdigit, os.listdir("/proc")):
+    for pid in map(int, filter(str.isdigit, os.listdir("/proc"))):
         fields = read(f"/proc/{pid}/stat").rpartition(b") ")[2].split()
         if fields:
-            parents[int(pid)], times[int(pid)] = int(fields[1]), sum(map(int, fields[11:13])) / TICKS
+            parents[pid], times[pid] = int(fields[1]), sum(map(int, fields[11:13])) / TICKS
     for pid, seconds in times.items():
         above = pid
         while above in parents and above != root:
@@ -59,21 +63,14 @@ def sample(seen, root):
             seen[who + (pid,)] = seconds, int(peak[0]) // 1024 if peak else 0
 
 
-def below():
-    """Each crate of crates.txt, with the crates of this repository that it builds on."""
-    with open(f"{TOP}/crates.txt", encoding="utf-8") as file:
-        rows = [line.partition(":") for line in file if line.strip() and not line.startswith("#")]
-    found = {head.split()[0]: names.split() for head, _, names in rows}
-    return {crate: [name for name in names if name in found] for crate, names in found.items()}
-
-
-def longest_chain(costs):
+def longest_chain(costs: dict[str, float]) -> tuple[list[str], float]:
     """The crates of the chain that takes most, the lowest first, and its seconds."""
-    graph, known = below(), {}
+    graph = crates_below()
+    known: dict[str, tuple[float, tuple[str, ...]]] = {}
 
-    def chain(crate):
+    def chain(crate: str) -> tuple[float, tuple[str, ...]]:
         if crate not in known:
-            before = max((chain(it) for it in graph[crate]), key=lambda it: it[0], default=(0, ()))
+            before = max((chain(it) for it in graph[crate]), key=lambda it: it[0], default=(0.0, ()))
             known[crate] = (before[0] + costs.get(crate, 0), (*before[1], crate))
         return known[crate]
 
@@ -81,11 +78,12 @@ def longest_chain(costs):
     return [crate for crate in crates if costs.get(crate, 0)], seconds
 
 
-def table(seen, seconds, most):
+def table(seen: Seen, seconds: float, most: int | None) -> Iterator[str]:
     """The lines of the table: a row for each crate, the one that took most first, and their sum."""
-    crates, peaks = {}, {}
+    crates: dict[str, dict[str, float]] = {}
+    peaks: dict[str, int] = {}
     for (crate, kind, _), (spent, peak) in seen.items():
-        crates.setdefault(crate, dict.fromkeys(KINDS, 0))[kind] += spent
+        crates.setdefault(crate, dict.fromkeys(KINDS, 0.0))[kind] += spent
         peaks[crate] = max(peaks.get(crate, 0), peak)
     yield f"{seconds:.0f} s on {len(os.sched_getaffinity(0))} cores; processor seconds of the provers:"
     yield "\n| crate | code | tests | edits | GB |\n|---|---|---|---|---|"
@@ -97,21 +95,21 @@ def table(seen, seconds, most):
     yield f"\nthe longest chain, {longest:.0f} s of code and tests: {', '.join(chain)}"
 
 
-def main():
+def main() -> None:
     parser = argparse.ArgumentParser(usage="gate.py [--most N] [--to FILE] [COMMAND ..]")
     parser.add_argument("--most", type=int, metavar="N", help="only the N dearest crates")
     parser.add_argument("--to", metavar="FILE", help="write the table into a file")
     parser.add_argument("command", nargs=argparse.REMAINDER)
     words = parser.parse_args()
-    began, seen = time.time(), {}
+    began = time.time()
+    seen: Seen = {}
     running = subprocess.Popen(words.command or ["rt", "ci"])
     while running.poll() is None:
         sample(seen, running.pid)
         time.sleep(0.5)
     lines = "\n".join(table(seen, time.time() - began, words.most)) + "\n"
     if words.to:
-        with open(words.to, "w") as file:
-            file.write(lines)
+        write(words.to, lines)
     else:
         print(f"\n{lines}", end="")
     sys.exit(running.returncode)

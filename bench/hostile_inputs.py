@@ -11,43 +11,46 @@ megabytes and the last line. A run that takes longer than LIMIT seconds (the def
 one took longer than its own limit, ended by a signal or, without a limit having passed, by a status that is not one of the
 program's.
 """
+import gzip
 import os
 import resource
 import struct
 import subprocess
 import sys
 import tempfile
+from collections.abc import Iterator
 
-HERE = os.path.dirname(os.path.abspath(__file__))
-sys.path.insert(0, f"{HERE}/../tools")
+sys.path.insert(0, os.path.join(os.path.dirname(os.path.abspath(__file__)), "../checks"))
+import common
+from common import TOP, insn, record, write
 import table
 
-PROGRAM = os.path.abspath((sys.argv[1:] or [f"{HERE}/../crates/xdpvm/out/xdpvm"])[0])
+Tried = (
+    tuple[str, list[str]] | tuple[str, list[str], float]
+)  # a name, the words of a command with its input second, and its limit in seconds
+PROGRAM = common.program()
 CHOSEN = sys.argv[2:]
 LIMIT = int(os.environ.get("LIMIT", "120"))
 MOST_SLOTS, MOST_TEXT, MOST_KEYS = 4096, 16 << 20, 65536
 # At most so many seconds for a full map of the worst keys, and for a frame with a call on it, by a proved build.
 FILLED, CALL = 0.3, 3e-6
-FRAMES = [sys.executable, f"{HERE}/../tools/frames.py"]
+FRAMES = [sys.executable, f"{TOP}/tools/frames.py"]
 
 
-def write(path, data):
-    with open(path, "wb") as file:
-        file.write(data if isinstance(data, bytes) else data.encode())
-    return path
-
-
-def asked(*words):
-    ended = subprocess.run([PROGRAM, *words], stdout=subprocess.PIPE, text=True)
-    if ended.returncode:
-        sys.exit(f"{' '.join(words)}: {ended.stdout}")
+def asked(*words: str) -> None:
+    ended = common.measured([PROGRAM, *words])
+    if ended.status:
+        sys.exit(f"{' '.join(words)}: {ended.out}")
 
 
 # ---- families: a name, the words of a command with its input second, and at most how many seconds it may take, if that is said
 
-def texts():
+
+def texts() -> Iterator[Tried]:
     """Texts for `asm`."""
-    labels = "".join(f"label_number_{at}_of_a_text: if r1 != 0 goto label_number_{(at * 7919 + 1) % 4095}_of_a_text\n" for at in range(4095))
+    labels = "".join(
+        f"label_number_{at}_of_a_text: if r1 != 0 goto label_number_{(at * 7919 + 1) % 4095}_of_a_text\n" for at in range(4095)
+    )
     for name, text in (
         ("4,096 labels, each used", labels + "exit\n"),
         ("4,096 labels that differ in their last letter", labels.replace("label_number_", "a" * 200) + "exit\n"),
@@ -63,15 +66,15 @@ def texts():
         yield name, [PROGRAM, "asm", write("text", text), "made"]
 
 
-def images():
+def images() -> Iterator[Tried]:
     """Images for `dis`: the longest there are."""
-    head = struct.pack("<4sHH", b"XBP1", 0, MOST_SLOTS)
-    for name, slot in ("4,096 stores", struct.pack("<BBhi", 0x7A, 10, -32768, -2**31)), ("4,096 jumps to themselves", struct.pack("<BBhi", 0x05, 0, -1, 0)):
-        yield name, [PROGRAM, "dis", write("image", head + slot * MOST_SLOTS)]
+    stores, jumps = insn(0x7A, 10, 0, -32768, -(2**31)), insn(0x05, 0, 0, -1)
+    for name, slot in ("4,096 stores", stores), ("4,096 jumps to themselves", jumps):
+        yield name, [PROGRAM, "dis", write("image", common.image_of(slot * MOST_SLOTS))]
         yield f"{name}, by `verify`", [PROGRAM, "verify", "image"]
 
 
-def full_frame(numbers):
+def full_frame(numbers: bool) -> table.Frame:
     """A call frame whose stack slots are all numbers with all their limits."""
     frame = table.Frame()
     frame.registers[6:] = [table.any_number()] * 4
@@ -79,7 +82,7 @@ def full_frame(numbers):
     return frame
 
 
-def tables():
+def tables() -> Iterator[Tried]:
     """Tables for `recheck`, with the longest entries that there are."""
     write("text", "r0 = 2\nexit\n")
     asked("asm", "text", "image")
@@ -89,14 +92,23 @@ def tables():
     start = table.Entry(2, 0, [1])
     start.frames[0].registers[1] = table.CONTEXT
     first = table.entry_bytes(start)
-    head = lambda count: table.MAGIC + struct.pack("<I", count)
-    yield "8 frames of 64 numbers, 6,000 times", [PROGRAM, "recheck", "image", write("table", head(6001) + first + body * 6000)]
-    yield "1,000,000 of which the last is cut", [PROGRAM, "recheck", "image", write("table", head(1_000_000) + first * 999_999 + first[:-1])]
     wrong = table.entry_bytes(table.Entry(1, 1))
-    yield "1,000,000 whose second is refused", [PROGRAM, "recheck", "image", write("table", head(1_000_000) + first + wrong * 999_999)]
-    loop = "r6 = r1\nr7 = 0\n" + "".join(f"*(u64 *)(r10 - {8 * at + 8}) = {at}\n" for at in range(60)) + (
-        "loop: r8 = *(u32 *)(r6 + 12)\nr7 += 1\nif r7 < 4000 goto loop\nr1 = 0\n" + "".join(f"r2 = *(u64 *)(r10 - {8 * at + 8})\nr1 += r2\n" for at in range(60))
-        + "r0 = 2\nexit\n")
+    for name, begin, one, count, end in (
+        ("8 frames of 64 numbers, 6,000 times", first, body, 6000, b""),
+        ("1,000,000 of which the last is cut", b"", first, 999_999, first[:-1]),
+        ("1,000,000 whose second is refused", first, wrong, 999_999, b""),
+    ):
+        path = write("table", table.MAGIC + struct.pack("<I", count + 1) + begin + one * count + end)
+        yield name, [PROGRAM, "recheck", "image", path]
+    loop = (
+        "r6 = r1\nr7 = 0\n"
+        + "".join(f"*(u64 *)(r10 - {8 * at + 8}) = {at}\n" for at in range(60))
+        + (
+            "loop: r8 = *(u32 *)(r6 + 12)\nr7 += 1\nif r7 < 4000 goto loop\nr1 = 0\n"
+            + "".join(f"r2 = *(u64 *)(r10 - {8 * at + 8})\nr1 += r2\n" for at in range(60))
+            + "r0 = 2\nexit\n"
+        )
+    )
     write("text", loop)
     asked("asm", "text", "image")
     asked("prove", "image", "table")
@@ -110,14 +122,14 @@ class Reduction:
     """The algorithm of Lenstra, Lenstra and Lovasz in integers: Cohen, A Course in Computational Algebraic Number
     Theory, 2.6.7. `d` and `parts` are his d and lambda."""
 
-    def __init__(self, rows):
+    def __init__(self, rows: list[list[int]]) -> None:
         self.rows, self.size, self.d = rows, len(rows), [1] + [0] * len(rows)
         self.parts = [[0] * self.size for _ in rows]
 
-    def dot(self, one, other):
+    def dot(self, one: int, other: int) -> int:
         return sum(a * b for a, b in zip(self.rows[one], self.rows[other]))
 
-    def begin(self, at):
+    def begin(self, at: int) -> None:
         for below in range(at + 1):
             u = self.dot(at, below)
             for i in range(below):
@@ -127,7 +139,7 @@ class Reduction:
             else:
                 self.d[at + 1] = u
 
-    def shorten(self, at, by):
+    def shorten(self, at: int, by: int) -> None:
         part, whole = self.parts[at][by], self.d[by + 1]
         times = (2 * part + whole) // (2 * whole) if 2 * abs(part) > whole else 0
         if times:
@@ -136,7 +148,7 @@ class Reduction:
             for i in range(by):
                 self.parts[at][i] -= times * self.parts[by][i]
 
-    def exchange(self, at, known):
+    def exchange(self, at: int, known: int) -> None:
         d, parts, part = self.d, self.parts, self.parts[at][at - 1]
         self.rows[at], self.rows[at - 1] = self.rows[at - 1], self.rows[at]
         for i in range(at - 1):
@@ -148,7 +160,7 @@ class Reduction:
             parts[i][at - 1] = (new * old + part * parts[i][at]) // d[at + 1]
         d[at] = new
 
-    def reduced(self):
+    def reduced(self) -> list[list[int]]:
         self.begin(0)
         at, known, d = 1, 0, self.d
         while at < self.size:
@@ -166,18 +178,20 @@ class Reduction:
         return self.rows
 
 
-def short_relations(weights):
+def short_relations(weights: list[int]) -> list[list[int]]:
     """Short vectors d with sum(d[i] * weights[i]) divisible by 2^64."""
     size, inverse = len(weights), pow(weights[0], -1, ALL)
     first = [[ALL] + [0] * (size - 1)]
-    return Reduction(first + [[-weights[at] * inverse % ALL] + [int(at == other) for other in range(1, size)] for at in range(1, size)]).reduced()
+    return Reduction(
+        first + [[-weights[at] * inverse % ALL] + [int(at == other) for other in range(1, size)] for at in range(1, size)]
+    ).reduced()
 
 
-def one_chain_keys(count, size=16):
+def one_chain_keys(count: int, size: int = 16) -> list[bytes]:
     """Keys of one size that all have the same hash, whatever the number of chains."""
     words = size // 4
     weights = [pow(SPREAD, words - at, ALL) for at in range(words)]
-    relations = sorted(short_relations(weights), key=lambda row: max(map(abs, row)))
+    relations = sorted(short_relations(weights), key=lambda row: max(abs(it) for it in row))
     keys, level = {(1 << 31,) * words}, 0
     while len(keys) < count:
         for row in relations:
@@ -191,7 +205,7 @@ def one_chain_keys(count, size=16):
     return sorted(struct.pack(f"<{words}I", *key) for key in keys)[:count]
 
 
-def hash_of(key):
+def hash_of(key: bytes) -> int:
     value = 0
     for at in range(0, len(key), 4):
         value = (value + int.from_bytes(key[at : at + 4], "little")) * SPREAD % ALL
@@ -207,7 +221,7 @@ out: r0 = 1; exit
 """
 
 
-def counting(count, size):
+def counting(count: int, size: int) -> list[bytes]:
     """An image that updates a map by keys from frames, and as many keys that all have one hash."""
     copies = "".join(f"r3 = *(u64 *)(r6 + {at}); *(u64 *)(r10 - {size - at}) = r3\n" for at in range(0, size, 8))
     write("text", COUNTS.format(size=size, entries=count, copies=copies))
@@ -217,59 +231,80 @@ def counting(count, size):
     return same
 
 
-def of_keys(keys):
+def of_keys(keys: list[bytes]) -> bytes:
     """A stream of frames, each of which is a key."""
-    return b"XPF1" + b"".join(struct.pack("<QIII", at, 0, 0, len(key)) + key for at, key in enumerate(keys))
+    return b"XPF1" + b"".join(record(1, (at, 0, 0), 0, key) for at, key in enumerate(keys))
 
 
-def chains():
+def chains() -> Iterator[Tried]:
     """Maps whose keys are all in one chain, beside keys that are not."""
     size = 16
     for count in 4096, 16384, 65536:
         same = counting(count, size)
-        for name, keys in ("of one hash", same), ("of any hash", [struct.pack("<QQ", at * SPREAD % ALL, at) for at in range(count)]):
+        for name, keys in ("of one hash", same), (
+            "of any hash",
+            [struct.pack("<QQ", at * SPREAD % ALL, at) for at in range(count)],
+        ):
             yield f"{count} keys {name}", [PROGRAM, "run", "image", write("frames", of_keys(keys)), "sent"]
             if count == 4096:
                 yield f"{count} keys {name}, by `trace`", [PROGRAM, "trace", "image", "frames", "sent"]
 
 
-def worst_keys():
+def worst_keys() -> Iterator[Tried]:
     """A full map of keys of one hash, from the greatest on, so that each is put before all others; then calls with these keys."""
     keys = counting(MOST_KEYS, 16)[::-1]
     yield "a map is filled", [PROGRAM, "run", "image", write("frames", of_keys(keys)), "sent"], FILLED
     rounds = 4
-    yield f"and {rounds} calls with each key", [PROGRAM, "run", "image", write("frames", of_keys(keys * (rounds + 1))), "sent"], FILLED + rounds * len(keys) * CALL
+    yield f"and {rounds} calls with each key", [
+        PROGRAM,
+        "run",
+        "image",
+        write("frames", of_keys(keys * (rounds + 1))),
+        "sent",
+    ], FILLED + rounds * len(keys) * CALL
 
 
-def block(kind, body):
+def block(kind: int, body: bytes) -> bytes:
     body += bytes(-len(body) % 4)
     return struct.pack("<II", kind, len(body) + 12) + body + struct.pack("<I", len(body) + 12)
 
 
-def captures():
+def captures() -> Iterator[Tried]:
     """Captures for tools/frames.py: large, broken, or of many small blocks."""
     begin = block(0x0A0D0D0A, struct.pack("<IHHq", 0x1A2B3C4D, 1, 0, -1))
     interface = block(1, struct.pack("<HHI", 1, 0, 0))
     packet = block(6, struct.pack("<IIIII", 0, 0, 0, 60, 60) + bytes(60))
     long = struct.pack("<II", 6, 0xFFFFFFF0) + bytes(64)
-    commented = block(6, struct.pack("<IIIII", 0, 0, 0, 60, 60) + bytes(60) + struct.pack("<HH", 1, 60000) + b"reason 7 " + bytes(59991) + bytes(4))
+    commented = block(
+        6,
+        struct.pack("<IIIII", 0, 0, 0, 60, 60) + bytes(60) + struct.pack("<HH", 1, 60000) + b"reason 7 " + bytes(59991) + bytes(4),
+    )
     for name, data in (
         ("200,000 packets", begin + interface + packet * 200_000),
-        ("200,000 interfaces, then a packet of the last", begin + interface * 200_000 + block(6, struct.pack("<IIIII", 199_999, 0, 0, 60, 60) + bytes(60))),
+        (
+            "200,000 interfaces, then a packet of the last",
+            begin + interface * 200_000 + block(6, struct.pack("<IIIII", 199_999, 0, 0, 60, 60) + bytes(60)),
+        ),
         ("1,000,000 blocks of an unknown kind", begin + block(0xBAD, b"") * 1_000_000),
         ("1,000,000 sections", begin * 1_000_000),
         ("a block of 4 GB", begin + interface + long),
         ("a block of length 0", begin + interface + struct.pack("<III", 6, 0, 0) * 1000),
         ("1,000 packets with comments of 60,000 bytes", begin + interface + commented * 1000),
-        ("a packet that says it has 4 GB", begin + interface + block(6, struct.pack("<IIIII", 0, 0, 0, 2**32 - 1, 2**32 - 1) + bytes(60))),
-        ("an interface whose clock ticks 2^127 times a second", begin + block(1, struct.pack("<HHI", 1, 0, 0) + struct.pack("<HHB3x", 9, 1, 255)) + packet * 1000),
+        (
+            "a packet that says it has 4 GB",
+            begin + interface + block(6, struct.pack("<IIIII", 0, 0, 0, 2**32 - 1, 2**32 - 1) + bytes(60)),
+        ),
+        (
+            "an interface whose clock ticks 2^127 times a second",
+            begin + block(1, struct.pack("<HHI", 1, 0, 0) + struct.pack("<HHB3x", 9, 1, 255)) + packet * 1000,
+        ),
         ("a pcap of 1,000,000 empty packets", struct.pack("<IHHIIII", 0xA1B2C3D4, 2, 4, 0, 0, 65535, 1) + bytes(16) * 1_000_000),
         ("a text of 200,000 lines of one byte", b"frame 1\n" + b"ca\n" * 200_000),
         ("a text of one line of 10 MB", b"frame 1\n" + b"ca" * 5_000_000),
     ):
         yield name, [*FRAMES, write("capture", data), "out.frames"]
-    import gzip
-    yield "a gzip of 2 GB of zeros behind a head", [*FRAMES, write("capture", gzip.compress(begin + interface) + gzip.compress(bytes(1 << 26)) * 32), "out.frames"]
+    packed = write("capture", gzip.compress(begin + interface) + gzip.compress(bytes(1 << 26)) * 32)
+    yield "a gzip of 2 GB of zeros behind a head", [*FRAMES, packed, "out.frames"]
 
 
 FAMILIES = [texts, images, tables, chains, worst_keys, captures]
@@ -277,25 +312,31 @@ FAMILIES = [texts, images, tables, chains, worst_keys, captures]
 
 # ---- measuring
 
-def bounded():
+
+def bounded() -> None:
     resource.setrlimit(resource.RLIMIT_CPU, (LIMIT, LIMIT + 1))
 
 
-def measured(words):
+def measured(words: list[str]) -> tuple[str, int, float, float]:
     """The last line, the status, the processor seconds and the peak megabytes of a command. It is measured by time(1), since
     the peak of a direct child would be this process's at least."""
     with open("said", "w+b") as out:
-        ended = subprocess.run(["time", "-o", "times", "-f", "%U %S %M", "--", *words], stdin=subprocess.DEVNULL, stdout=out, stderr=subprocess.STDOUT,
-                               preexec_fn=bounded)
+        ended = subprocess.run(  # pylint: disable=subprocess-popen-preexec-fn
+            ["time", "-o", "times", "-f", "%U %S %M", "--", *words],
+            stdin=subprocess.DEVNULL,
+            stdout=out,
+            stderr=subprocess.STDOUT,
+            preexec_fn=bounded,
+            check=False,
+        )
         size = out.seek(0, 2)
         out.seek(max(0, size - 2000))
         lines = out.read().decode(errors="replace").strip().splitlines() or ["nothing said"]
-    with open("times") as file:
-        user, system, peak = file.read().splitlines()[-1].split()
+    user, system, peak = common.text_of("times").splitlines()[-1].split()
     return lines[-1][-70:], ended.returncode, float(user) + float(system), int(peak) / 1024
 
 
-def least(words, most):
+def least(words: list[str], most: tuple[float, ...]) -> tuple[str, int, float, float]:
     """The same, of the quickest of three runs where there is a limit that the first ones do not keep."""
     runs = [measured(words)]
     while len(runs) < 3 and any(runs[-1][2] > limit for limit in most):
@@ -303,7 +344,7 @@ def least(words, most):
     return min(runs, key=lambda run: run[2])
 
 
-def main():
+def main() -> int:
     wrong = 0
     print(f"{'bytes in':>10} {'seconds':>8} {'MB':>6}  status")
     with tempfile.TemporaryDirectory() as room:
@@ -311,14 +352,16 @@ def main():
         for family in FAMILIES:
             if CHOSEN and family.__name__ not in CHOSEN:
                 continue
-            for name, words, *most in family():
+            for name, words, *limits in family():
+                most = tuple(limits)
                 given = words[3 if words[1] in ("run", "trace", "recheck") else 2]
                 said, status, seconds, peak = least(words, most)
                 late = seconds >= LIMIT
                 over = any(seconds > limit for limit in most)
                 wrong += over or not late and status > 5
                 said = "ended at the limit" if late else f"over {most[0]:.2f} seconds" if over else said
-                print(f"{os.path.getsize(given):10} {seconds:8.2f} {peak:6.0f}  {status:6}  {family.__name__}: {name}: {said}", flush=True)
+                row = f"{os.path.getsize(given):10} {seconds:8.2f} {peak:6.0f}  {status:6}  {family.__name__}: {name}"
+                print(f"{row}: {said}", flush=True)
         os.chdir("/")
     return 1 if wrong else 0
 

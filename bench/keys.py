@@ -10,12 +10,14 @@ takes. The keys come in random order.
 import os
 import random
 import resource
-import struct
 import subprocess
 import sys
 import tempfile
 
-PROGRAM = os.path.abspath(sys.argv[1])
+sys.path.insert(0, os.path.join(os.path.dirname(os.path.abspath(__file__)), "../checks"))
+from common import program, record, write
+
+PROGRAM = program()
 TIMES = int(os.environ.get("TIMES", "3"))
 COUNTS = [int(word) for word in sys.argv[2:]] or [200, 1000, 2000, 4000, 16000]
 
@@ -36,11 +38,11 @@ WRITE = """
 """
 
 
-def stream(queues):
-    return b"XPF1" + b"".join(struct.pack("<QIII", 0, 1, queue, 60) + bytes(60) for queue in queues)
+def stream(queues: list[int]) -> bytes:
+    return b"XPF1" + b"".join(record(1, (0, 1, queue), 0, bytes(60)) for queue in queues)
 
 
-def took(image, frames, command):
+def took(image: str, frames: str, command: str) -> float:
     best = 1e9
     for _ in range(TIMES):
         before = resource.getrusage(resource.RUSAGE_CHILDREN).ru_utime
@@ -49,23 +51,22 @@ def took(image, frames, command):
     return best
 
 
-def main():
+def main() -> None:
     with tempfile.TemporaryDirectory() as folder:
         os.chdir(folder)
         print(f"{'frames':>7} {'beside':<24}{'trace, same key':>18}{'trace, new keys':>18}{'run, new keys':>18}")
         for beside, map_row in [("nothing", ""), ("an array of 65,536", "        map array 4 8 65536\n")]:
-            with open("write.text", "w") as file:
-                file.write(WRITE.format(beside=map_row))
-            subprocess.run([PROGRAM, "asm", "write.text", "write.image"], check=True, stdout=subprocess.DEVNULL)
-            with open("none.frames", "wb") as file:
-                file.write(stream([]))
+            words = [PROGRAM, "asm", write("write.text", WRITE.format(beside=map_row)), "write.image"]
+            subprocess.run(words, check=True, stdout=subprocess.DEVNULL)
+            write("none.frames", stream([]))
             for count in COUNTS:
                 keys = random.Random(1).sample(range(1 << 31), count)
                 row = []
                 for command, queues in [("trace", [7] * count), ("trace", keys), ("run", keys)]:
-                    with open("some.frames", "wb") as file:
-                        file.write(stream(queues))
-                    row.append((took("write.image", "some.frames", command) - took("write.image", "none.frames", command)) / count * 1e6)
+                    write("some.frames", stream(queues))
+                    row.append(
+                        (took("write.image", "some.frames", command) - took("write.image", "none.frames", command)) / count * 1e6
+                    )
                 print(f"{count:>7} {beside:<24}" + "".join(f"{micros:>15.2f} µs" for micros in row), flush=True)
         os.chdir("/")
 

@@ -1,7 +1,8 @@
 #!/usr/bin/env python3
 """The time of `verify` beside that of Linux's verifier, image by image.
 
-usage: python3 bench/linux.py [IMAGE|FOLDER ..] [--library ARCHIVE] [--survey PROGRAM] [--times N] [--csv FILE] [--least MICROSECONDS]
+usage: python3 bench/linux.py [IMAGE|FOLDER ..] [--library ARCHIVE] [--survey PROGRAM] [--times N] [--csv FILE]
+       [--least MICROSECONDS]
 
 Linux's time is its own, "verification time" of the log at level 4; ours is that of xdpvm_verify in this process, by the library
 ARCHIVE (the default: crates/xdpvm_c/out/libxdpvm_c.a), so neither has the start of a process in it. Each is the least of N (5).
@@ -142,7 +143,10 @@ def main() -> int:
     rows = [it for it in rows if it.linux_microseconds >= given.least]
     print(f"{'image':44} {'instructions':>12} {'explored':>9} {'Linux us':>9} {'us':>9} {'ratio':>6}")
     for row in sorted(rows, key=lambda it: -it.ratio()):
-        print(f"{Path(row.image).name:44} {row.linux_instructions:12,} {row.explored if row.explored is not None else '-':>9} {row.linux_microseconds:9,} {row.microseconds:9,.0f} {row.ratio():6.2f}")
+        print(
+            f"{Path(row.image).name:44} {row.linux_instructions:12,} {row.explored if row.explored is not None else '-':>9}"
+            f" {row.linux_microseconds:9,} {row.microseconds:9,.0f} {row.ratio():6.2f}"
+        )
     if given.csv:
         with given.csv.open("w", newline="") as file:
             writer = csv.writer(file)

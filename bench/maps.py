@@ -15,14 +15,16 @@ import subprocess
 import sys
 import tempfile
 
-HERE = os.path.dirname(os.path.abspath(__file__))
-TOP = os.path.dirname(HERE)
+sys.path.insert(0, os.path.join(os.path.dirname(os.path.abspath(__file__)), "../checks"))
+from common import TOP, text_of, write
+
+HERE = f"{TOP}/bench"
 CALLS = 65_536 * 200
 TIMES = 3
 BELOW = ["isa_model", "exact_io", "insn_codec", "image", "map_indexes", "maps"]
 
 
-def built(folder):
+def built(folder: str) -> str:
     """The program in Rattle."""
     top = os.path.join(folder, "repository")
     crate = os.path.join(top, "crates/map_bench")
@@ -32,24 +34,22 @@ def built(folder):
         shutil.copytree(os.path.join(TOP, "crates", name), os.path.join(top, "crates", name), symlinks=True)
     shutil.copy(os.path.join(HERE, "maps.text"), os.path.join(crate, "src/main.rt"))
     shutil.copy(os.path.join(HERE, "maps_rows.text"), os.path.join(crate, "proofs/made/Answers.antt"))
-    with open(os.path.join(TOP, "crates.txt")) as file:
-        rows = [row for row in file if row.split(":")[0] in BELOW]
-    with open(os.path.join(top, "crates.txt"), "w") as file:
-        file.writelines(rows + ["map_bench: isa_model maps\n"])
-    ended = subprocess.run(["rt", "run"], cwd=crate, stdout=subprocess.PIPE, stderr=subprocess.STDOUT, text=True)
+    rows = [row for row in text_of(f"{TOP}/crates.txt").splitlines() if row.split(":")[0] in BELOW]
+    write(f"{top}/crates.txt", "\n".join([*rows, "map_bench: isa_model maps", ""]))
+    ended = subprocess.run(["rt", "run"], cwd=crate, stdout=subprocess.PIPE, stderr=subprocess.STDOUT, text=True, check=False)
     program = os.path.join(crate, "out/map_bench")
     if not os.path.exists(program):
         sys.exit(ended.stdout)
     return program
 
 
-def figures(words):
+def figures(words: list[str]) -> dict[str, float]:
     """What a program prints: a number of microseconds, or of nanoseconds for each call, by name."""
     text = subprocess.run(words, stdout=subprocess.PIPE, text=True, check=True).stdout
     return {row.split()[0]: float(row.split()[1]) for row in text.splitlines()}
 
 
-def main():
+def main() -> None:
     with tempfile.TemporaryDirectory() as folder:
         in_c = os.path.join(folder, "chains")
         subprocess.run(["gcc", "-O2", "-o", in_c, os.path.join(HERE, "chains.c")], check=True)

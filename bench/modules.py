@@ -14,7 +14,7 @@ import os
 import sys
 
 
-def main():
+def main() -> None:
     folder = sys.argv[1] if len(sys.argv) > 1 else "out/incremental"
     count = int(sys.argv[2]) if len(sys.argv) > 2 else 30
     saved = []
@@ -23,14 +23,15 @@ def main():
     saved.sort()
     if len(saved) < 2:
         sys.exit(f"modules.py: {folder} has no saved modules: run rt check --jobs 1 first")
-    took, kinds = [], collections.Counter()
+    took: list[tuple[float, str]] = []
+    kinds: dict[str, float] = collections.defaultdict(float)
     for (before, _), (after, name) in zip(saved, saved[1:]):
         module = name.removesuffix(".oantt").removesuffix(".decls")
         took.append((after - before, module))
         kinds[module.rpartition(".")[2]] += after - before
     for seconds, module in sorted(took, reverse=True)[:count]:
         print(f"{seconds:8.1f} {module}")
-    print(", ".join(f"{kind} {seconds:.0f}" for kind, seconds in kinds.most_common(6)))
+    print(", ".join(f"{kind} {seconds:.0f}" for kind, seconds in sorted(kinds.items(), key=lambda it: -it[1])[:6]))
 
 
 if __name__ == "__main__":

@@ -14,38 +14,39 @@ import struct
 import subprocess
 import sys
 import tempfile
+from collections.abc import Iterator
 
-HERE = os.path.dirname(os.path.abspath(__file__))
-sys.path[:0] = [f"{HERE}/../tools"]
+sys.path.insert(0, os.path.join(os.path.dirname(os.path.abspath(__file__)), "../checks"))
+import common
 import table
 
-PROGRAM = os.path.abspath((sys.argv[1:] or [f"{HERE}/../crates/xdpvm/out/xdpvm"])[0])
+PROGRAM = common.program()
 TIMES = int(os.environ.get("TIMES", "5"))
 LONGEST, ENTRIES = 4096, 1_000_000
 
-DEEP = "".join(
-    f"{f'f{depth}: ' if depth else ''}r6 = 5\n*(u64 *)(r10 - 8) = r6\n*(u64 *)(r10 - 16) = r10\n"
-    + (f"call f{depth + 1}\n{'' if depth else 'r0 = 2' + chr(10)}exit\n" if depth < 6 else "")
-    for depth in range(7)
-) + "r6 = 0\nloop: r1 = r6\ncall leaf\nr6 += 1\nif r6 < 10000 goto loop\nr0 = 1\nexit\nleaf: r0 = r1\nr0 += 1\nr2 = r0\nexit\n"
+DEEP = (
+    "".join(
+        f"{f'f{depth}: ' if depth else ''}r6 = 5\n*(u64 *)(r10 - 8) = r6\n*(u64 *)(r10 - 16) = r10\n"
+        + (f"call f{depth + 1}\n{'' if depth else 'r0 = 2' + chr(10)}exit\n" if depth < 6 else "")
+        for depth in range(7)
+    )
+    + "r6 = 0\nloop: r1 = r6\ncall leaf\nr6 += 1\nif r6 < 10000 goto loop\nr0 = 1\nexit\nleaf: r0 = r1\nr0 += 1\nr2 = r0\nexit\n"
+)
 
 PROGRAMS = {
-    "loop of 300,000 turns": "r1 = 0\nloop: r1 += 1\nif r1 < 300000 goto loop\nr0 = 2\nexit\n",
-    "loop counted on the stack": "*(u64 *)(r10 - 8) = 0\nloop: r1 = *(u64 *)(r10 - 8)\nr1 += 1\n*(u64 *)(r10 - 8) = r1\n"
-                                 "if r1 < 100000 goto loop\nr0 = 2\nexit\n",
-    "six values on the stack": open(f"{HERE}/spills.text").read(),
+    "loop of 300,000 turns": common.counted_loop(300_000),
+    "loop counted on the stack": common.stack_loop(100_000),
+    "six values on the stack": common.text_of(f"{common.TOP}/bench/spills.text"),
     "a call in each turn": "r6 = 0\nloop: r1 = r6\ncall f\nr6 += 1\nif r6 < 40000 goto loop\nr0 = 2\nexit\n"
-                           "f: r0 = r1\n*(u64 *)(r10 - 8) = r1\nr0 += 1\nr2 = *(u64 *)(r10 - 8)\nr0 += r2\nexit\n",
+    "f: r0 = r1\n*(u64 *)(r10 - 8) = r1\nr0 += 1\nr2 = *(u64 *)(r10 - 8)\nr0 += r2\nexit\n",
     "calls from the seventh frame": DEEP,
-    "18 branches": "r6 = *(u32 *)(r1 + 12)\ncall zero\n"
-                   + "".join(f"if r6 & {1 << bit} goto +1\nr0 += {1 << bit}\n" for bit in range(18))
-                   + "exit\nzero: r0 = 0\nexit\n",
+    "18 branches": common.branches(18),
 }
 
 
-def chain_table():
+def chain_table() -> Iterator[bytes]:
     """A closed table of the chain of 4,096 slots: 244 copies of its entries, and the end of one more."""
-    bodies = []
+    bodies: list[bytes] = []
     for slot in range(LONGEST):
         frame = table.Frame()
         frame.registers[1] = table.CONTEXT
@@ -59,49 +60,48 @@ def chain_table():
         yield bodies[slot] + (struct.pack("<BI", 1, at + 1) if slot < LONGEST - 1 else b"\0")
 
 
-def measured(*words):
+def measured(*words: str) -> tuple[str, float]:
     """The last line that the program writes, and its processor seconds."""
-    child = subprocess.Popen([PROGRAM, *words], stdout=subprocess.PIPE, stderr=subprocess.DEVNULL, text=True)
-    out = child.stdout.read()
-    _, status, used = os.wait4(child.pid, 0)
-    child.returncode = os.waitstatus_to_exitcode(status)
-    return (out.strip().splitlines() or [""])[-1], used.ru_utime + used.ru_stime
+    ran = common.measured([PROGRAM, *words])
+    return (ran.out.strip().splitlines() or [""])[-1], ran.seconds
 
 
-def peak(*words):
-    """Its peak memory in megabytes, by GNU time: what the system tells this script counts its own too."""
-    told = subprocess.run(["time", "-f", "%M", "--", PROGRAM, *words], stdout=subprocess.DEVNULL, stderr=subprocess.PIPE, text=True)
-    return int(told.stderr.split()[-1]) / 1024
-
-
-def compare(name, image, path):
-    commands = {"verify": ("verify", image), "recheck": ("recheck", image, path), "short": ("recheck", image, "short")}
+def compare(name: str, image: str, path: str) -> None:
+    """Prints a row: `recheck` of a table beside `verify` of its program."""
+    commands: dict[str, tuple[str, ...]] = {
+        "verify": ("verify", image),
+        "recheck": ("recheck", image, path),
+        "short": ("recheck", image, "short"),
+    }
     size = os.path.getsize(path)
     with open(path, "rb") as source, open("short", "wb") as file:
-        entries, = struct.unpack("<I", source.read(8)[4:])
+        (entries,) = struct.unpack("<I", source.read(8)[4:])
         source.seek(0)
         file.write(source.read(size - 1))
-    seconds, lines = {key: [] for key in commands}, {}
+    seconds: dict[str, list[float]] = {key: [] for key in commands}
+    lines = {}
     for _ in range(TIMES):
         for key, words in commands.items():
             lines[key], taken = measured(*words)
             seconds[key].append(taken)
+    most = common.peak([PROGRAM, *commands["recheck"]])
     best = {key: min(taken) for key, taken in seconds.items()}
     if not lines["recheck"].startswith("ok") or lines["short"] != "refused P2":
         sys.exit(f"{name}: {lines}")
-    print(f"{name}: {entries} entries, {size / 2**20:.0f} MB; verify {best['verify']:.3f} s, recheck {best['recheck']:.3f} s"
-          f" ({entries / best['recheck'] / 1e6:.2f} million a second, {best['recheck'] / best['verify']:.2f} of verify;"
-          f" one byte short {best['short']:.3f} s), peak {peak(*commands['recheck']) - size / 2**20:.1f} MB beside the table", flush=True)
+    print(
+        f"{name}: {entries} entries, {size / 2**20:.0f} MB; verify {best['verify']:.3f} s, recheck {best['recheck']:.3f} s"
+        f" ({entries / best['recheck'] / 1e6:.2f} million a second, {best['recheck'] / best['verify']:.2f} of verify;"
+        f" one byte short {best['short']:.3f} s), peak {most - size / 2**20:.1f} MB beside the table",
+        flush=True,
+    )
 
 
-def main():
+def main() -> None:
     with tempfile.TemporaryDirectory() as room:
         os.chdir(room)
         text = "r0 = 0\n" + "r0 += 1\n" * (LONGEST - 2) + "exit\n"
         for name, text in {"chain of 4,096 slots": text, **PROGRAMS}.items():
-            with open("text", "w") as file:
-                file.write(text)
-            subprocess.run([PROGRAM, "asm", "text", "image"], check=True, stdout=subprocess.DEVNULL)
+            subprocess.run([PROGRAM, "asm", common.write("text", text), "image"], check=True, stdout=subprocess.DEVNULL)
             if name.startswith("chain"):
                 with open("table", "wb") as file:
                     file.writelines(chain_table())

@@ -18,11 +18,12 @@ import os
 import re
 import sys
 import time
+from collections.abc import Iterable
 
 DERIVED = re.compile(r"(Debug\.fmt|PartialEq\.eq|Clone\.clone|Default\.default)\b")
 
 
-def saved_in(seed):
+def saved_in(seed: str) -> list[tuple[float, str]]:
     """When the modules of a seed were saved, and their names."""
     found = []
     for at, _, names in os.walk(seed):
@@ -35,9 +36,10 @@ def saved_in(seed):
     return sorted(found)
 
 
-def watch(folder):
+def watch(folder: str) -> None:
     """Notes in the folder what the seeds of a run have, as long as there are some."""
-    noted, last = {}, time.time()
+    noted: dict[str, int] = {}
+    last = time.time()
     while time.time() - last < 600:
         for room in glob.glob("/tmp/rt-edits-*"):
             last, found = time.time(), saved_in(f"{room}/seed")
@@ -48,13 +50,14 @@ def watch(folder):
         time.sleep(5)
 
 
-def crate_of(names):
+def crate_of(names: Iterable[str]) -> list[tuple[str, int]]:
     found = (re.match(r"Rattle-([a-z0-9_]+)-(?:specs|proofs)", name) for name in names)
     return collections.Counter(it[1] for it in found if it).most_common(1)
 
 
-def tell(folder, count):
-    crates = {}
+def tell(folder: str, count: int) -> None:
+    """Prints what was noted of each crate."""
+    crates: dict[str, list[list[str]]] = {}
     for path in glob.glob(f"{folder}/*.times"):
         with open(path, encoding="utf-8") as lines:
             rows = [line.split() for line in lines]
@@ -63,7 +66,8 @@ def tell(folder, count):
                 crates[crate] = rows
     told = []
     for crate, rows in crates.items():
-        took, kinds, derived = [], collections.Counter(), 0
+        took, derived = [], 0.0
+        kinds: dict[str, float] = collections.defaultdict(float)
         for (before, _), (after, name) in zip(rows, rows[1:]):
             module = name.removesuffix(".oantt").removesuffix(".decls").removeprefix("Rattle-")
             seconds = float(after) - float(before)
@@ -79,7 +83,7 @@ def tell(folder, count):
             print(f"{seconds:24.1f} {module}")
 
 
-def main():
+def main() -> None:
     if len(sys.argv) < 2:
         sys.exit(__doc__.strip())
     folder, count = sys.argv[1], int(sys.argv[2]) if len(sys.argv) > 2 else 6

@@ -13,13 +13,14 @@ all builds.
 """
 import os
 import random
-import resource
 import struct
 import subprocess
 import sys
 import tempfile
 
-HERE = os.path.dirname(os.path.abspath(__file__))
+sys.path.insert(0, os.path.join(os.path.dirname(os.path.abspath(__file__)), "../checks"))
+from common import TOP, Ended, measured, record, straight, there, write
+
 PROGRAMS = [os.path.abspath(path) for path in sys.argv[1:]]
 TIMES = int(os.environ.get("TIMES", "8"))
 PADS = [0, 16, 32, 48]
@@ -74,7 +75,7 @@ drop:   r0 = 1
 """
 
 
-def counted(turns):
+def counted(turns: int) -> str:
     return f"r1 = 0\nloop: r1 += 1\nif r1 < {turns} goto loop\nr0 = 1\nexit\n"
 
 
@@ -160,16 +161,7 @@ none:   r9 += 1
 """
 
 
-def straight(slots):
-    """Five forms in turn, each slot once."""
-    body = ["r1 = 1", "r2 = 3"]
-    forms = ["r1 += r2", "r2 ^= r1", "r1 *= 5", "r2 += 7", "r1 &= 1048575"]
-    while len(body) < slots - 2:
-        body.append(forms[len(body) % len(forms)])
-    return "\n".join(body + ["r0 = 1", "exit"]) + "\n"
-
-
-def mixed(slots):
+def mixed(slots: int) -> str:
     """Forms at random, each slot once."""
     choose = random.Random(5)
     body = [f"r{register} = {choose.randrange(1, 1000)}" for register in range(2, 10)]
@@ -182,7 +174,7 @@ def mixed(slots):
     return "\n".join(body + ["r0 = 1", "exit"]) + "\n"
 
 
-def branches():
+def branches() -> str:
     """Ten branches on the bytes of each of 64 packets in a frame. The sum goes into a number of
     which nothing is known, so that a turn begins in the state of the one before."""
     lines = ["r2 = *(u32 *)(r1 + 0)", "r3 = *(u32 *)(r1 + 4)", "r9 = *(u32 *)(r1 + 16)", "r8 = 0"]
@@ -193,7 +185,7 @@ def branches():
     return "\n".join(lines) + "\n"
 
 
-def packets(count):
+def packets(count: int) -> bytes:
     """A stream of frames of 64 packets: most of IPv4, UDP and TCP, to a few ports; what follows is random."""
     choose = random.Random(3)
     stream = [b"XPF1"]
@@ -205,58 +197,56 @@ def packets(count):
             head = b"\2\0\0\0\0\1\2\0\0\0\0\2" + kind + b"\x45\0\0\x32\0\1\0\0\x40" + bytes([protocol]) + b"\0\0"
             head += choose.randbytes(4) + b"\x0a\0\0\2\3\xe8" + struct.pack(">H", port)
             body += head + choose.randbytes(64 - len(head))
-        stream.append(struct.pack("<QIII", 0, 1, 0, len(body)) + body)
+        stream.append(record(1, (0, 1, 0), 0, body))
     return b"".join(stream)
 
 
-def plain(count):
-    return b"XPF1" + (struct.pack("<QIII", 0, 1, 0, 60) + bytes(60)) * count
+def plain(count: int) -> bytes:
+    return b"XPF1" + record(1, (0, 1, 0), 0, bytes(60)) * count
 
 
-def packaged(what):
+def packaged(what: str) -> list[str] | None:
     """What pkg-config says of DPDK, as arguments for gcc, or None if it does not know DPDK."""
     try:
-        ended = subprocess.run(["pkg-config", what, "libdpdk"], stdout=subprocess.PIPE, stderr=subprocess.DEVNULL, text=True)
+        ended = subprocess.run(
+            ["pkg-config", what, "libdpdk"], stdout=subprocess.PIPE, stderr=subprocess.DEVNULL, text=True, check=False
+        )
     except FileNotFoundError:
         return None
     return ended.stdout.split() if ended.returncode == 0 else None
 
 
-def built():
+def built() -> list[str]:
     """Builds the interpreters in C, each in all layouts, and returns their names."""
-    kinds = {kind: (flags, []) for kind, flags in INTERPRETERS.items()}
+    kinds: dict[str, tuple[list[str], list[str]]] = {kind: (flags, []) for kind, flags in INTERPRETERS.items()}
     flags, libraries = packaged("--cflags"), packaged("--libs")
     if flags is None or libraries is None:
         print("pkg-config knows no libdpdk: the column of DPDK's interpreter is left out", flush=True)
     else:
         kinds["dpdk"] = (["-O2", "-DDPDK", *flags], libraries)
-    for kind, (flags, libraries) in kinds.items():
+    for kind, (options, linked) in kinds.items():
         for pad in PADS:
-            words = ["gcc", *flags, f"-DPAD={pad + 1}", "-o", f"{kind}{pad}", os.path.join(HERE, "switch.c"), *libraries]
+            words = ["gcc", *options, f"-DPAD={pad + 1}", "-o", f"{kind}{pad}", f"{TOP}/bench/switch.c", *linked]
             subprocess.run(words, check=True)
     return list(kinds)
 
 
-def processor(words):
-    """The processor seconds of a command, and its output."""
-    before = resource.getrusage(resource.RUSAGE_CHILDREN)
-    ended = subprocess.run(words, stdout=subprocess.PIPE, stderr=subprocess.PIPE, text=True)
-    after = resource.getrusage(resource.RUSAGE_CHILDREN)
-    if words[0].startswith("./dpdk") and ended.returncode == REFUSED:
-        return 0, None
-    if ended.returncode != 0:
-        sys.exit(f"{' '.join(words)}: {ended.returncode} {ended.stdout[-200:]} {ended.stderr}")
-    return after.ru_utime + after.ru_stime - before.ru_utime - before.ru_stime, ended.stdout
+def processor(words: list[str]) -> Ended | None:
+    """How a command ended; None where DPDK's interpreter refuses the program."""
+    ended = measured(words)
+    if words[0].startswith("./dpdk") and ended.status == REFUSED:
+        return None
+    if ended.status != 0:
+        sys.exit(f"{' '.join(words)}: {ended.status} {ended.out[-200:]} {ended.err}")
+    return ended
 
 
-def assembled(name, text):
-    with open(name + ".text", "w") as file:
-        file.write(text)
-    processor([PROGRAMS[0], "asm", name + ".text", name + ".image"])
+def assembled(name: str, text: str) -> str:
+    processor([PROGRAMS[0], "asm", write(name + ".text", text), name + ".image"])
     return name + ".image"
 
 
-def steps_of(report):
+def steps_of(report: str) -> int:
     return sum(int(line.split()[3]) for line in report.splitlines() if line.split()[1] == "DROP")
 
 
@@ -264,38 +254,39 @@ def steps_of(report):
 PARTS = [("p.image", "p.frames"), ("p.image", "none.frames"), ("idle.image", "p.frames"), ("idle.image", "none.frames")]
 
 
-def frames_of(best, way):
+def frames_of(best: dict[object, float], way: tuple[str, str]) -> float:
     """What a program takes for the frames, less what one that exits at once takes for them."""
     whole, ready, idle, idle_ready = (best[way, part] for part in PARTS)
     return whole - ready - (idle - idle_ready)
 
 
-def compared(kinds, name, text, stream):
+def compared(kinds: list[str], name: str, text: str, stream: bytes) -> None:
+    """Prints a row: a program on a stream, by each interpreter."""
     assembled("p", text)
-    with open("p.frames", "wb") as file:
-        file.write(stream)
-    best, counts, sums = {}, set(), set()
+    write("p.frames", stream)
+    best: dict[object, float] = {}
+    counts, sums = set(), set()
 
-    def took(key, seconds):
+    def took(key: object, seconds: float) -> None:
         best[key] = min(best.get(key, 1e9), seconds)
 
     for _ in range(TIMES):
         for kind in kinds:
             for pad in PADS:
-                told = processor([f"./{kind}{pad}", "p.image", "p.frames", "1"])[1]
-                if told is None:
+                ended = processor([f"./{kind}{pad}", "p.image", "p.frames", "1"])
+                if ended is None:
                     continue
-                steps, seconds, results = told.split()
+                steps, seconds, results = ended.out.split()
                 took(kind, float(seconds))
                 sums.add(int(results))
                 if kind != "dpdk":
                     counts.add(int(steps))
         for way in [(command, program) for program in PROGRAMS for command in ["run", "trace"]]:
             for part in PARTS:
-                seconds, report = processor([way[1], way[0], *part, "sent"])
-                took((way, part), seconds)
+                ended = there(processor([way[1], way[0], *part, "sent"]))
+                took((way, part), ended.seconds)
                 if part == PARTS[0]:
-                    counts.add(steps_of(report))
+                    counts.add(steps_of(ended.out))
     if len(counts) != 1 or len(sums) != 1:
         sys.exit(f"{name}: steps {counts}, sums of the results {sums}")
     runs = [frames_of(best, ("run", program)) for program in PROGRAMS]
@@ -306,12 +297,12 @@ def compared(kinds, name, text, stream):
     print(f"{name:<44}{plain_step:>7.2f}{others}{min(runs) / best['switch']:>9.2f}{traced / min(runs):>11.1f}   {each}", flush=True)
 
 
-def main():
+def main() -> None:
     rows = [
         ("packet parse, 64 in a frame", PARSE, packets(5000)),
         ("loop of 2 instructions", counted(499_998), plain(400)),
         ("loop of 7 instructions", SEVEN, plain(300)),
-        ("3,000 straight slots, 5 forms in turn", straight(3_000), plain(40_000)),
+        ("3,000 straight slots, 5 forms in turn", straight(3_000, 1), plain(40_000)),
         ("3,000 straight slots, forms at random", mixed(3_000), plain(20_000)),
         ("byte loop over a stack frame", FRAME, plain(800)),
         ("byte loop over a packet", PACKET, packets(2000)),
@@ -322,8 +313,7 @@ def main():
         os.chdir(folder)
         kinds = built()
         assembled("idle", IDLE)
-        with open("none.frames", "wb") as file:
-            file.write(plain(0))
+        write("none.frames", plain(0))
         columns = "".join(f"{kind + '/C':>9}" for kind in kinds[1:])
         print(f"{'program':<44}{'C ns':>7}{columns}{'run/C':>9}{'trace/run':>11}   run/C of each build")
         for name, text, stream in rows:

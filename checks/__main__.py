@@ -11,14 +11,15 @@ pages' examples each. The exit status is 0 if all pass. `near` proves only the f
 import argparse
 import os
 import re
-import subprocess
 import sys
 import time
 from concurrent.futures import ThreadPoolExecutor, as_completed
 from dataclasses import dataclass
 
-from . import near
-from .listed import CHECKS, TOP, Check
+sys.path.insert(0, os.path.dirname(os.path.abspath(__file__)))
+import near
+from common import said_by
+from listed import CHECKS, TOP, Check
 
 CANNOT = 77
 EXAMPLES = re.compile(r"^(\d+) examples, (\d+) differ$")
@@ -49,8 +50,8 @@ class Result:
 
 def run(check: Check) -> Result:
     begin = time.monotonic()
-    ran = subprocess.run(check.command.split(), cwd=TOP, stdin=subprocess.DEVNULL, stdout=subprocess.PIPE, stderr=subprocess.STDOUT, text=True, errors="replace", check=False)
-    return Result(check, ran.returncode, ran.stdout, time.monotonic() - begin)
+    status, said = said_by(check.command.split(), str(TOP))
+    return Result(check, status, said, time.monotonic() - begin)
 
 
 def tell(result: Result) -> None:
@@ -81,7 +82,9 @@ def run_all(checks: list[Check], jobs: int) -> list[Result]:
 def main() -> int:
     if sys.argv[1:2] == ["near"]:
         return near.main(sys.argv[2:])
-    words = argparse.ArgumentParser(prog="python3 -m checks", description=__doc__, formatter_class=argparse.RawDescriptionHelpFormatter)
+    words = argparse.ArgumentParser(
+        prog="python3 -m checks", description=__doc__, formatter_class=argparse.RawDescriptionHelpFormatter
+    )
     words.add_argument("--list", action="store_true")
     words.add_argument("--jobs", type=int, default=len(os.sched_getaffinity(0)))
     words.add_argument("names", nargs="*", metavar="NAME")

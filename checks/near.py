@@ -4,8 +4,8 @@ usage: python3 -m checks near [--since COMMIT] [--jobs N] [CRATE::FUNCTION ..]
 
 Without a function these are all in which a line of crates/*/src differs from COMMIT (the default: HEAD), or whose answers do. A
 function is named as its proof's folder is: `ranges::range::Range::alu`. Where its contract changed, each function of the crate that
-calls it is proved too, and the crates above that have to be built anew are named. A proof rests on the contracts of the crate's other
-functions, whose own proofs are left open. The libraries are those that the gate left in crates/*/out.
+calls it is proved too, and the crates above that have to be built anew are named. A proof rests on the contracts of the crate's
+other functions, whose own proofs are left open. The libraries are those that the gate left in crates/*/out.
 Definitions and laws (specs/, proofs/*.antt) may concern every function of a crate: they are named, and `rt check` proves the crate.
 
 The exit status is 0 if all is proved and each edit is refused, else 1. It is no gate: `.ci/run` is.
@@ -18,14 +18,13 @@ import time
 from collections.abc import Iterator
 from concurrent.futures import ThreadPoolExecutor
 from dataclasses import dataclass, field
-from pathlib import Path
 
-from .listed import TOP
+from listed import TOP
 
 sys.path.insert(0, str(TOP / "assurance"))
 
-import edits  # noqa: E402  pylint: disable=wrong-import-position
-import run  # noqa: E402  pylint: disable=wrong-import-position
+import edits
+import run
 
 HUNK = re.compile(r"^@@ -\S+ \+(\d+)(?:,(\d+))? @@")
 FILE = re.compile(r"^\+\+\+ b/crates/(\w+)/(.+)$")
@@ -66,11 +65,11 @@ def seen_in(crate: str, file: str, lines: range, found: Changed) -> None:
     at = TOP / "crates" / crate / file
     if file.startswith("src/") and file.endswith(".rt") and at.is_file():
         text = at.read_text(encoding="utf-8")
-        inside = [it for it in edits.functions(file, text) if it[0] <= lines[-1] and lines[0] <= it[1]]
-        for first, last, *names in inside:
-            found.functions.add(edits.shown(file, *names))
-            if lines[0] < body_begins(text.split("\n"), first, last):
-                found.contracts.add(edits.shown(file, *names))
+        inside = [it for it in edits.functions(text) if it.first <= lines[-1] and lines[0] <= it.last]
+        for it in inside:
+            found.functions.add(edits.shown(file, it))
+            if lines[0] < body_begins(text.split("\n"), it.first, it.last):
+                found.contracts.add(edits.shown(file, it))
         if not inside:
             found.files.add(file)
     elif re.match(r"proofs/.*/(Answers|Invariants|Proof)\.antt$", file):
@@ -95,10 +94,10 @@ def callers(crate: str, called: set[str]) -> set[str]:
     for file in edits.source_files(str(TOP / "crates" / crate)) if called else ():
         text = (TOP / "crates" / crate / file).read_text(encoding="utf-8")
         lines = text.split("\n")
-        for first, end, *names in edits.functions(file, text):
-            begin = body_begins(lines, first, end)
-            if re.search(rf"\b(?:{last})\(", "\n".join(lines[begin : end + 1])):
-                found.add(edits.shown(file, *names))
+        for it in edits.functions(text):
+            begin = body_begins(lines, it.first, it.last)
+            if re.search(rf"\b(?:{last})\(", "\n".join(lines[begin : it.last + 1])):
+                found.add(edits.shown(file, it))
     return found
 
 
@@ -109,12 +108,14 @@ def above(crate: str) -> list[str]:
 def is_proved(crate: str, name: str, said: list[str]) -> bool:
     """Says whether a function is proved, whatever holes the proofs of other functions have."""
     own = f".{name.replace('::', '.')}."
-    lines = [it for it in said if re.match(rf"fn {crate}::(?:\S*::)?{re.escape(name)}: (?:proved|no holes|depends on a hole in )", it)]
+    lines = [
+        it for it in said if re.match(rf"fn {crate}::(?:\S*::)?{re.escape(name)}: (?:proved|no holes|depends on a hole in )", it)
+    ]
     return bool(lines) and not any(own in it for it in lines)
 
 
 def prove(crate: str, names: set[str]) -> list[str]:
-    """What is said of these functions where they are not proved, and of errors. Their proofs rest on the contracts of the others."""
+    """What is said of these functions where they are not proved, and of errors. The proofs rest on the contracts of the others."""
     kept = TOP / "crates" / crate / "out/near"
     kept.mkdir(parents=True, exist_ok=True)
     said = run.check(crate, {}, names, str(TOP), str(kept))
@@ -127,7 +128,9 @@ def prove(crate: str, names: set[str]) -> list[str]:
 def edits_near(crate: str, names: set[str]) -> list[str]:
     """The edits of the gate and of assurance/ that change one of these functions."""
     folder = str(TOP / "crates" / crate)
-    return [it for in_gate in (True, False) for it in run.edits_of(crate, in_gate) if edits.changed_functions(folder, it)[0] & names]
+    return [
+        it for in_gate in (True, False) for it in run.edits_of(crate, in_gate) if edits.changed_functions(folder, it)[0] & names
+    ]
 
 
 def missing(crate: str) -> list[str]:
@@ -149,7 +152,10 @@ def near(crate: str, changed: Changed) -> bool:
         print(f"{crate}: the libraries of {', '.join(missing(crate))} are not there: run the gate first, bash .ci/run")
         return False
     said = prove(crate, names)
-    print("\n".join([f"{crate}: {len(names)} functions {'not all ' if said else ''}proved, {time.monotonic() - begin:.0f} s", *said]), flush=True)
+    print(
+        "\n".join([f"{crate}: {len(names)} functions {'not all ' if said else ''}proved, {time.monotonic() - begin:.0f} s", *said]),
+        flush=True,
+    )
     paths = edits_near(crate, names)
     if said or not paths:
         return not said
@@ -161,7 +167,9 @@ def near(crate: str, changed: Changed) -> bool:
 
 
 def main(given: list[str]) -> int:
-    words = argparse.ArgumentParser(prog="python3 -m checks near", description=__doc__, formatter_class=argparse.RawDescriptionHelpFormatter)
+    words = argparse.ArgumentParser(
+        prog="python3 -m checks near", description=__doc__, formatter_class=argparse.RawDescriptionHelpFormatter
+    )
     words.add_argument("--since", default="HEAD", metavar="COMMIT")
     words.add_argument("--jobs", type=int, default=2, metavar="N", help="so many crates at once")
     words.add_argument("functions", nargs="*", metavar="CRATE::FUNCTION")

@@ -22,33 +22,34 @@ import subprocess
 import sys
 import tempfile
 
-HERE = os.path.dirname(os.path.abspath(__file__))
-FOLDER = os.path.join(HERE, "filters")
+sys.path.insert(0, os.path.join(os.path.dirname(os.path.abspath(__file__)), "../checks"))
+from common import TOP, text_of
+
+FOLDER = f"{TOP}/examples/filters"
 SECONDS = 600
 
 
-def line_of(text, name):
+def line_of(text: str, name: str) -> str | None:
     """The text after a name in the comments of a source."""
     found = re.search(rf"^(?:#|/\*) {name}:? (.*?)(?: \*/)?$", text, re.M)
     return found[1] if found else None
 
 
-def counts(line):
+def counts(line: str) -> list[str]:
     return sorted(line.split(", "))
 
 
-def wrong(path, given):
+def wrong(path: str, given: argparse.Namespace) -> str | None:
     """What is wrong with the result for a filter: None, or a text."""
-    with open(path) as file:
-        text = file.read()
+    text = text_of(path)
     with tempfile.TemporaryDirectory() as folder:
         sent = os.path.join(folder, "sent.pcapng")
-        words = [sys.executable, os.path.join(HERE, "../tools/xdp.py"), os.path.basename(path), "mix.txt", sent]
+        words = [sys.executable, f"{TOP}/tools/xdp.py", os.path.basename(path), "mix.txt", sent]
         words += ["--clang", given.clang, *(["--xdpvm", os.path.abspath(given.program)] if given.program else [])]
         words += (line_of(text, "words") or "").split()
         words += ["--", *(line_of(text, "flags") or "").split()]
         try:
-            ran = subprocess.run(words, cwd=FOLDER, capture_output=True, text=True, timeout=SECONDS)
+            ran = subprocess.run(words, cwd=FOLDER, capture_output=True, text=True, timeout=SECONDS, check=False)
         except subprocess.TimeoutExpired:
             return f"no answer in {SECONDS} seconds"
         is_sent = os.path.exists(sent)
@@ -61,16 +62,20 @@ def wrong(path, given):
     if code:
         place = re.search(rf"^  {re.escape(os.path.basename(path))}:\d+: ", ran.stderr, re.M) or "gcc" in given.clang
         return None if ran.returncode == 2 and ran.stdout.startswith(f"refused {code} slot ") and place and not is_sent else told
-    return None if ran.returncode == 1 and re.search(message, ran.stderr) and "Traceback" not in ran.stderr and not is_sent else told
+    return (
+        None
+        if ran.returncode == 1 and re.search(message or "$^", ran.stderr) and "Traceback" not in ran.stderr and not is_sent
+        else told
+    )
 
 
-def paths(given):
+def paths(given: argparse.Namespace) -> list[str]:
     """The filters that are tried."""
     found = glob.glob(f"{FOLDER}/*.text") + glob.glob(f"{FOLDER}/*.c") * bool(shutil.which(given.clang))
     return [path for path in sorted(found) if not given.only or given.only in path]
 
 
-def main():
+def main() -> int:
     words = argparse.ArgumentParser(description=__doc__, formatter_class=argparse.RawDescriptionHelpFormatter)
     words.add_argument("program", nargs="?")
     words.add_argument("--clang", default="clang")

@@ -38,89 +38,82 @@ import re
 import subprocess
 import sys
 import tempfile
+from collections.abc import Iterable, Iterator
 
+sys.path.insert(0, os.path.join(os.path.dirname(os.path.abspath(__file__)), "../checks"))
+import common
+from common import TOP, text_of, write
 import filters
 
-TOP = os.path.dirname(os.path.dirname(os.path.abspath(__file__)))
-PROGRAM = os.path.abspath(sys.argv[1] if len(sys.argv) > 1 else os.path.join(TOP, "crates/xdpvm/out/xdpvm"))
-SURVEY = os.path.abspath(sys.argv[2] if len(sys.argv) > 2 else os.path.join(TOP, "crates/xdpvm_survey/out/xdpvm_survey"))
-FILTER = os.path.abspath(sys.argv[3] if len(sys.argv) > 3 else os.path.join(TOP, "crates/xdpvm_filter/out/xdpvm_filter"))
+PROGRAM, SURVEY, FILTER = common.program(), common.program("xdpvm_survey", 2), common.program("xdpvm_filter", 3)
+Example = tuple[str, str, str]  # what is tried, what is wanted, and the result
 BLOCK = re.compile(r"^```(\S+)\n(.*?)^```$", re.M | re.S)
 COMMENT = re.compile(r"(?:# .*\n)*")
 COMMAND = re.compile(r"^\$ (.*)\n((?:(?!\$ ).*\n)*)", re.M)
 
 
-def run(*words):
+def run(*words: str) -> tuple[int, str, str]:
     """The status, the standard output and the standard error of the program."""
-    ran = subprocess.run([PROGRAM, *words], stdout=subprocess.PIPE, stderr=subprocess.PIPE, text=True, timeout=600)
+    ran = subprocess.run([PROGRAM, *words], stdout=subprocess.PIPE, stderr=subprocess.PIPE, text=True, timeout=600, check=False)
     return ran.returncode, ran.stdout, ran.stderr
 
 
-def shell(command):
+def shell(command: str) -> str:
     """The standard output of a command line."""
-    ran = subprocess.run(["bash", "-c", command], stdout=subprocess.PIPE, stderr=subprocess.DEVNULL, text=True, timeout=600)
+    ran = subprocess.run(
+        ["bash", "-c", command], stdout=subprocess.PIPE, stderr=subprocess.DEVNULL, text=True, timeout=600, check=False
+    )
     return ran.stdout
 
 
-def bytes_of(path):
-    """The bytes of a file, or none where it is not there."""
-    if not os.path.exists(path):
-        return b""
-    with open(path, "rb") as file:
-        return file.read()
+def hex_of(path: str) -> str:
+    """A line with the bytes of a file, or with none where it is not there."""
+    return (common.bytes_of(path).hex() if os.path.exists(path) else "") + "\n"
 
 
-def line(text, place):
+def line(text: str, place: int) -> str:
     """One line of a text, if it has any."""
     return "".join(text.splitlines(keepends=True)[place:][:1])
 
 
-def write(name, text):
-    with open(name, "w") as file:
-        file.write(text)
+def write_hex(name: str, text: str) -> None:
+    write(name, bytes.fromhex(re.sub(r"#.*", "", text)))
 
 
-def write_hex(name, text):
-    with open(name, "wb") as file:
-        file.write(bytes.fromhex(re.sub(r"#.*", "", text)))
-
-
-def assembled(text):
+def assembled(text: str) -> str | None:
     """The refusal of `asm`, or None if it made example.image."""
     write("example.text", text)
     status, answer, why = run("asm", "example.text", "example.image")
     return answer + why if status else None
 
 
-def verified():
+def verified() -> str:
     """The verdict on example.image."""
-    status, answer, why = run("verify", "example.image")
-    return answer + why
+    return "".join(run("verify", "example.image")[1:])
 
 
-def rechecked(kind, body):
+def rechecked(kind: str, body: str) -> str:
     """The answer to a proof table of examples/pass.image."""
     if kind == "table":
         write_hex("example.table", body)
     else:
         write("example.text", body)
         shell("python3 tools/table.py make example.text example.table")
-    status, answer, why = run("recheck", "examples/pass.image", "example.table")
-    return answer + why
+    return "".join(run("recheck", "examples/pass.image", "example.table")[1:])
 
 
-def traced():
+def traced() -> str:
     """The line of the first frame, and what standard error says of it."""
-    status, report, why = run("trace", "example.image", "examples/two.frames", "sent")
+    _, report, why = run("trace", "example.image", "examples/two.frames", "sent")
     return line(report, 0) + why.split("frame 1,")[0]
 
 
-def has_tcpdump():
+def has_tcpdump() -> bool:
     """Whether the tcpdump of the pages is installed: others compile some expressions otherwise."""
     return re.search(r"tcpdump version 4\.99\..*libpcap version 1\.10\.", shell("tcpdump --version 2>&1"), re.S) is not None
 
 
-def answer_of(kind, body):
+def answer_of(kind: str, body: str) -> str:
     """The result for a block whose first comment says what is wanted."""
     if kind == "program":
         return assembled(body) or verified()
@@ -132,17 +125,17 @@ def answer_of(kind, body):
     if kind in ("table", "entries"):
         return rechecked(kind, body)
     write_hex("example.frames", body)
-    status, answer, why = run("run", "examples/pass.image", "example.frames", "sent")
+    _, answer, why = run("run", "examples/pass.image", "example.frames", "sent")
     return line(answer, -1) + why
 
 
-def has_programs(body):
+def has_programs(body: str) -> bool:
     """Whether the programs that a block calls are there."""
     fills = re.search(r"xdpvm_filter|xdp\.py .*(--maps|quota)", body)
     return ("survey" not in body or os.path.exists(SURVEY)) and (not fills or os.path.exists(FILTER))
 
 
-def tries(kind, body):
+def tries(kind: str, body: str) -> Iterator[Example]:
     """The examples of a block: what is tried, what is wanted, and the result."""
     if kind.endswith((".text", ".maps", ".cases")):
         write(kind, body)
@@ -150,28 +143,26 @@ def tries(kind, body):
         for command, wanted in COMMAND.findall(body):
             yield command, wanted, shell(command)
     elif kind in ("program", "trace", "image", "stream", "table", "entries"):
-        yield body, re.sub("^# ", "", COMMENT.match(body)[0], flags=re.M), answer_of(kind, body)
+        yield body, re.sub("^# ", "", common.there(COMMENT.match(body))[0], flags=re.M), answer_of(kind, body)
 
 
-def stored():
+def stored() -> Iterator[Example]:
     """Each stored image is made by the text beside it."""
     for text in sorted(glob.glob("examples/*.text")):
         run("asm", text, "example.image")
-        with open("example.image", "rb") as made, open(text.removesuffix(".text") + ".image", "rb") as kept:
-            yield text, kept.read().hex() + "\n", made.read().hex() + "\n"
+        yield text, hex_of(text.removesuffix(".text") + ".image"), hex_of("example.image")
 
 
-def proved():
+def proved() -> Iterator[Example]:
     """Each stored proof table is the one that `prove` writes for the image beside it, and `recheck` accepts it."""
     for table in sorted(glob.glob("examples/*.table")):
         image = table.removesuffix(".table") + ".image"
         run("prove", image, "example.table")
-        with open("example.table", "rb") as made, open(table, "rb") as kept:
-            yield table, kept.read().hex() + "\n", made.read().hex() + "\n"
+        yield table, hex_of(table), hex_of("example.table")
         yield f"{table} by recheck", run("verify", image)[1], run("recheck", image, table)[1]
 
 
-def compiled():
+def compiled() -> Iterator[Example]:
     """Each stored image of a source in C is what the clang that made it makes from it, if that is
     installed."""
     if "clang version 14." in shell("clang --version") and os.path.exists("/usr/include/linux/bpf.h"):
@@ -179,16 +170,15 @@ def compiled():
             shell(f"bash tools/compile.sh {source} example.image")
             for ending in (".image", ".image.maps"):
                 kept = source.removesuffix(".bpf.c") + ending
-                yield source, bytes_of(kept).hex() + "\n", bytes_of(f"example{ending}").hex() + "\n"
+                yield source, hex_of(kept), hex_of(f"example{ending}")
 
 
-def captured():
+def captured() -> Iterator[Example]:
     """Each stored frame stream is made from the capture beside it."""
     for capture in sorted(glob.glob("examples/*.pcapng")):
-        with open(capture.removesuffix(".pcapng") + ".frames", "rb") as kept:
-            kept = kept.read()
-        flags = "--reasons" if kept[:4] == b"XPF2" else ""
-        yield capture, kept.hex() + "\n", converted(flags, capture, "example.frames")
+        kept = hex_of(capture.removesuffix(".pcapng") + ".frames")
+        flags = "--reasons" if kept[:8] == b"XPF2".hex() else ""
+        yield capture, kept, converted(flags, capture, "example.frames")
 
 
 FRAMES = """\
@@ -199,31 +189,44 @@ frame 2000 interface 0 queue 0 reason 4294967295
   0000: 61                                              |a|
 """
 RECORDS = (
-    "58504632"                                                                      # XPF2
-    "e803000000000000" "01000000" "00000000" "02000000" "07000000" "cafe"           # time, interface, queue, length, reason
-    "ffffffffffffffff" "02000000" "00000000" "00000000" "00000000"
-    "d007000000000000" "00000000" "00000000" "01000000" "ffffffff" "61"
+    "58504632"  # XPF2
+    "e803000000000000"
+    "01000000"
+    "00000000"
+    "02000000"
+    "07000000"
+    "cafe"  # time, interface, queue, length, reason
+    "ffffffffffffffff"
+    "02000000"
+    "00000000"
+    "00000000"
+    "00000000"
+    "d007000000000000"
+    "00000000"
+    "00000000"
+    "01000000"
+    "ffffffff"
+    "61"
 )
 
 CAPTURE = (
-    "0a0d0d0a 1c000000 4d3c2b1a 01000000 ffffffff ffffffff 1c000000"                # a pcapng: its section,
-    "01000000 14000000 01000000 00000000 14000000"                                  # Ethernet, times in microseconds,
-    "06000000 34000000 00000000 00000000 01000000 02000000 02000000 cafe0000"       # a packet of two bytes,
-    "01000800 726561736f6e2037 00000000 34000000"                                   # and its comment `reason 7`
+    "0a0d0d0a 1c000000 4d3c2b1a 01000000 ffffffff ffffffff 1c000000"  # a pcapng: its section,
+    "01000000 14000000 01000000 00000000 14000000"  # Ethernet, times in microseconds,
+    "06000000 34000000 00000000 00000000 01000000 02000000 02000000 cafe0000"  # a packet of two bytes,
+    "01000800 726561736f6e2037 00000000 34000000"  # and its comment `reason 7`
 )
-CAPTURED = "58504632" "e803000000000000" "00000000" "00000000" "02000000" "07000000" "cafe"
+CAPTURED = "58504632e8030000000000000000000000000000" + "0200000007000000cafe"
 
 
-def converted(flags, given, *names):
+def converted(flags: str, given: str, *names: str) -> str:
     """The bytes of the last file, each of them made by frames.py of the one before."""
     for name in names:
         shell(f"python3 tools/frames.py {flags} {given} {name}")
         given = name
-    with open(given, "rb") as file:
-        return file.read().hex() + "\n"
+    return hex_of(given)
 
 
-def returned():
+def returned() -> Iterator[Example]:
     """Frame streams go through texts and captures unchanged, with their reasons; of a frame that is
     too long its reason is left."""
     write("example.text", FRAMES)
@@ -239,31 +242,26 @@ def returned():
         kept = f"frame {most + 1} interface 0 queue 0 reason 4294967295\n" if flags else ""
         yield f"frames of {most} bytes {flags}", f"frame {most} interface 0 queue 0\n{kept}", shown
     for stream in sorted(set(glob.glob("examples/*.frames")) - {"examples/cut.frames"}):
-        with open(stream, "rb") as kept:
-            kept = kept.read().hex() + "\n"
+        kept = hex_of(stream)
         write("example.text", shell(f"python3 tools/frames.py --show {stream}"))
         flags = "--reasons" if kept[:8] == b"XPF2".hex() else ""
         yield f"{stream} as a text", kept, converted(flags, "example.text", "example.frames")
 
 
-def reported():
+def reported() -> Iterator[Example]:
     """Each stored report is what `run` prints for the program and the frames beside it, into a pipe and into a file."""
     for report in sorted(glob.glob("examples/*.report")):
         name = report.removesuffix(".report")
-        with open(report) as kept:
-            kept = kept.read()
+        kept = text_of(report)
         yield report, kept, run("run", name + ".image", name + ".frames", "sent")[1]
         shell(f"xdpvm run {name}.image {name}.frames sent > report")
-        with open("report") as made:
-            yield f"{report} into a file", kept, made.read()
+        yield f"{report} into a file", kept, text_of("report")
 
 
-def below(name):
+def below(name: str) -> set[str]:
     """The crates that this one depends on."""
-    with open(os.path.join(TOP, "crates.txt")) as rows:
-        rows = [row.partition(":") for row in rows if row[:1] != "#"]
-    stands_on = {head.strip(): names.split() for head, _, names in rows}
-    found, left = set(), [name]
+    stands_on, left = common.crates(), [name]
+    found: set[str] = set()
     while left:
         new = [it for it in stands_on.get(left.pop(), []) if it not in found]
         found.update(new)
@@ -271,36 +269,34 @@ def below(name):
     return found
 
 
-def depends():
+def depends() -> Iterator[Example]:
     """`run` executes on words, with no test of an access: its machine depends on flatmem, and not on the checked one.
     `recheck` depends on the step and the test of covering, and on nothing of the search for a bound."""
     found = below("machine")
-    yield "crates below machine", "flatmem: True, checked_vm: False\n", f"flatmem: {'flatmem' in found}, checked_vm: {'checked_vm' in found}\n"
+    told = f"flatmem: {'flatmem' in found}, checked_vm: {'checked_vm' in found}\n"
+    yield "crates below machine", "flatmem: True, checked_vm: False\n", told
     search = {"explorer", "walks", "state_index", "explanations", "proof_table"}
     wanted = {"transfer", "state_cover"}
     found = below("rechecking") & (search | wanted)
     yield "crates below rechecking", f"{sorted(wanted)}\n", f"{sorted(found)}\n"
 
 
-def crates_on_pages():
+def crates_on_pages() -> Iterator[Example]:
     """Each crate of crates.txt has a row in ARCHITECTURE.md, and no other one has."""
-    with open(os.path.join(TOP, "crates.txt")) as rows:
-        crates = {row.split(":")[0].split()[0] for row in rows if row.strip() and row[0] != "#"}
-    with open(os.path.join(TOP, "docs/ARCHITECTURE.md")) as file:
-        table = file.read().split("\n## Crates\n")[1].split("\n## ")[0]
+    crates = set(common.crates())
+    table = text_of(os.path.join(TOP, "docs/ARCHITECTURE.md")).split("\n## Crates\n")[1].split("\n## ")[0]
     named = {name for row in re.findall(r"^\| (\[?`[^|]*) \|", table, re.M) for name in re.findall(r"`(\w+)`", row)}
     yield "crates that differ in docs/ARCHITECTURE.md", "[]\n", f"{sorted(crates ^ named)}\n"
 
 
-def anchors(page):
+def anchors(page: str) -> tuple[str, set[str]]:
     """The anchors of a page's headings."""
-    with open(page) as file:
-        text = re.sub(r"^```.*?^```$", "", file.read(), flags=re.M | re.S)
+    text = re.sub(r"^```.*?^```$", "", text_of(page), flags=re.M | re.S)
     heads = [re.sub(r"[^\w\- ]", "", head.strip().lower()) for head in re.findall(r"^#+ (.*)$", text, re.M)]
     return text, {head.replace(" ", "-") for head in heads}
 
 
-def links(pages):
+def links(pages: list[str]) -> Iterator[Example]:
     """Each link of a page leads to a file that is there, and to a heading."""
     for page in pages:
         wrong = []
@@ -312,25 +308,24 @@ def links(pages):
         yield f"links of {os.path.relpath(page, TOP)}", "[]\n", f"{wrong}\n"
 
 
-def filters_answer():
+def filters_answer() -> Iterator[Example]:
     """Each filter of examples/filters has the result that its first line says, those in C where
     clang is installed, and each that the page on C names is there."""
     has_headers = os.path.exists("/usr/include/linux/bpf.h")
     asked = argparse.Namespace(program=PROGRAM, clang="clang" if has_headers else "no compiler", only=None)
     for path in filters.paths(asked):
         yield os.path.relpath(path, TOP), "", filters.wrong(path, asked) or ""
-    with open(os.path.join(TOP, "docs/COMPILED.md")) as page:
-        named = set(re.findall(r"`(\w+\.c)`", page.read()))
+    named = set(re.findall(r"`(\w+\.c)`", text_of(os.path.join(TOP, "docs/COMPILED.md"))))
     yield "filters that COMPILED.md names", "[]\n", f"{sorted(named - set(os.listdir(filters.FOLDER)))}\n"
 
 
-def main():
+def main() -> None:
     if not os.access(PROGRAM, os.X_OK):
         sys.exit(f"there is no program {PROGRAM}: give one, or build it as README.md says")
     pages = [os.path.join(TOP, "README.md"), *sorted(glob.glob(os.path.join(TOP, "docs/*.md")))]
     runs = failures = 0
 
-    def count(where, examples):
+    def count(where: str, examples: Iterable[Example]) -> None:
         nonlocal runs, failures
         for what, wanted, answer in examples:
             runs += 1
@@ -351,9 +346,8 @@ def main():
         os.environ["XDPVM_FILTER"] = FILTER
         os.environ["PATH"] = os.path.join(folder, "bin") + os.pathsep + os.environ["PATH"]
         for page in pages:
-            with open(page) as file:
-                for kind, body in BLOCK.findall(file.read()):
-                    count(os.path.relpath(page, TOP), tries(kind, body))
+            for kind, body in BLOCK.findall(text_of(page)):
+                count(os.path.relpath(page, TOP), tries(kind, body))
         count("examples", stored())
         count("examples", proved())
         count("examples", compiled())

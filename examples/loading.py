@@ -43,30 +43,30 @@ def inside(script: str, *words: str) -> int:
         print(f"{name}: not tried, since there is no {', no '.join(missing())}")
         return CANNOT
     apart = ["unshare", "-m", "-n", "--propagation", "private"]
-    tried = subprocess.run([*apart, "bash", "-c", PREPARED], capture_output=True, text=True)
+    tried = subprocess.run([*apart, "bash", "-c", PREPARED], capture_output=True, text=True, check=False)
     if tried.returncode:
         print(f"{name}: not tried, since a namespace with BPF cannot be made here: {tried.stderr.strip()}")
         return CANNOT
     start = f'{PREPARED} && exec "$@"'
-    return subprocess.run([*apart, "bash", "-c", start, "bash", sys.executable, script, INSIDE, *words]).returncode
+    return subprocess.run([*apart, "bash", "-c", start, "bash", sys.executable, script, INSIDE, *words], check=False).returncode
 
 
 def examples(page: str) -> Iterator[Tuple[str, str, str]]:
     """Each command of a page, with the output that it says and the one that there is; files of the page are written."""
     for kind, body in BLOCK.findall(page):
         if kind.endswith(".text"):
-            with open(kind, "w") as file:
+            with open(kind, "w", encoding="utf-8") as file:
                 file.write(body)
         for command, wanted in COMMAND.findall(body) if kind in ("console", "namespace") else []:
             ran = subprocess.run(
-                ["bash", "-c", command], stdin=subprocess.DEVNULL, capture_output=True, text=True, timeout=100
+                ["bash", "-c", command], stdin=subprocess.DEVNULL, capture_output=True, text=True, timeout=100, check=False
             )
             yield command, wanted, ran.stdout + (f"{ran.stderr}" if ran.stdout != wanted else "")
 
 
 def run_page(program: str) -> int:
     runs = differ = 0
-    with open(os.path.join(TOP, PAGE)) as file:
+    with open(os.path.join(TOP, PAGE), encoding="utf-8") as file:
         page = file.read()
     with tempfile.TemporaryDirectory() as folder:
         os.chdir(folder)

@@ -15,15 +15,15 @@ import struct
 import subprocess
 import sys
 import tempfile
+from collections.abc import Callable, Iterator
 
-TOP = os.path.dirname(os.path.dirname(os.path.abspath(__file__)))
-PROGRAM, FILTER = (
-    os.path.abspath(sys.argv[at] if len(sys.argv) > at else os.path.join(TOP, f"crates/{name}/out/{name}"))
-    for at, name in ((1, "xdpvm"), (2, "xdpvm_filter"))
-)
+sys.path.insert(0, os.path.join(os.path.dirname(os.path.abspath(__file__)), "../checks"))
+import common
+from common import TOP
 
-with open(os.path.join(TOP, "VERSION"), encoding="utf-8") as of_version:
-    VERSION = of_version.read().strip()
+PROGRAM, FILTER = common.program(), common.program("xdpvm_filter", 2)
+VERSION = common.text_of(f"{TOP}/VERSION").strip()
+Row = tuple[object, tuple[object, str], tuple[object, str]]  # what is tried, what is wanted, and what was found
 
 # A text, its refusal by `asm`, and the hint.
 TEXTS = (
@@ -98,10 +98,16 @@ PROGRAMS = (
     (b"call pc+1\nr0 = 0\nexit\n", "refused G3 slot 1", "at slot 2, the function begins that slot 0 calls"),
     (b"r0 = 2\nexit\nr0 = 1\nexit\n", "refused G4 slot 2", "nor a jump or call leads here"),
     (b"r0 = 2\nexit\ngoto +0\ngoto -2\n", "refused G4 slot 2", "slot 3 leads here, and is not reached either"),
-    (b"goto +2\ncall pc+1\nexit\nr0 = 2\nexit\n", "refused G5 slot 0",
-     "it leads to slot 3, in the function from slot 3 on (called at slot 1), and is in that from slot 0 on"),
-    (b"r2 = *(u32 *)(r1 + 12)\nr3 = 0\nr3 += 1\nif r3 < r2 goto -2\nr0 = 2\nexit\n", "refused V19 slot 4",
-     "slots 2 to 3 are taken again and again, 250000 times on this path"),
+    (
+        b"goto +2\ncall pc+1\nexit\nr0 = 2\nexit\n",
+        "refused G5 slot 0",
+        "it leads to slot 3, in the function from slot 3 on (called at slot 1), and is in that from slot 0 on",
+    ),
+    (
+        b"r2 = *(u32 *)(r1 + 12)\nr3 = 0\nr3 += 1\nif r3 < r2 goto -2\nr0 = 2\nexit\n",
+        "refused V19 slot 4",
+        "slots 2 to 3 are taken again and again, 250000 times on this path",
+    ),
     (b"r0 = 0\ngoto -1\n", "refused V18 slot 1", "change a register in the loop that its test reads"),
 )
 
@@ -126,14 +132,24 @@ STREAMS = (
 
 # A program text, the line of `trace` for its first frame of 14 bytes, and what standard error says of it.
 TRACES = (
-    (b"r0 = *(u64 *)(r10 - 8)\nexit\n", "0 TRAP unset 14 0", ("frame 0, slot 0: r0 = *(u64 *)(r10 - 8)", "r10: frame pointer at 0")),
-    (b"r2 = *(u32 *)(r1 + 0)\nr0 = *(u8 *)(r2 + 14)\nexit\n", "0 TRAP access 14 1",
-     ("frame 0, slot 1: r0 = *(u8 *)(r2 + 14)", "r2: packet pointer at 0")),
+    (
+        b"r0 = *(u64 *)(r10 - 8)\nexit\n",
+        "0 TRAP unset 14 0",
+        ("frame 0, slot 0: r0 = *(u64 *)(r10 - 8)", "r10: frame pointer at 0"),
+    ),
+    (
+        b"r2 = *(u32 *)(r1 + 0)\nr0 = *(u8 *)(r2 + 14)\nexit\n",
+        "0 TRAP access 14 1",
+        ("frame 0, slot 1: r0 = *(u8 *)(r2 + 14)", "r2: packet pointer at 0"),
+    ),
     (b"r0 = 2\n", "0 TRAP code 14 1", ("frame 0, slot 1: no instruction begins there", "end each path by exit")),
     (b"r0 = 77\nexit\n", "0 INVALID 14 2", ("frame 0, slot 1: exit", "r0: number 77", "r0 names no action")),
     (b"r0 = 0\ngoto -1\n", "0 LIMIT 14 1000000", ("frame 0, slot 1: goto -1", "the limit of steps is reached")),
-    (b"r2 = -1\nif r2 == r1 goto +0\nexit\n", "0 TRAP compare 14 1",
-     ("frame 0, slot 1: if r2 == r1 goto +0", "r2: number -1", "r1: context pointer at 0")),
+    (
+        b"r2 = -1\nif r2 == r1 goto +0\nexit\n",
+        "0 TRAP compare 14 1",
+        ("frame 0, slot 1: if r2 == r1 goto +0", "r2: number -1", "r1: context pointer at 0"),
+    ),
     (b"r0 = 2\nexit\n", "0 PASS 14 2", ()),
 )
 
@@ -235,17 +251,17 @@ FILTERS = (
 )
 
 
-def filters(folder, write):
+def filters(folder: str, write: Callable[[str, bytes], None]) -> Iterator[Row]:
     """What xdpvm_filter says: the exit status, the first or the last line of standard output, and standard error."""
-    def run(*words):
+
+    def run(*words: str) -> tuple[int, list[str], str]:
         ran = subprocess.run([FILTER, *words], cwd=folder, capture_output=True, timeout=60, check=False)
         return ran.returncode, ran.stdout.decode().splitlines() or [""], ran.stderr.decode()
 
-    def sent():
-        with open(os.path.join(folder, "sent"), "rb") as file:
-            return file.read()
+    def sent() -> bytes:
+        return common.bytes_of(os.path.join(folder, "sent"))
 
-    def make(text):
+    def make(text: bytes) -> None:
         write("text", text)
         subprocess.run([PROGRAM, "asm", "text", "image"], cwd=folder, check=True, capture_output=True)
 
@@ -279,15 +295,15 @@ def filters(folder, write):
         yield words, (wanted, line if silent else ""), ((ended, out[0], sent(), err != ""), err.split("\n", 1)[0])
 
 
-def rows(folder):
+def rows(folder: str) -> Iterator[Row]:
     """What is tried, what is wanted, and whether the result is that."""
-    def run(*words):
+
+    def run(*words: str) -> tuple[list[str], list[str]]:
         ran = subprocess.run([PROGRAM, *words], cwd=folder, stdout=subprocess.PIPE, stderr=subprocess.PIPE, timeout=60, check=False)
         return ran.stdout.decode().splitlines() or [""], ran.stderr.decode().splitlines() or [""]
 
-    def write(name, content):
-        with open(os.path.join(folder, name), "wb") as file:
-            file.write(content)
+    def write(name: str, content: bytes) -> None:
+        common.write(os.path.join(folder, name), content)
 
     for text, line, help_line in TEXTS:
         write("text", text)
@@ -319,19 +335,16 @@ def rows(folder):
     yield from expressions()
 
 
-def expressions():
+def expressions() -> Iterator[Row]:
     """What filter.py says, and what xdp.py says of an expression: with a tcpdump that refuses, or without any."""
     path = os.environ["PATH"]
     for words, given, line in EXPRESSIONS:
         with tempfile.TemporaryDirectory() as folder:
             if given.startswith("tcpdump: ") or words[0] == "xdp" and given:
                 how = ">&2\nexit 1" if given.startswith("tcpdump: ") else ""
-                with open(f"{folder}/tcpdump", "w") as file:
-                    file.write(f"#!/bin/sh\necho {shlex.quote(given)} {how}\n")
-                os.chmod(f"{folder}/tcpdump", 0o755)
-            with open(f"{folder}/cut.pcap", "wb") as file:
-                file.write(CUT)
-            words = [it.replace("FOLDER", folder) for it in words]
+                os.chmod(common.write(f"{folder}/tcpdump", f"#!/bin/sh\necho {shlex.quote(given)} {how}\n"), 0o755)
+            common.write(f"{folder}/cut.pcap", CUT)
+            words = tuple(it.replace("FOLDER", folder) for it in words)
             os.environ["PATH"] = folder
             try:
                 tool = os.path.join(TOP, f"tools/{words[0]}.py")
@@ -347,36 +360,71 @@ CUT = struct.pack("<IHHiIIIIIII", 0xA1B2C3D4, 2, 4, 0, 0, 65535, 1, 1, 1, 20, 10
 # What filter.py or xdp.py is asked for, with what is on its standard input (a tcpdump that refuses says a line that begins
 # with its name; one for xdp.py says a classic program), and the last line of standard error.
 EXPRESSIONS = (
-    (("filter", "udp prt 53"), "tcpdump: can't parse filter expression: syntax error",
-     "filter.py: 'udp prt 53': can't parse filter expression: syntax error"),
-    (("filter", "host nosuch.invalid"), "tcpdump: unknown host 'nosuch.invalid'",
-     "filter.py: 'host nosuch.invalid': unknown host 'nosuch.invalid'"),
-    (("filter", "ip and not ip"), "tcpdump: expression rejects all packets", "filter.py: 'ip and not ip': expression rejects all packets"),
-    (("xdp", "--xdpvm", PROGRAM, "-e", "udp prt 53"), "tcpdump: can't parse filter expression: syntax error",
-     "xdp.py: 'udp prt 53': can't parse filter expression: syntax error"),
+    (
+        ("filter", "udp prt 53"),
+        "tcpdump: can't parse filter expression: syntax error",
+        "filter.py: 'udp prt 53': can't parse filter expression: syntax error",
+    ),
+    (
+        ("filter", "host nosuch.invalid"),
+        "tcpdump: unknown host 'nosuch.invalid'",
+        "filter.py: 'host nosuch.invalid': unknown host 'nosuch.invalid'",
+    ),
+    (
+        ("filter", "ip and not ip"),
+        "tcpdump: expression rejects all packets",
+        "filter.py: 'ip and not ip': expression rejects all packets",
+    ),
+    (
+        ("xdp", "--xdpvm", PROGRAM, "-e", "udp prt 53"),
+        "tcpdump: can't parse filter expression: syntax error",
+        "xdp.py: 'udp prt 53': can't parse filter expression: syntax error",
+    ),
     (("filter", "ip"), "", "filter.py: there is no tcpdump to compile the expression; Debian's package tcpdump has it"),
-    (("xdp", "--xdpvm", PROGRAM, "-e", "ip"), "", "xdp.py: there is no tcpdump to compile the expression; Debian's package tcpdump has it"),
-    (ON_CUT, "4\n128 0 0 0\n53 0 1 50\n6 0 0 9999\n6 0 0 0",
-     "the expression asks for the length: tcpdump takes that on the wire, and here it is that of the bytes"),
+    (
+        ("xdp", "--xdpvm", PROGRAM, "-e", "ip"),
+        "",
+        "xdp.py: there is no tcpdump to compile the expression; Debian's package tcpdump has it",
+    ),
+    (
+        ON_CUT,
+        "4\n128 0 0 0\n53 0 1 50\n6 0 0 9999\n6 0 0 0",
+        "the expression asks for the length: tcpdump takes that on the wire, and here it is that of the bytes",
+    ),
     (ON_CUT, "4\n48 0 0 0\n53 0 1 50\n6 0 0 9999\n6 0 0 0", "1 frames were cut when they were captured: only those bytes are here"),
     (CLASSIC, "ip\n", "filter.py: this is not what `tcpdump -ddd` writes: a count, and then four numbers on each line"),
     (CLASSIC, "2\n6 0 0 0\n", "filter.py: this is not what `tcpdump -ddd` writes: a count, and then four numbers on each line"),
-    (CLASSIC, "1\n6 0 0 4294967296\n", "filter.py: this is not what `tcpdump -ddd` writes: a count, and then four numbers on each line"),
+    (
+        CLASSIC,
+        "1\n6 0 0 4294967296\n",
+        "filter.py: this is not what `tcpdump -ddd` writes: a count, and then four numbers on each line",
+    ),
     (CLASSIC, "1\n255 0 0 0\n", "filter.py: instruction 0 has the code 0xff, which is none of the classic packet filter"),
     (CLASSIC, "1\n21 5 0 0\n", "filter.py: instruction 0 leads out of the program"),
     (CLASSIC, "2\n2 0 0 16\n6 0 0 0\n", "filter.py: instruction 0 names M[16], and there are 16"),
-    (CLASSIC, "3\n40 0 0 4294963204\n21 0 0 0\n6 0 0 1\n",
-     "filter.py: inbound and outbound ask for the direction of a frame: every frame of XDP comes in"),
-    (CLASSIC, "2\n48 0 0 4294963248\n22 0 0 0\n", "filter.py: the tag that a card has removed is not known here: compile without an interface"),
+    (
+        CLASSIC,
+        "3\n40 0 0 4294963204\n21 0 0 0\n6 0 0 1\n",
+        "filter.py: inbound and outbound ask for the direction of a frame: every frame of XDP comes in",
+    ),
+    (
+        CLASSIC,
+        "2\n48 0 0 4294963248\n22 0 0 0\n",
+        "filter.py: the tag that a card has removed is not known here: compile without an interface",
+    ),
     (CLASSIC, "2\n48 0 0 4294963201\n22 0 0 0\n", "filter.py: instruction 0 asks the kernel for field 1"),
     (("filter",), "", "filter.py: error: one EXPRESSION is wanted, in quotes, or --classic FILE, and then at most one TEXT"),
-    (("filter", "--reason", "7", "--other", "TX", "ip"), "", "filter.py: error: --reason says why a frame is dropped, and --other sends it on"),
+    (
+        ("filter", "--reason", "7", "--other", "TX", "ip"),
+        "",
+        "filter.py: error: --reason says why a frame is dropped, and --other sends it on",
+    ),
     (("filter", "--turns", "1153", "ip"), "", "filter.py: error: argument --turns: '1153': a number from 0 to 1152 is wanted"),
     (("filter", "--classic", "/nowhere/it"), "", "filter.py: /nowhere/it: No such file or directory"),
 )
 
 
-def main():
+def main() -> int:
     for path, crate in ((PROGRAM, "xdpvm"), (FILTER, "xdpvm_filter")):
         if not os.access(path, os.X_OK):
             sys.exit(f"messages.py: there is no program {path}; `rt run` in crates/{crate} builds it")

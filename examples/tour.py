@@ -23,18 +23,13 @@ import sys
 import tempfile
 from typing import NoReturn
 
-TOP = os.path.dirname(os.path.dirname(os.path.abspath(__file__)))
-sys.path.insert(0, os.path.join(TOP, "assurance"))
-
-import run  # noqa: E402  pylint: disable=wrong-import-position
+sys.path.insert(0, os.path.join(os.path.dirname(os.path.abspath(__file__)), "../checks"))
+import common
+from common import TOP, text_of
+import run
 
 PAGE = os.path.join(TOP, "docs/TOUR.md")
 COMMAND = re.compile(r"^\$ (.*)\n((?:(?!\$ ).*\n)*)", re.M)
-
-
-def text_of(path: str) -> str:
-    with open(path, encoding="utf-8") as file:
-        return file.read()
 
 
 def libraries_for(crates: set[str], room: str) -> str:
@@ -50,8 +45,7 @@ def checked(crate: str, functions: list[str], libraries: str, room: str) -> str:
     """What a check of functions of the crate in the room prints."""
     only = [word for it in functions for word in ("--only", f"{crate}::{it}")]
     words = [f"{run.KIT}/bin/rattle", "check", *run.words(crate, libraries), *only]
-    how = {"stdin": subprocess.DEVNULL, "stdout": subprocess.PIPE, "stderr": subprocess.STDOUT, "text": True, "errors": "replace"}
-    return subprocess.run(words, cwd=room, check=False, **how).stdout
+    return common.said_by(words, room)[1]
 
 
 def fits(wanted: list[str], said: list[str]) -> bool:
@@ -92,17 +86,22 @@ def wrong_row(files: str, functions: str) -> str:
 
 
 def costs(page: str) -> list[str]:
-    """How each row of what a change costs differs from what bench/costs.py prints; empty where it does not. A percent is the size of a crate
-    that is estimated."""
+    """How each row of what a change costs differs from what bench/costs.py prints; empty where it does not. A
+    percent is the size of a crate that is estimated."""
     rows = re.findall(r"^\| `(\w+)` \| (\d+) of (\d+) \| ([\d,]+) \| ([\d,]+) \|$", page, re.M)
-    printed = subprocess.run([sys.executable, f"{TOP}/bench/costs.py", *(it[0] for it in rows)], capture_output=True, text=True, check=True).stdout
+    printed = subprocess.run(
+        [sys.executable, f"{TOP}/bench/costs.py", *(it[0] for it in rows)], capture_output=True, text=True, check=True
+    ).stdout
     now = re.findall(r"^\| `(\w+)` \| (\d+) of (\d+) \| ([\d,]+) \| ([\d,]+) \|$", printed, re.M)
 
     def is_near(one: str, other: str) -> bool:
         a, b = (int(it.replace(",", "")) for it in (one, other))
         return abs(a - b) * 100 <= b
 
-    return ["" if old[:3] == new[:3] and all(map(is_near, old[3:], new[3:])) else f"{old[0]}: costs.py prints {new}" for old, new in zip(rows, now)]
+    return [
+        "" if old[:3] == new[:3] and all(map(is_near, old[3:], new[3:])) else f"{old[0]}: costs.py prints {new}"
+        for old, new in zip(rows, now)
+    ]
 
 
 def told(found: list[str]) -> NoReturn:
@@ -137,10 +136,9 @@ def whole(page: str) -> list[str]:
                     subprocess.run(shlex.split(command), cwd=f"{at}/crates/known_bits", check=True)
                 continue
             script = "set -e\n" + body.replace("git clone URL", f"git clone -q {shlex.quote(TOP)}")
-            how = {"stdin": subprocess.DEVNULL, "stdout": subprocess.PIPE, "stderr": subprocess.STDOUT, "text": True, "errors": "replace"}
-            ran = subprocess.run(["bash", "-c", script], cwd=at, env=own, check=False, **how)
-            is_fine = ran.returncode == 0 and re.search(next(wanted), ran.stdout)
-            found.append("" if is_fine else f"{body}ended with status {ran.returncode}:\n{ran.stdout[-3000:]}")
+            status, said = common.said_by(["bash", "-c", script], at, own)
+            is_fine = status == 0 and re.search(next(wanted), said)
+            found.append("" if is_fine else f"{body}ended with status {status}:\n{said[-3000:]}")
     return found
 
 

@@ -6,7 +6,8 @@ usage: python3 tests/bridge.py [ARCHIVE [PROGRAM]] [--fuzz SECONDS [--pause MICR
 Builds the bridge over the library ARCHIVE (the default: crates/xdpvm_c/out/libxdpvm_c.a), and runs it between two pairs of
 virtual interfaces: ICMP, 100 MB of TCP with their checksum, UDP to a port that is allowed and to one that is not, a filter that
 changes and one that is refused while frames come, and random frames, of which those that come out are those that PROGRAM
-(crates/xdpvm/out/xdpvm) writes for the bridge's own capture. --fuzz only sends random frames, for so long, with a pause after each (50 microseconds).
+(crates/xdpvm/out/xdpvm) writes for the bridge's own capture. --fuzz only sends random frames, for so long, with a pause after each
+(50 microseconds).
 
 The exit status is 0 if all is as it is to be, 1 if not, and 77 where network namespaces cannot be made.
 """
@@ -107,7 +108,22 @@ class Ends:
         self.sleepers = [subprocess.Popen(["unshare", "-n", "sleep", "100000"]) for _ in range(2)]
         time.sleep(0.3)
         for here, there, address, sleeper in zip(("in0", "out0"), ("left0", "right0"), (LEFT, RIGHT), self.sleepers):
-            called("ip", "link", "add", "name", here, "mtu", str(LONGEST - 14), "type", "veth", "peer", "name", there, "mtu", str(LONGEST - 14))
+            called(
+                "ip",
+                "link",
+                "add",
+                "name",
+                here,
+                "mtu",
+                str(LONGEST - 14),
+                "type",
+                "veth",
+                "peer",
+                "name",
+                there,
+                "mtu",
+                str(LONGEST - 14),
+            )
             called("ip", "link", "set", "dev", there, "netns", str(sleeper.pid))
             called("sysctl", "-qw", f"net.ipv6.conf.{here}.disable_ipv6=1")
             called("ip", "link", "set", "dev", here, "up")
@@ -275,7 +291,10 @@ class Bridge:
         """The last counts of the way from `in0` that were printed."""
         lines = [it for it in self.said.read_text().splitlines() if it.startswith("in0 to out0: ")]
         need(lines, "no counts were printed")
-        return {name: int(number) for number, _, name in (it.partition(" ") for it in lines[-1].removeprefix("in0 to out0: ").split(", "))}
+        return {
+            name: int(number)
+            for number, _, name in (it.partition(" ") for it in lines[-1].removeprefix("in0 to out0: ").split(", "))
+        }
 
     def maps(self) -> list[str]:
         return [it for it in self.said.read_text().splitlines() if it.startswith("map ")]
@@ -284,7 +303,10 @@ class Bridge:
 def ends_with(program: Path, status: int, words: str, *given_words: str, prefix: tuple[str, ...] = ()) -> None:
     """The bridge ends at once with this status, and one line that has these words."""
     ran = subprocess.run([*prefix, str(program), *given_words], capture_output=True, text=True, timeout=20, check=False)
-    need(ran.returncode == status and ran.stderr.count("\n") == 1 and words in ran.stderr, f"bridge {' '.join(given_words)}: {ran.returncode}, {ran.stderr}")
+    need(
+        ran.returncode == status and ran.stderr.count("\n") == 1 and words in ran.stderr,
+        f"bridge {' '.join(given_words)}: {ran.returncode}, {ran.stderr}",
+    )
 
 
 def image_of(xdpvm: Path, text: str, image: Path) -> Path:
@@ -309,7 +331,15 @@ def test_refusals(program: Path, work: Path, images: dict[str, Path]) -> None:
     open_to_all = work / "bridge_of_all"
     shutil.copy(program, open_to_all)
     work.chmod(0o755)
-    ends_with(open_to_all, 7, "CAP_NET_RAW", str(images["pass"]), "in0", "out0", prefix=("setpriv", "--reuid=65534", "--clear-groups", "--inh-caps=-all"))
+    ends_with(
+        open_to_all,
+        7,
+        "CAP_NET_RAW",
+        str(images["pass"]),
+        "in0",
+        "out0",
+        prefix=("setpriv", "--reuid=65534", "--clear-groups", "--inh-caps=-all"),
+    )
 
 
 def test_traffic(program: Path, work: Path, ends: Ends, images: dict[str, Path]) -> None:
@@ -351,7 +381,9 @@ def test_traffic(program: Path, work: Path, ends: Ends, images: dict[str, Path])
     need(counts["DROP"] == 200 and not counts["lost"] and not counts["not sent"] and not counts["too long"], f"{counts}")
 
 
-def test_frames(program: Path, xdpvm: Path, work: Path, ends: Ends, image: Path, seed: int, count: int, pause: float = 0.00005) -> int:
+def test_frames(
+    program: Path, xdpvm: Path, work: Path, ends: Ends, image: Path, seed: int, count: int, pause: float = 0.00005
+) -> int:
     """Random frames: those that come out are those that `xdpvm run` writes for the bridge's capture, in order."""
     capture, stream, out, report = (work / name for name in ("capture.pcap", "capture.frames", "out.frames", "report"))
     bridge = Bridge(program, work, str(image), "in0", "out0", "--pcap", str(capture))
@@ -367,7 +399,10 @@ def test_frames(program: Path, xdpvm: Path, work: Path, ends: Ends, image: Path,
         subprocess.run([str(xdpvm), "run", str(image), str(stream), str(out)], stdout=file, check=True)
     actions = [line.split(" ")[1] for line in report.read_text().splitlines() if line[0].isdigit()]
     for action in ("PASS", "TX", "DROP", "ABORTED", "INVALID"):
-        need(actions.count(action) == counts[action], f"{action}: {counts[action]} of the bridge, {actions.count(action)} of the report")
+        need(
+            actions.count(action) == counts[action],
+            f"{action}: {counts[action]} of the bridge, {actions.count(action)} of the report",
+        )
     data, at, wanted = out.read_bytes(), 4, []
     while at < len(data):
         length, reason = (int(it) for it in struct.unpack_from("<II", data, at + 16))
@@ -381,7 +416,10 @@ def test_frames(program: Path, xdpvm: Path, work: Path, ends: Ends, image: Path,
 def test_down(program: Path, work: Path, image: Path) -> None:
     bridge = Bridge(program, work, str(image), "in0", "out0")
     called("ip", "link", "set", "dev", "in0", "down")
-    need(bridge.ran.wait(20) == 8 and "in0: Network is down" in bridge.told.read_text(), f"an interface went down: {bridge.told.read_text()}")
+    need(
+        bridge.ran.wait(20) == 8 and "in0: Network is down" in bridge.told.read_text(),
+        f"an interface went down: {bridge.told.read_text()}",
+    )
     called("ip", "link", "set", "dev", "in0", "up")
 
 

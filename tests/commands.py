@@ -36,32 +36,36 @@ import shlex
 import subprocess
 import sys
 import tempfile
+from collections.abc import Iterator
 from itertools import takewhile
 from pathlib import Path
+from typing import IO
 
-TOP = Path(__file__).resolve().parent.parent
-PROGRAMS = {name: os.path.abspath((sys.argv[at:] or [TOP / f"crates/{name}/out/{name}"])[0])
-            for at, name in enumerate(("xdpvm", "xdpvm_survey", "xdpvm_filter"), 1)}
+sys.path.insert(0, os.path.join(os.path.dirname(os.path.abspath(__file__)), "../checks"))
+from common import TOP, program, there
+
+PROGRAMS = {name: program(name, at) for at, name in enumerate(("xdpvm", "xdpvm_survey", "xdpvm_filter"), 1)}
+Line = tuple[int, str, str]  # its number, its first word and the rest
 PART = re.compile(r"(?:(\d+)\*)?(?:'([^']*)'|((?:[0-9a-f]{2})+))(?:\s+|$)")
 ANSWER = ("1>", "1*", "2>", "status", "same")
 READER, UNREAD = os.pipe()
 os.close(READER)
 
 
-def unescaped(text):
+def unescaped(text: str) -> bytes:
     return text.encode().decode("unicode_escape").encode("latin-1")
 
 
-def bytes_of(parts):
+def bytes_of(parts: str) -> bytes:
     assert not PART.sub("", parts), f"no part of a file: {PART.sub('', parts)}"
     found = PART.findall(parts)
     return b"".join(int(n or 1) * (unescaped(text) or bytes.fromhex(hex)) for n, text, hex in found)
 
 
-def cases_of(path):
+def cases_of(path: Path) -> Iterator[list[list[Line]]]:
     """The cases of a file: the lines of each, with their number, first word and rest, as often as
     the case is run."""
-    lines = []
+    lines: list[Line] = []
     for number, line in enumerate(path.read_text(encoding="utf-8").split("\n"), 1):
         word, _, rest = line.partition(" ")
         if word:
@@ -70,28 +74,37 @@ def cases_of(path):
             lines[-1] = (*lines[-1][:2], f"{lines[-1][2]} {rest.strip()}")
     starts = [at for at, line in enumerate(lines) if line[1] == "=="] + [len(lines)]
     for start, end in zip(starts, starts[1:]):
-        case = lines[:starts[0]] + lines[start + 1:end]
+        case = lines[: starts[0]] + lines[start + 1 : end]
         first, last = next((line[2].split("-") for line in case if line[1] == "each"), (0, 0))
-        yield [[(number, word, rest.replace("{}", str(n))) for number, word, rest in case]
-               for n in range(int(first), int(last) + 1)]
+        yield [
+            [(number, word, rest.replace("{}", str(n))) for number, word, rest in case] for n in range(int(first), int(last) + 1)
+        ]
 
 
-def run(command, room=None):
+def run(command: str, room: int | None = None) -> tuple[bytes, bytes, int]:
     """What a command writes to standard output and standard error, and its status."""
-    text, sign, name = re.fullmatch(r"(.*?)(?: ([|>]) (\S+))?", command).groups()
-    program, *words = [os.fsdecode(unescaped(word)) for word in shlex.split(text)]
+    text, sign, name = there(re.fullmatch(r"(.*?)(?: ([|>]) (\S+))?", command)).groups()
+    called, *words = [os.fsdecode(unescaped(word)) for word in shlex.split(text)]
     limits = resource.getrlimit(resource.RLIMIT_FSIZE) if room is None else (room, room)
     with open(name, "wb") if sign == ">" else tempfile.TemporaryFile() as file:
-        output = {"|": UNREAD, ">": file}.get(sign, subprocess.PIPE if room is None else file)
-        ran = subprocess.run([PROGRAMS[program], *words], stdin=subprocess.DEVNULL, stdout=output,
-                             stderr=subprocess.PIPE, timeout=300, check=False,
-                             preexec_fn=lambda: resource.setrlimit(resource.RLIMIT_FSIZE, limits),
-                             restore_signals=room is None)
+        output: int | IO[bytes] = UNREAD if sign == "|" else file
+        if sign is None and room is None:
+            output = subprocess.PIPE
+        ran = subprocess.run(
+            [PROGRAMS[called], *words],
+            stdin=subprocess.DEVNULL,
+            stdout=output,
+            stderr=subprocess.PIPE,
+            timeout=300,
+            check=False,
+            preexec_fn=lambda: resource.setrlimit(resource.RLIMIT_FSIZE, limits),
+            restore_signals=room is None,
+        )
         file.seek(0)
         return ran.stdout or (b"" if sign else file.read()), ran.stderr, ran.returncode
 
 
-def prepare(word, name, rest):
+def prepare(word: str, name: str, rest: str) -> None:
     """Makes or changes a file of a case."""
     name = os.fsdecode(unescaped(name))
     if word == "folder":
@@ -111,20 +124,20 @@ def prepare(word, name, rest):
         assert word in ("each", "room"), f"no word of a case: {word}"
 
 
-def lines_of(word, rest):
+def lines_of(word: str, rest: str) -> list[str]:
     """The lines of standard output that a line of a result stands for."""
     if word != "1*":
         return [rest] if word == "1>" else []
-    first, last, line = re.fullmatch(r"(\d+)-(\d+) (.*)", rest).groups()
+    first, last, line = there(re.fullmatch(r"(\d+)-(\d+) (.*)", rest)).groups()
     return [line.format(n=n) for n in range(int(first), int(last) + 1)]
 
 
-def differences(case):
+def differences(case: list[Line]) -> Iterator[tuple[int, str]]:
     """Where a case differs: the number of the line, what was wanted, and what was found."""
     room = None
     while case:
         commands = list(takewhile(lambda line: line[1] == "$", case))
-        answer = list(takewhile(lambda line: line[1] in ANSWER, case[len(commands):]))
+        answer = list(takewhile(lambda line: line[1] in ANSWER, case[len(commands) :]))
         has = {word: [rest for _, its, rest in answer if its == word] for word in ANSWER}
         said = [line for _, word, rest in answer for line in lines_of(word, rest)]
         out, err = ("".join(f"{line}\n" for line in lines).encode() for lines in (said, has["2>"]))
@@ -141,16 +154,16 @@ def differences(case):
         if not commands:
             prepare(case[0][1], *case[0][2].partition(" ")[::2])
             room = int(case[0][2]) if case[0][1] == "room" else room
-        case = case[len(commands) + len(answer) or 1:]
+        case = case[len(commands) + len(answer) or 1 :]
 
 
-def main():
+def main() -> None:
     if not all(map(os.path.exists, PROGRAMS.values())):
         sys.exit(f"not all of these are there: {', '.join(PROGRAMS.values())}")
     results = []
-    for path in sorted((TOP / "tests/commands").glob("*.case")):
+    for path in sorted(Path(TOP, "tests/commands").glob("*.case")):
         for runs in cases_of(path):
-            found = {}
+            found: dict[int, str] = {}
             for case in runs:
                 with tempfile.TemporaryDirectory() as folder:
                     os.chdir(folder)

@@ -45,9 +45,7 @@ class Field:
 
 def starting(rows: list[Row]) -> Contents:
     """New maps: a hash map has no key, an array all of them, with zeros."""
-    return [
-        {key.to_bytes(4, "little"): bytes(row[2]) for key in range(row[3])} if row[0] == ARRAY else {} for row in rows
-    ]
+    return [{key.to_bytes(4, "little"): bytes(row[2]) for key in range(row[3])} if row[0] == ARRAY else {} for row in rows]
 
 
 def longest(rows: list[Row]) -> int:
@@ -71,7 +69,7 @@ def update(line: bytes, rows: list[Row], contents: Contents) -> None:
         raise Refused("M6", longest(rows) + 1)
     if not line.startswith(b"map "):
         raise Refused("M1", 1)
-    number, its_key, its_value = fields(line)
+    number, its_key, its_value = fields(line)  # pylint: disable=unbalanced-tuple-unpacking
     number.tested(DIGITS)
     key, value = its_key.pairs(), its_value.pairs()
     index = int(number.text)
@@ -131,9 +129,7 @@ def damaged(chance: random.Random, text: bytes) -> bytes:
     for _ in range(chance.choice([0, 1, 1, 1, 2])):
         at, kind = chance.randrange(len(made) + 1), chance.randrange(6)
         if kind == 0:
-            made[at:at] = chance.choice(
-                [b" ", b"\n", b"\r", b"\t", b"0", b"00", b"g", b"map ", b"#", b"\0", b"\xff", b"end"]
-            )
+            made[at:at] = chance.choice([b" ", b"\n", b"\r", b"\t", b"0", b"00", b"g", b"map ", b"#", b"\0", b"\xff", b"end"])
         elif kind == 1:
             del made[at : at + chance.choice([1, 1, 2, 8, 40])]
         elif kind == 2 and at < len(made):

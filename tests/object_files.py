@@ -27,7 +27,12 @@ FOLDER = os.path.join(TOP, "tests/objects")
 BTF = os.path.join(FOLDER, "made/kernel.btf")
 CLANG = ["-target", "bpf", "-g", "-O2", f"-I/usr/include/{os.uname().machine}-linux-gnu"]
 GCC = ["-gbtf", "-mco-re", "-O2", "-I/usr/include", f"-I/usr/include/{os.uname().machine}-linux-gnu"]
-COMPILERS = {"clang14": ["clang-14", *CLANG], "clang16": ["clang-16", *CLANG], "clang19": ["clang-19", *CLANG], "gcc12": ["bpf-gcc", *GCC]}
+COMPILERS = {
+    "clang14": ["clang-14", *CLANG],
+    "clang16": ["clang-16", *CLANG],
+    "clang19": ["clang-19", *CLANG],
+    "gcc12": ["bpf-gcc", *GCC],
+}
 CANNOT = 77  # the status of kernel.py where bpf(2) cannot be used
 Frame = tuple[int, bytes]
 
@@ -55,7 +60,9 @@ def frames() -> list[Frame]:
 
 
 def stream_of(given: list[Frame]) -> bytes:
-    return b"XPF1" + b"".join(struct.pack("<QIII", at, interface, at % 3, len(body)) + body for at, (interface, body) in enumerate(given))
+    return b"XPF1" + b"".join(
+        struct.pack("<QIII", at, interface, at % 3, len(body)) + body for at, (interface, body) in enumerate(given)
+    )
 
 
 def bodies(stream: bytes) -> list[bytes]:
@@ -118,7 +125,9 @@ def wrong(program: str, source: str, made: str, folder: str) -> str | None:
     linked = subprocess.run(words, capture_output=True, text=True, check=False)
     refusal = named(source, "gcc") if ".gcc" in made else ""
     if refusal:
-        return None if linked.returncode == 1 and refusal in linked.stderr else f"it is not refused with '{refusal}': {linked.stderr}"
+        return (
+            None if linked.returncode == 1 and refusal in linked.stderr else f"it is not refused with '{refusal}': {linked.stderr}"
+        )
     if linked.returncode:
         return linked.stderr
     wanted, found = by_host(source, folder), by_image(program, image, folder)

@@ -9,49 +9,60 @@ counts, and the exit status is 1 if any differed. tests/programs/README.md says 
 """
 import concurrent.futures
 import os
-import pathlib
 import re
 import subprocess
 import sys
 import tempfile
+from collections.abc import Sequence
+from pathlib import Path
 
-TOP = os.path.dirname(os.path.dirname(os.path.abspath(__file__)))
+sys.path.insert(0, os.path.join(os.path.dirname(os.path.abspath(__file__)), "../checks"))
+from common import TOP, built, there
+
+Field = tuple[str, str, str]  # its line, its name and its text
 STREAMED = ("image", "frames", "out")
-WORDS = {"asm": ("text", "image"), "dis": ("image",), "verify": ("image",), "run": STREAMED,
-         "trace": STREAMED, "prove": ("image", "table"), "recheck": ("image", "table")}
+WORDS = {
+    "asm": ("text", "image"),
+    "dis": ("image",),
+    "verify": ("image",),
+    "run": STREAMED,
+    "trace": STREAMED,
+    "prove": ("image", "table"),
+    "recheck": ("image", "table"),
+}
 WRITTEN = {"bytes": "image", "sent": "out", "proof": "table"}
 
 
-def filled(value, names):
+def filled(value: str, names: dict[str, int]) -> str:
     """The text of a field, with its expressions replaced and its lines repeated as they say."""
     lines = []
     for line in value.split("\n"):
-        times, what = re.fullmatch(r"(?:(\d+) x )?(.*)", line).groups()
+        times, what = there(re.fullmatch(r"(?:(\d+) x )?(.*)", line)).groups()
         for i in range(int(times or 1)):
             known = {"__builtins__": {}, **names, "i": i}
-            lines.append(eval("f" + repr(what), known) if "{" in what else what)
+            lines.append(eval("f" + repr(what), known) if "{" in what else what)  # pylint: disable=eval-used
     return "\n".join(lines)
 
 
-def bytes_of(value):
+def bytes_of(value: str) -> bytes:
     made, words = bytearray(), iter(re.findall(r'(?:\d+\*)?"[^"]*"|\S+', value))
     for word in words:
         if word == "cut":
-            del made[int(next(words)):]
+            del made[int(next(words)) :]
         elif word == "at":
             place, piece = int(next(words)), bytes_of(next(words))
-            made[place:place + len(piece)] = piece
+            made[place : place + len(piece)] = piece
         else:
-            times, what = re.fullmatch(r"(?:(\d+)\*)?(.*)", word).groups()
+            times, what = there(re.fullmatch(r"(?:(\d+)\*)?(.*)", word)).groups()
             piece = what[1:-1].encode() if what[0] == '"' else bytes.fromhex(what)
             made += piece * int(times or 1)
     return bytes(made)
 
 
-def fields_of(path):
+def fields_of(path: Path) -> list[Field]:
     """Each field of a file: its line, its name and its text."""
-    found, text = [], pathlib.Path(path).read_text(encoding="utf-8")
-    for number, line in enumerate(text.split("\n"), 1):
+    found: list[tuple[str, str, list[str]]] = []
+    for number, line in enumerate(path.read_text(encoding="utf-8").split("\n"), 1):
         if line.startswith("    "):
             found[-1][2].append(line[4:])
         elif line and not line.startswith("#"):
@@ -60,13 +71,16 @@ def fields_of(path):
     return [(where, name, "\n".join(lines)) for where, name, lines in found]
 
 
-def cases_of(path):
+def cases_of(path: Path) -> list[tuple[dict[str, int], list[Field]]]:
     """Each case: the names that `each` gives it, and its fields."""
-    cases, lets, each, current = [], {}, [{}], []
+    cases: list[tuple[dict[str, int], list[Field]]] = []
+    lets: dict[str, str] = {}
+    each: list[dict[str, int]] = [{}]
+    current: list[Field] = []
     for where, name, value in fields_of(path):
-        value = re.sub(r"\$(\w+)", lambda it: lets[it[1]], value)
+        value = re.sub(r"\$(\w+)", lambda it: lets[str(it[1])], value)
         if name == "let":
-            key, what = re.fullmatch(r"(\w+)\s?(.*)", value, re.S).groups()
+            key, what = there(re.fullmatch(r"(\w+)\s?(.*)", value, re.S)).groups()
             lets[key] = what
         elif name == "each":
             key, *spans = value.split()
@@ -87,17 +101,19 @@ def cases_of(path):
     return cases
 
 
-def differences(program, folder, names, fields):
+def differences(program: str, folder: Path, names: dict[str, int], fields: list[Field]) -> list[str]:
     """Tries a case in a folder of its own."""
-    differs, limit, said = [], [], ""
+    differs: list[str] = []
+    limit: list[str] = []
+    said = ""
     folder.mkdir()
 
-    def compare(what, wanted, found):
+    def compare(what: str, wanted: Sequence[object], found: Sequence[object]) -> None:
         if wanted != found:
             said = f"wanted {wanted[:500]!r}, found {found[:500]!r}"
             differs.append(f"{where}: {what}{names or ''}: {said}")
 
-    def answer(command, wanted):
+    def answer(command: str, wanted: str) -> str:
         """What a command prints on standard error; the other output and the status are compared."""
         words = [program, command, *WORDS[command], *(limit if command == "trace" else [])]
         ran = subprocess.run(words, cwd=folder, capture_output=True, timeout=300, check=False)
@@ -131,16 +147,14 @@ def differences(program, folder, names, fields):
     return differs
 
 
-def main():
+def main() -> None:
     words = [os.path.abspath(it) for it in sys.argv[1:]]
-    files = [it for it in words if it.endswith(".cases")]
-    program = [it for it in words if it not in files] or [f"{TOP}/crates/xdpvm/out/xdpvm"]
-    files = files or sorted(pathlib.Path(TOP, "tests/programs").glob("*.cases"))
+    given = [it for it in words if it.endswith(".cases")]
+    program = [it for it in words if it not in given] or [built()]
+    files = [Path(it) for it in given] or sorted(Path(TOP, "tests/programs").glob("*.cases"))
     cases = [case for path in files for case in cases_of(path)]
-    pool = concurrent.futures.ThreadPoolExecutor(os.cpu_count())
-    with tempfile.TemporaryDirectory() as folder, pool:
-        tried = [pool.submit(differences, program[0], pathlib.Path(folder, str(at)), *case)
-                 for at, case in enumerate(cases)]
+    with tempfile.TemporaryDirectory() as folder, concurrent.futures.ThreadPoolExecutor() as pool:
+        tried = [pool.submit(differences, program[0], Path(folder, str(at)), *case) for at, case in enumerate(cases)]
         wrong = [trial.result() for trial in tried if trial.result()]
     print(*sum(wrong, []), f"{len(cases)} cases, {len(wrong)} differ", sep="\n")
     sys.exit(1 if wrong or not cases else 0)

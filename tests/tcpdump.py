@@ -139,7 +139,7 @@ def store() -> None:
             found += [body for body in send.bodies(file.read()) if len(body) <= LONGEST]
     with open(CAPTURE, "wb") as capture:
         capture.write(expression_frames.pcap_of(found))
-    told = subprocess.run(["tcpdump", "--version"], capture_output=True, text=True)
+    told = subprocess.run(["tcpdump", "--version"], capture_output=True, text=True, check=False)
     versions = (told.stdout + told.stderr).splitlines()[:2]
     lines = [f"# by {', '.join(versions)}; made by `python3 tests/tcpdump.py --store`"]
     for said in expression_corpus.expressions(SEED, COMPOSED):
@@ -170,11 +170,7 @@ def main() -> int:
                 differ += 1
                 print(f"{case.said}: {why}")
     compared = sum(case.frames is not None for case in found)
-    by = (
-        "and with the tcpdump of this machine"
-        if gate.has_tcpdump
-        else "by stored results only, since there is no tcpdump"
-    )
+    by = "and with the tcpdump of this machine" if gate.has_tcpdump else "by stored results only, since there is no tcpdump"
     print(f"{len(found)} expressions, {compared} compared on {len(frames)} frames {by}, {differ} differ")
     return 1 if differ or not compared else 0
 

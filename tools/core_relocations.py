@@ -9,7 +9,7 @@ import struct
 from typing import NamedTuple
 
 from objects import Refused
-from type_information import ARRAY, ENUM, ENUM64, INT, STRUCT, TYPEDEF, UNION, Access, Types
+from type_information import ARRAY, ENUM, ENUM64, INT, STRUCT, UNION, Access, Types
 
 KERNEL = "/sys/kernel/btf/vmlinux"
 OFFSET, SIZE, EXISTS, SIGNED, LEFT, RIGHT, LOCAL_ID, TARGET_ID, TYPE_EXISTS, TYPE_SIZE, VALUE_EXISTS, VALUE = range(12)
@@ -152,7 +152,9 @@ class Kernel:
             with open(self.path, "rb") as file:
                 return Types(file.read())
         except OSError as why:
-            raise Refused(f"the kernel's type information is needed, and {self.path} cannot be read: {why.strerror} (--btf)") from None
+            raise Refused(
+                f"the kernel's type information is needed, and {self.path} cannot be read: {why.strerror} (--btf)"
+            ) from None
         except (struct.error, IndexError, ValueError):
             raise Refused(f"{self.path} is no type information") from None
 

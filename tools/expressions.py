@@ -23,7 +23,6 @@ from classic import (
     JMP,
     JSET,
     LD,
-    LDX,
     LEN,
     LSH,
     MEM,
@@ -40,7 +39,6 @@ from classic import (
     STX,
     SUB,
     TAX,
-    TXA,
     WORD,
     XOR,
     Failed,
@@ -183,9 +181,7 @@ class Translator:
         for at in self.order:
             it = self.program[at]
             if self.is_put(at):
-                reads: List[Place] = (
-                    [A] if it.uses_a() and not (self.lengths.is_length(at) and it.compares_length()) else []
-                )
+                reads: List[Place] = [A] if it.uses_a() and not (self.lengths.is_length(at) and it.compares_length()) else []
                 reads += [X] if it.uses_x() else []
                 reads += [it.k] if it.is_loading() and it.mode == MEM else []
                 found += [name for name in reads if name in self.limits.unset[at] and name not in found]
@@ -194,6 +190,7 @@ class Translator:
     # one instruction
 
     def one(self, it: Insn, following: str) -> None:
+        """Translates an instruction."""
         put = self.text.put
         if it.kind == RET:
             put(f"if r6 != 0 goto {PASS}")
@@ -238,6 +235,7 @@ class Translator:
             self.text.note += f"; {number}"
 
     def load(self, it: Insn) -> None:
+        """Translates a load."""
         put, to = self.text.put, "r6" if it.kind == LD else "r7"
         if it.mode == IMM:
             self.note(it.k)
@@ -309,6 +307,7 @@ class Translator:
                 put(f"{to} = 0")
 
     def arithmetic(self, it: Insn) -> None:
+        """Translates arithmetic."""
         put = self.text.put
         if self.lengths.is_length(it.at) and it.moves_length() and not self.lengths.wanted[it.at]:
             put("")

@@ -55,9 +55,7 @@ def number_to(most: int) -> Callable[[str], int]:
 def arguments() -> argparse.Namespace:
     text = named(__doc__ or "")
     usage = text.split("\n\n")[1].removeprefix("usage: ")
-    parser = argparse.ArgumentParser(
-        description=text, usage=usage, formatter_class=argparse.RawDescriptionHelpFormatter
-    )
+    parser = argparse.ArgumentParser(description=text, usage=usage, formatter_class=argparse.RawDescriptionHelpFormatter)
     parser.add_argument("words", nargs="*", help=argparse.SUPPRESS)
     parser.add_argument("--classic", metavar="FILE")
     parser.add_argument("--match", choices=ACTIONS, default="PASS")

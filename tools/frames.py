@@ -42,24 +42,62 @@ examples:
 The exit status is 0, or 1 with a message if a file cannot be read or written or is damaged.
 """
 import argparse
-import collections
 import gzip
 import os
 import re
 import struct
 import sys
+from collections.abc import Callable, Iterable, Iterator
+from dataclasses import dataclass
+from typing import Any, NamedTuple, Protocol
 
 from inputs import NoText, named, text_lines
 from outputs import IsRead, Output, end_by_signal
 
-Frame = collections.namedtuple("Frame", "time interface queue body reason", defaults=[0])
-Form = collections.namedtuple("Form", "head most")
-FORMS = {b"XPF1": Form("<QIII", 4096), b"XPF2": Form("<QIIII", 9216)}       # time, interface, queue, length, reason
-ETHERNET, SLL, SLL2 = 1, 113, 276           # link types
+
+class Frame(NamedTuple):
+    """A frame of a capture or a stream: nanoseconds, where it came in, its bytes, and why it is not run, or 0."""
+
+    time: int
+    interface: int
+    queue: int
+    body: bytes
+    reason: int = 0
+
+
+class Form(NamedTuple):
+    """The head of a record, and how many bytes a frame has at most."""
+
+    head: str
+    most: int
+
+
+class File(Protocol):
+    """What is read."""
+
+    def read(self, count: int = -1, /) -> bytes:
+        """The next bytes, fewer at the end."""
+
+    def readline(self, count: int = -1, /) -> bytes:
+        """The next line, or so many bytes of it."""
+
+
+@dataclass
+class Met:
+    """What was met in a file: how many frames were cut when they were captured, and why it ends early."""
+
+    cut: int = 0
+    ends: str = ""
+
+
+Put = Callable[[bytes], object]
+Write = Callable[[Iterable[Frame], Put], None]
+FORMS = {b"XPF1": Form("<QIII", 4096), b"XPF2": Form("<QIIII", 9216)}  # time, interface, queue, length, reason
+ETHERNET, SLL, SLL2 = 1, 113, 276  # link types
 SECOND = 10**9
-TOO_LONG = 2**32 - 1                        # the reason of a frame that a stream cannot hold
-PIECE = 1 << 24                             # no frame and no block of a capture is longer
-MOST_TOLD = 3                               # so many frames that are too long are told one by one
+TOO_LONG = 2**32 - 1  # the reason of a frame that a stream cannot hold
+PIECE = 1 << 24  # no frame and no block of a capture is longer
+MOST_TOLD = 3  # so many frames that are too long are told one by one
 
 
 class Damaged(Exception):
@@ -70,22 +108,22 @@ class Cut(Damaged):
     """A file that ends in the middle of a frame."""
 
 
-def tell(message):
+def tell(message: str) -> None:
     print(message, file=sys.stderr)
 
 
 class Source:
     """A file, read from its beginning to its end. Its first bytes may be read ahead."""
 
-    def __init__(self, file):
+    def __init__(self, file: File) -> None:
         self.file, self.begin, self.at = file, b"", 0
 
-    def look(self, count):
+    def look(self, count: int) -> bytes:
         if len(self.begin) < count:
             self.begin += self.file.read(count - len(self.begin))
         return self.begin[:count]
 
-    def take(self, count, what):
+    def take(self, count: int, what: str) -> bytes:
         """The next bytes, which have to be there."""
         if count > PIECE:
             raise Damaged(f"{what} has the length {count}")
@@ -97,13 +135,13 @@ class Source:
             raise Cut(f"it ends at byte {self.at}, in {what}")
         return data
 
-    def unpack(self, form, what):
+    def unpack(self, form: str, what: str) -> tuple[Any, ...]:
         return struct.unpack(form, self.take(struct.calcsize(form), what))
 
-    def is_at_end(self):
+    def is_at_end(self) -> bool:
         return not self.look(1)
 
-    def line(self, count):
+    def line(self, count: int) -> bytes:
         """The next line with its end, or its first bytes; the last one may have no end, and after it comes nothing."""
         begin, self.begin = self.begin, b""
         end = begin.find(b"\n") + 1
@@ -113,7 +151,7 @@ class Source:
         return begin + self.file.readline(count)
 
 
-def unpack(form, data, at, what):
+def unpack(form: str, data: bytes, at: int, what: str) -> tuple[Any, ...]:
     """The numbers of a struct format at an offset of a block, which have to be there."""
     if at + struct.calcsize(form) > len(data):
         raise Damaged(f"{what} is too short")
@@ -122,7 +160,8 @@ def unpack(form, data, at, what):
 
 # ---- frame streams
 
-def read_stream(source, counts):
+
+def read_stream(source: Source, _: Met) -> Iterator[Frame]:
     form, number = FORMS[source.take(4, "the magic")], 0
     while not source.is_at_end():
         what = f"frame {number}"
@@ -133,7 +172,8 @@ def read_stream(source, counts):
         number += 1
 
 
-def write_stream(frames, magic, put):
+def write_stream(frames: Iterable[Frame], magic: bytes, put: Put) -> None:
+    """Writes a frame stream of this magic."""
     form, lost, too_long = FORMS[magic], False, 0
     put(magic)
     for number, frame in enumerate(frames):
@@ -144,9 +184,15 @@ def write_stream(frames, magic, put):
             continue
         too_long += 1
         if too_long <= MOST_TOLD and reason:
-            tell(f"frame {number} has {len(frame.body)} bytes, more than {form.most}: an empty one with the reason {TOO_LONG} takes its place")
+            tell(
+                f"frame {number} has {len(frame.body)} bytes, more than {form.most}: an empty one with the reason {TOO_LONG} "
+                "takes its place"
+            )
         elif too_long <= MOST_TOLD:
-            tell(f"frame {number} is left out: it has {len(frame.body)} bytes, more than {form.most} (--reasons keeps up to {FORMS[b'XPF2'].most:,})")
+            tell(
+                f"frame {number} is left out: it has {len(frame.body)} bytes, more than {form.most} "
+                f"(--reasons keeps up to {FORMS[b'XPF2'].most:,})"
+            )
         if reason:
             put(struct.pack(form.head, frame.time, frame.interface, frame.queue, 0, TOO_LONG))
     if too_long > MOST_TOLD:
@@ -155,11 +201,11 @@ def write_stream(frames, magic, put):
         tell("this form of frame streams has no reasons: they are lost (--reasons keeps them)")
 
 
-def write_first_form(frames, put):
+def write_first_form(frames: Iterable[Frame], put: Put) -> None:
     write_stream(frames, b"XPF1", put)
 
 
-def write_second_form(frames, put):
+def write_second_form(frames: Iterable[Frame], put: Put) -> None:
     write_stream(frames, b"XPF2", put)
 
 
@@ -168,7 +214,8 @@ FORMATS = {b"XPF1": write_first_form, b"XPF2": write_second_form}
 
 # ---- link types
 
-def ethernet(link, body, interface):
+
+def ethernet(link: int, body: bytes, interface: int) -> tuple[bytes, int]:
     """The Ethernet frame that a captured one is, and its interface."""
     if link == SLL and len(body) >= 16:
         return bytes(6) + body[6:12] + body[14:], interface
@@ -177,7 +224,7 @@ def ethernet(link, body, interface):
     return body, interface
 
 
-def known(link, what):
+def known(link: int, what: str) -> int:
     if link not in (ETHERNET, SLL, SLL2):
         raise Damaged(f"{what} link type is {link}; Ethernet (1), SLL (113) and SLL2 (276) are read")
     return link
@@ -185,33 +232,37 @@ def known(link, what):
 
 # ---- pcap
 
-PCAP = {b"\xa1\xb2\xc3\xd4": (">", 1000), b"\xd4\xc3\xb2\xa1": ("<", 1000),
-        b"\xa1\xb2\x3c\x4d": (">", 1), b"\x4d\x3c\xb2\xa1": ("<", 1)}
+PCAP = {
+    b"\xa1\xb2\xc3\xd4": (">", 1000),
+    b"\xd4\xc3\xb2\xa1": ("<", 1000),
+    b"\xa1\xb2\x3c\x4d": (">", 1),
+    b"\x4d\x3c\xb2\xa1": ("<", 1),
+}
 
 
-def read_pcap(source, counts):
+def read_pcap(source: Source, met: Met) -> Iterator[Frame]:
     head = source.take(24, "its head")
     order, unit = PCAP[head[:4]]
-    link = known(struct.unpack_from(order + "I", head, 20)[0] & 0xffff, "its")
+    link = known(struct.unpack_from(order + "I", head, 20)[0] & 0xFFFF, "its")
     number = 0
     while not source.is_at_end():
         what = f"frame {number}"
         seconds, fraction, length, whole = source.unpack(order + "IIII", what)
         body, interface = ethernet(link, source.take(length, what), 0)
         yield Frame(seconds * SECOND + fraction * unit, interface, 0, body)
-        counts["cut"] += length < whole
+        met.cut += length < whole
         number += 1
 
 
-def write_pcap(frames, put):
-    put(struct.pack("<IHHiIII", 0xa1b23c4d, 2, 4, 0, 0, 0x40000, ETHERNET))
+def write_pcap(frames: Iterable[Frame], put: Put) -> None:
+    put(struct.pack("<IHHiIII", 0xA1B23C4D, 2, 4, 0, 0, 0x40000, ETHERNET))
     places = reasons = False
     for number, frame in enumerate(frames):
         if frame.time >= SECOND << 32:
             raise Damaged(f"frame {number} has time {frame.time}, which no pcap holds")
         size = len(frame.body)
         put(struct.pack("<IIII", frame.time // SECOND, frame.time % SECOND, size, size) + frame.body)
-        places, reasons = places or frame.interface or frame.queue, reasons or frame.reason
+        places, reasons = places or frame.interface + frame.queue > 0, reasons or frame.reason > 0
     if places:
         tell("a pcap has no interfaces and no queues: they are lost (a pcapng keeps the interfaces)")
     if reasons:
@@ -221,29 +272,30 @@ def write_pcap(frames, put):
 # ---- pcapng
 
 SECTION, INTERFACE, SIMPLE, ENHANCED = 0x0A0D0D0A, 1, 3, 6
-END, COMMENT, RESOLUTION = 0, 1, 9      # options of blocks
+END, COMMENT, RESOLUTION = 0, 1, 9  # options of blocks
 
 
-def options_of(order, options):
+def options_of(order: str, options: bytes) -> Iterator[tuple[int, bytes]]:
     """The code and the bytes of each option at the end of a block."""
     at = 0
     while at + 4 <= len(options):
         code, length = struct.unpack_from(order + "HH", options, at)
         if code == END:
             break
-        yield code, options[at + 4:at + 4 + length]
+        yield code, options[at + 4 : at + 4 + length]
         at += 4 + (length + 3) // 4 * 4
 
 
-def ticks_of(order, options):
+def ticks_of(order: str, options: bytes) -> int:
     """How many ticks a second the times of an interface have: 1,000,000 where no option says another number."""
     for code, value in options_of(order, options):
         if code == RESOLUTION and len(value) == 1:
-            return 1 << (value[0] & 127) if value[0] & 128 else 10**value[0]
+            ticks: int = 1 << (value[0] & 127) if value[0] & 128 else 10 ** value[0]
+            return ticks
     return 10**6
 
 
-def reason_of(order, options):
+def reason_of(order: str, options: bytes) -> int:
     """The reason that a packet's comment has: `reason 7`."""
     for code, value in options_of(order, options):
         told = code == COMMENT and re.fullmatch(rb"reason ([0-9]{1,10})", value)
@@ -252,8 +304,9 @@ def reason_of(order, options):
     return 0
 
 
-def read_pcapng(source, counts):
-    order, interfaces, number = "<", [], 0
+def read_pcapng(source: Source, met: Met) -> Iterator[Frame]:
+    interfaces: list[tuple[int, int, int]] = []
+    order, number = "<", 0
     while not source.is_at_end():
         what = f"the block at byte {source.at}, after {number} frames"
         head = source.take(8, what)
@@ -267,11 +320,11 @@ def read_pcapng(source, counts):
             link, _, snap = unpack(order + "HHI", block, 0, what)
             interfaces.append((link, ticks_of(order, block[8:]), snap))
         elif kind in (SIMPLE, ENHANCED):
-            yield packet(kind, order, block, interfaces, what, counts)
+            yield packet(kind, order, block, interfaces, what, met)
             number += 1
 
 
-def packet(kind, order, block, interfaces, what, counts):
+def packet(kind: int, order: str, block: bytes, interfaces: list[tuple[int, int, int]], what: str, met: Met) -> Frame:
     number, time = 0, 0
     if kind == ENHANCED:
         number, high, low, length, whole = unpack(order + "IIIII", block, 0, what)
@@ -285,23 +338,25 @@ def packet(kind, order, block, interfaces, what, counts):
     known(link, f"interface {number}'s")
     if start + length > len(block):
         raise Damaged(f"{what} is too short")
-    body, number = ethernet(link, block[start:start + length], number)
-    reason = reason_of(order, block[start + (length + 3) // 4 * 4:]) if kind == ENHANCED else 0
-    counts["cut"] += length < whole
+    body, number = ethernet(link, block[start : start + length], number)
+    reason = reason_of(order, block[start + (length + 3) // 4 * 4 :]) if kind == ENHANCED else 0
+    met.cut += length < whole
     return Frame(time * SECOND // ticks, number, 0, body, reason)
 
 
-def write_pcapng(frames, put):
-    def block(kind, body):
+def write_pcapng(frames: Iterable[Frame], put: Put) -> None:
+    """Writes a pcapng of nanoseconds, with an interface for each number up to the greatest."""
+
+    def block(kind: int, body: bytes) -> bytes:
         return struct.pack("<II", kind, 12 + len(body)) + body + struct.pack("<I", 12 + len(body))
 
-    def padded(data):
+    def padded(data: bytes) -> bytes:
         return data + bytes(-len(data) % 4)
 
-    def comment(text):
+    def comment(text: bytes) -> bytes:
         return struct.pack("<HH", COMMENT, len(text)) + padded(text) + struct.pack("<HH", END, 0)
 
-    put(block(SECTION, struct.pack("<IHHq", 0x1a2b3c4d, 1, 0, -1)))
+    put(block(SECTION, struct.pack("<IHHq", 0x1A2B3C4D, 1, 0, -1)))
     row = block(INTERFACE, struct.pack("<HHI", ETHERNET, 0, 0) + struct.pack("<HHB3xHH", RESOLUTION, 1, 9, END, 0))
     put(row)
     described, queues = 1, False
@@ -312,10 +367,10 @@ def write_pcapng(frames, put):
             put(row)
             described += 1
         size = len(frame.body)
-        head = struct.pack("<IIIII", frame.interface, frame.time >> 32, frame.time & 0xffffffff, size, size)
+        head = struct.pack("<IIIII", frame.interface, frame.time >> 32, frame.time & 0xFFFFFFFF, size, size)
         told = comment(b"reason %d" % frame.reason) if frame.reason else b""
         put(block(ENHANCED, head + padded(frame.body) + told))
-        queues = queues or frame.queue
+        queues = queues or frame.queue > 0
     if queues:
         tell("a pcapng has no queues: they are lost")
 
@@ -325,7 +380,7 @@ def write_pcapng(frames, put):
 HEAD = re.compile(r"frame (\d+)(?: interface (\d+))?(?: queue (\d+))?(?: reason (\d+))?")
 
 
-def head_of(numbers, frame):
+def head_of(numbers: Iterable[str | None], frame: int) -> Frame:
     """The frame, without bytes yet, that the first line of one says."""
     time, interface, queue, reason = (int(it or 0) for it in numbers)
     if time >> 64 or interface >> 32 or queue >> 32 or reason >> 32:
@@ -333,8 +388,11 @@ def head_of(numbers, frame):
     return Frame(time, interface, queue, b"", reason)
 
 
-def read_text(source, counts):
-    frame, pieces, size, count = None, [], 0, 0
+def read_text(source: Source, _: Met) -> Iterator[Frame]:
+    """The frames of a text."""
+    frame: Frame | None = None
+    pieces: list[bytes] = []
+    size = count = 0
     for number, line in text_lines(source.line):
         words = line.split("#")[0].split("|")[0].strip()
         head = HEAD.fullmatch(words)
@@ -356,12 +414,12 @@ def read_text(source, counts):
         yield frame._replace(body=b"".join(pieces))
 
 
-def write_text(frames, put):
+def write_text(frames: Iterable[Frame], put: Put) -> None:
     for frame in frames:
         reason = f" reason {frame.reason}" if frame.reason else ""
         lines = [f"frame {frame.time} interface {frame.interface} queue {frame.queue}{reason}"]
         for at in range(0, len(frame.body), 16):
-            row = frame.body[at:at + 16]
+            row = frame.body[at : at + 16]
             shown = "".join(chr(byte) if 32 <= byte < 127 else "." for byte in row)
             lines.append(f"  {at:04x}: {row.hex(' '):47} |{shown}|")
         put("".join(line + "\n" for line in lines).encode())
@@ -369,28 +427,30 @@ def write_text(frames, put):
 
 # ---- files
 
-def opened(path):
+
+def opened(path: str) -> Source:
     """The file of that name, unpacked if it is packed."""
     source = Source(sys.stdin.buffer if path == "-" else open(path, "rb"))
     if source.look(2) == b"\x1f\x8b":
         source.begin, begin = b"", source.begin
-        source = Source(gzip.GzipFile(fileobj=Joined(begin, source.file)))
+        packed: Any = Joined(begin, source.file)
+        source = Source(gzip.GzipFile(fileobj=packed))
     return source
 
 
 class Joined:
     """Some bytes, and the file after them."""
 
-    def __init__(self, begin, file):
+    def __init__(self, begin: bytes, file: File) -> None:
         self.begin, self.file = begin, file
 
-    def read(self, count=-1):
+    def read(self, count: int = -1) -> bytes:
         if self.begin:
             data, self.begin = (self.begin, b"") if count < 0 else (self.begin[:count], self.begin[count:])
             return data
         return self.file.read(count)
 
-    def readline(self, count):
+    def readline(self, count: int) -> bytes:
         begin, self.begin = self.begin, b""
         end = begin.find(b"\n") + 1
         if end:
@@ -399,7 +459,7 @@ class Joined:
         return begin + self.file.readline(count)
 
 
-def reader_of(source):
+def reader_of(source: Source) -> tuple[Callable[[Source, Met], Iterator[Frame]], bool]:
     """What reads a file, by its first bytes, and whether it is a frame stream."""
     begin = source.look(4)
     if not begin:
@@ -411,54 +471,62 @@ def reader_of(source):
     return (read_pcapng if begin == b"\x0a\x0d\x0d\x0a" else read_text), False
 
 
-def number(word):
+def number(word: str) -> int:
     """A number of 32 bits."""
     if not re.fullmatch("[0-9]{1,10}", word) or int(word) >> 32:
         raise argparse.ArgumentTypeError("a number from 0 to 4294967295 is wanted")
     return int(word)
 
 
-def writer_for(out, kind, is_stream, has_reasons):
+def writer_for(out: str, kind: str | None, is_stream: bool, has_reasons: bool) -> Write:
     """What writes the file of that name."""
     write_frames = write_second_form if has_reasons else write_first_form
     by_name = {"pcap": write_pcap, "pcapng": write_pcapng, "frames": write_frames, "txt": write_text}
     kind = kind or os.path.splitext(out)[1][1:]
     if kind not in by_name:
         if is_stream:
-            raise Damaged("what it is to become does not follow from its name: let it end in .pcap, .pcapng, .frames or .txt, or give --to KIND")
+            raise Damaged(
+                "what it is to become does not follow from its name: let it end in .pcap, .pcapng, .frames or .txt, or give "
+                "--to KIND"
+            )
         kind = "frames"
     return by_name[kind]
 
 
-def frames_of(source, words, state):
-    """The frames of a file, as they are asked for; `state` gets what was met at its end."""
+def frames_of(source: Source, words: argparse.Namespace, met: Met) -> Iterator[Frame]:
+    """The frames of a file, as they are asked for; `met` gets what was met at its end."""
     read, _ = reader_of(source)
     try:
-        for frame in read(source, state):
+        for frame in read(source, met):
             if words.interface is not None:
                 frame = frame._replace(interface=words.interface)
             if words.queue is not None:
                 frame = frame._replace(queue=words.queue)
             yield frame
     except Cut as why:
-        state["ends"] = str(why)
+        met.ends = str(why)
     except (OSError, EOFError) as why:
         if not isinstance(source.file, gzip.GzipFile):
             raise
-        state["ends"] = str(why)
+        met.ends = str(why)
 
 
-def convert(words, source, state):
+def convert(words: argparse.Namespace, source: Source, met: Met) -> None:
     out = "-" if words.show else words.files[1]
     write = write_text if words.show else writer_for(out, words.to, reader_of(source)[1], words.reasons)
     with Output(out, [] if words.show else words.files[:1]) as sink:
-        write(frames_of(source, words, state), sink.put)
+        write(frames_of(source, words, met), sink.put)
 
 
-def main():
-    parser = argparse.ArgumentParser(description=named(__doc__ or ""), formatter_class=argparse.RawDescriptionHelpFormatter,
-                                     usage=named("python3 tools/frames.py [--to KIND] [--interface N] [--queue N] [--reasons] [--strict] IN OUT\n"
-                                           "       python3 tools/frames.py [--strict] --show IN"))
+def main() -> None:
+    parser = argparse.ArgumentParser(
+        description=named(__doc__ or ""),
+        formatter_class=argparse.RawDescriptionHelpFormatter,
+        usage=named(
+            "python3 tools/frames.py [--to KIND] [--interface N] [--queue N] [--reasons] [--strict] IN OUT\n"
+            "       python3 tools/frames.py [--strict] --show IN"
+        ),
+    )
     parser.add_argument("--show", action="store_true", help="print IN as text")
     parser.add_argument("--to", choices=["pcap", "pcapng", "frames", "txt"], help="what OUT is to be, whatever its name")
     parser.add_argument("--interface", type=number, help="of all frames")
@@ -470,26 +538,25 @@ def main():
     words = parser.parse_intermixed_args()
     if len(words.files) != (1 if words.show else 2):
         parser.error("--show takes one file, and else there are two")
-    state = collections.Counter()
-    state["path"] = words.named or words.files[0]
+    path, met = words.named or words.files[0], Met()
     end_by_signal()
     try:
-        convert(words, opened(words.files[0]), state)
+        convert(words, opened(words.files[0]), met)
     except BrokenPipeError:
         os.dup2(os.open(os.devnull, os.O_WRONLY), 1)
         sys.exit(1)
     except OSError as error:
-        sys.exit(f"{error.filename or state['path']}: {error.strerror or error}")
+        sys.exit(f"{error.filename or path}: {error.strerror or error}")
     except IsRead as error:
         sys.exit(f"{error}")
     except NoText as why:
-        sys.exit(f"{state['path']}: " + ("it is no pcap, no pcapng, no frame stream and no text" if why.number == 1 else f"{why}"))
+        sys.exit(f"{path}: " + ("it is no pcap, no pcapng, no frame stream and no text" if why.number == 1 else f"{why}"))
     except Damaged as error:
-        sys.exit(f"{state['path']}: {error}")
-    if state["cut"]:
-        tell(f"{state['cut']} frames were cut when they were captured: only those bytes are here")
-    if state["ends"]:
-        tell(f"{state['path']}: {state['ends']}: the whole frames before it were read")
+        sys.exit(f"{path}: {error}")
+    if met.cut:
+        tell(f"{met.cut} frames were cut when they were captured: only those bytes are here")
+    if met.ends:
+        tell(f"{path}: {met.ends}: the whole frames before it were read")
         sys.exit(1 if words.strict else 0)
 
 

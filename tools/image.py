@@ -72,15 +72,11 @@ def chosen(it: Object, section: str | None, name: str | None) -> Symbol:
     every = [one for names in there.values() for one in names]
     if section is None:
         having = [one for one, names in there.items() if name in names] if name else list(there)
-        section = (
-            "xdp" if "xdp" in there and (not name or name in there["xdp"]) else having[0] if len(having) == 1 else None
-        )
+        section = "xdp" if "xdp" in there and (not name or name in there["xdp"]) else having[0] if len(having) == 1 else None
         if section is None and name and not having:
             raise Refused(f"there is no function {name}; there are: {', '.join(every) or 'none'}")
         if section is None:
-            raise Refused(
-                f"there is no section xdp; name one of these by --section: {', '.join(sorted(there)) or 'none'}"
-            )
+            raise Refused(f"there is no section xdp; name one of these by --section: {', '.join(sorted(there)) or 'none'}")
     if section not in there:
         raise Refused(f"there is no section {section} with a program; there are: {', '.join(sorted(there)) or 'none'}")
     names = there[section]

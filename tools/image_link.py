@@ -94,8 +94,7 @@ class Linker:
         data, by_clang = self.it.body(".BTF"), self.it.has_addresses() is False
         if self.extra.accesses and not by_clang:
             raise Refused(
-                "it has records of fields that depend on the kernel (CO-RE), and gcc leaves some out: compile it with"
-                " clang"
+                "it has records of fields that depend on the kernel (CO-RE), and gcc leaves some out: compile it with clang"
             )
         field = context_differs(Types(data)) if data is not None else None
         if field and not self.extra.accesses:
@@ -128,9 +127,7 @@ class Linker:
     def link_function(self, one: Symbol) -> None:
         """Applies all that is named in a function; what is left over is refused."""
         begin, wide = self.begins[one.section, one.value], False
-        named = {
-            at: it for at, it in self.it.relocations(one.section).items() if one.value <= at < one.value + one.size
-        }
+        named = {at: it for at, it in self.it.relocations(one.section).items() if one.value <= at < one.value + one.size}
         accesses = self.extra.accesses.get(self.it.names[one.section], {})
         asked = {at: it for at, it in accesses.items() if one.value <= at < one.value + one.size}
         for k in range(one.size // 8):
@@ -145,9 +142,7 @@ class Linker:
                     self.load(begin + k, one.section, at, named.pop(at))
             wide = opcode == 0x18 and not wide
         for at, it in named.items():
-            raise Refused(
-                f"{self.called(it.symbol)} is named {self.where(one.section, at)}, in an instruction that names nothing"
-            )
+            raise Refused(f"{self.called(it.symbol)} is named {self.where(one.section, at)}, in an instruction that names nothing")
         for at in asked:
             raise Refused(f"a field is asked for {self.where(one.section, at)}, where no instruction begins")
 
@@ -165,15 +160,11 @@ class Linker:
         else:
             is_known = opcode == 0x18 or opcode & 7 in (4, 7) and not opcode & 8
             is_wrong = (
-                not is_known
-                or struct.unpack_from("<i", self.slots, place + 4)[0] != before
-                or not -(1 << 31) <= after < 1 << 31
+                not is_known or struct.unpack_from("<i", self.slots, place + 4)[0] != before or not -(1 << 31) <= after < 1 << 31
             )
             new, form, there = after, "<i", place + 4
         if is_wrong:
-            raise Refused(
-                f"{called} is asked for {self.where(section, at)}, in an instruction of a form that is not known here"
-            )
+            raise Refused(f"{called} is asked for {self.where(section, at)}, in an instruction of a form that is not known here")
         struct.pack_into(form, self.slots, there, new)
 
     def called(self, symbol: Symbol) -> str:
@@ -194,14 +185,11 @@ class Linker:
         elif symbol.kind == SECTION_SYMBOL and named.kind == LOCAL_CALL:
             home, place = symbol.section, 8 * (imm + 1)
         else:
-            raise Refused(
-                f"the call {self.where(section, at)} names {symbol.name or 'a symbol'} in a form that is not known here"
-            )
+            raise Refused(f"the call {self.where(section, at)} names {symbol.name or 'a symbol'} in a form that is not known here")
         target = self.it.functions(home).get(place)
         if target is None:
             raise Refused(
-                f"the call {self.where(section, at)} leads to byte {place} of {self.it.names[home]}, where no function"
-                " begins"
+                f"the call {self.where(section, at)} leads to byte {place} of {self.it.names[home]}, where no function" " begins"
             )
         begin = self.begin(target)
         self.slots[8 * slot + 1] = self.slots[8 * slot + 1] & 15 | FUNCTION << 4

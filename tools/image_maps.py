@@ -14,9 +14,7 @@ CALLED = {
     30: "BLOOM_FILTER",
 }  # fmt: skip
 BECOMES = {PERCPU_HASH: HASH, PERCPU_ARRAY: ARRAY, LRU_HASH: HASH, LRU_PERCPU_HASH: HASH}
-ONE_PROCESSOR = (
-    "with one value for each key, which is exact: one processor runs the filter, and user space sees one value"
-)
+ONE_PROCESSOR = "with one value for each key, which is exact: one processor runs the filter, and user space sees one value"
 NO_ROOM = "which differs where the map is full: an update with a new key is refused, and no old key makes room"
 MOST_MAPS, MOST_KEY, MOST_VALUE, MOST_ENTRIES, MOST_ROOM = 16, 64, 4096, 65536, 1 << 24
 ROW = "<HHII"
@@ -40,9 +38,7 @@ class Maps:
             raise Refused(f"with {name} there are {len(self.rows)} maps, and an image has at most {MOST_MAPS}")
         room = sum((key + value) * entries for _, key, value, entries in (struct.unpack(ROW, it) for it in self.rows))
         if room > MOST_ROOM:
-            raise Refused(
-                f"with {name} the maps have {room:,} bytes together, and an image's have at most {MOST_ROOM:,}"
-            )
+            raise Refused(f"with {name} the maps have {room:,} bytes together, and an image's have at most {MOST_ROOM:,}")
         return len(self.rows) - 1
 
 
@@ -77,12 +73,9 @@ def map_row(types: Types, variable: Type, lru_as_hash: bool) -> tuple[bytes, str
     if "map_flags" in parts and types.length(parts["map_flags"]):
         raise Refused(f"map {name}: there are no flags of maps here")
     if "values" in parts:
-        raise Refused(
-            f"map {name}: its definition has values, which are maps or programs, and there are none of these here"
-        )
+        raise Refused(f"map {name}: its definition has values, which are maps or programs, and there are none of these here")
     key, value = (
-        types.length(parts[part + "_size"]) if part + "_size" in parts else types.size(parts[part])
-        for part in ("key", "value")
+        types.length(parts[part + "_size"]) if part + "_size" in parts else types.size(parts[part]) for part in ("key", "value")
     )
     entries = types.length(parts["max_entries"])
     if not 1 <= entries <= MOST_ENTRIES:
@@ -106,9 +99,7 @@ def maps_of(it: Object, lru_as_hash: bool) -> Maps:
         raise Refused("the object has maps, and no type information: compile with -g")
     types = Types(data)
     rows = {variable.name: map_row(types, variable, lru_as_hash) for variable in types.variables(".maps")}
-    for place, name in sorted(
-        (one.value, one.name) for one in it.symbols if one.section == section and one.name in rows
-    ):
+    for place, name in sorted((one.value, one.name) for one in it.symbols if one.section == section and one.name in rows):
         row, note = rows[name]
         found.numbers[place] = found.add(name, row)
         found.notes += [note] if note else []

@@ -120,9 +120,7 @@ class Ran:
     """What `xdpvm` says of an image: its verdict, and the report and the frames after a run, on maps that are
     filled."""
 
-    def __init__(
-        self, program: str, image: str | Path, frames: list[Frame] | None, filled: Filled | None = None
-    ) -> None:
+    def __init__(self, program: str, image: str | Path, frames: list[Frame] | None, filled: Filled | None = None) -> None:
         verdict = subprocess.run([program, "verify", image], capture_output=True, text=True, check=False)
         self.verdict = verdict.stdout.strip() or verdict.stderr.strip()
         self.accepted = verdict.returncode == 0
@@ -192,9 +190,7 @@ def differences(kernel: Kernel, ran: Ran, frames: list[Frame]) -> tuple[list[str
         if action_of(answered[0]) != row[1]:
             found.append(f"frame {number}: xdpvm {row[1]}, the kernel {action_of(answered[0])} ({answered[0]})")
         if answered[1] != after:
-            at = next(
-                (k for k, (a, b) in enumerate(zip(answered[1], after)) if a != b), min(len(answered[1]), len(after))
-            )
+            at = next((k for k, (a, b) in enumerate(zip(answered[1], after)) if a != b), min(len(answered[1]), len(after)))
             ours, theirs = after[at : at + 8].hex(), answered[1][at : at + 8].hex()
             found.append(f"frame {number}: the bytes differ at {at}: xdpvm {ours}, the kernel {theirs}")
     left, right = sorted(ran.entries), sorted(kernel.entries())
@@ -228,9 +224,7 @@ def arguments() -> argparse.Namespace:
     """The words of the command line."""
     words, text = sys.argv[1:], named(__doc__ or "")
     usage = text.split("usage: ")[1].split("\n\n")[0]
-    parser = argparse.ArgumentParser(
-        description=text, usage=usage, formatter_class=argparse.RawDescriptionHelpFormatter
-    )
+    parser = argparse.ArgumentParser(description=text, usage=usage, formatter_class=argparse.RawDescriptionHelpFormatter)
     parser.add_argument("filter", metavar="FILTER")
     parser.add_argument("frames", metavar="FRAMES")
     parser.add_argument("--maps")
@@ -259,9 +253,7 @@ def judged(given: argparse.Namespace, kernel: Kernel, ran: Ran) -> int | None:
 
 def compared(given: argparse.Namespace, folder: str) -> int:
     """Prints how both judge and run the filter; the status."""
-    choice = sources.Choice(
-        given.xdpvm, given.section, given.program, given.clang, given.flags, given.btf, given.lru_as_hash
-    )
+    choice = sources.Choice(given.xdpvm, given.section, given.program, given.clang, given.flags, given.btf, given.lru_as_hash)
     path, source = sources.image_of(given.filter, choice, folder)
     with open(path, "rb") as file:
         image = file.read()

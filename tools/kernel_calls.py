@@ -90,9 +90,7 @@ class Kernel:
             opcode, registers, offset, imm = struct.unpack("<BBhi", slot)
             kind = registers >> 4
             if opcode == 0x18 and not wide and kind in (5, 6):
-                slot = struct.pack(
-                    "<BBhi", opcode, registers & 15 | (1 if kind == 5 else 2) << 4, offset, self.maps[imm]
-                )
+                slot = struct.pack("<BBhi", opcode, registers & 15 | (1 if kind == 5 else 2) << 4, offset, self.maps[imm])
             wide = opcode == 0x18 and not wide
             yield slot
 
@@ -167,9 +165,7 @@ class Kernel:
     def __enter__(self) -> "Kernel":
         return self
 
-    def __exit__(
-        self, kind: type[BaseException] | None, why: BaseException | None, where: TracebackType | None
-    ) -> None:
+    def __exit__(self, kind: type[BaseException] | None, why: BaseException | None, where: TracebackType | None) -> None:
         self.close()
 
 

@@ -7,6 +7,7 @@ values, and fails if it finds one that EXCEPTIONS does not explain."""
 import os
 import re
 import sys
+from collections.abc import Iterator
 
 ROOT = os.path.dirname(os.path.dirname(os.path.abspath(__file__)))
 HOME = ("isa_model/src/limits.rt", "isa_model/specs/Code/Limits.antt")
@@ -30,14 +31,32 @@ VALUES = {
 
 # a value that is a limit in these forms only; {n} is the number
 FORMS = (
-    (64, "slots of a call frame", (r"replicate {n}\b", r"Slot; {n}\]", r"0\.\.{n}\b", r"slot < {n}\b",
-                                   r"\bk < {n}\b", r"slots ≡ {n}\b", r"\bslot_in\b.*\b{n}\b",
-                                   r"\bblank_\w+ c\..*\b{n}\b")),
-    (64, "bytes of a key", (r"\[u8; {n}\]", r"\[0; {n}\]", r"\[0u8; {n}\]", r"key_size ≤ {n}\b",
-                            r"key_size <= {n}\b")),
-    (8, "call frames", (r"frames\S* (?:<|≤|≡|<=|==) {n}\b", r"depth\S* (?:<|≤|≡|<=|==) {n}\b",
-                        r"saved\S* (?:\+ 1 )?(?:<|≤|≡) {n}\b", r"callers (?:<|≤|≡) {n}\b",
-                        r"saved\.items (?:\+ 1 )?< {n}\b")),
+    (
+        64,
+        "slots of a call frame",
+        (
+            r"replicate {n}\b",
+            r"Slot; {n}\]",
+            r"0\.\.{n}\b",
+            r"slot < {n}\b",
+            r"\bk < {n}\b",
+            r"slots ≡ {n}\b",
+            r"\bslot_in\b.*\b{n}\b",
+            r"\bblank_\w+ c\..*\b{n}\b",
+        ),
+    ),
+    (64, "bytes of a key", (r"\[u8; {n}\]", r"\[0; {n}\]", r"\[0u8; {n}\]", r"key_size ≤ {n}\b", r"key_size <= {n}\b")),
+    (
+        8,
+        "call frames",
+        (
+            r"frames\S* (?:<|≤|≡|<=|==) {n}\b",
+            r"depth\S* (?:<|≤|≡|<=|==) {n}\b",
+            r"saved\S* (?:\+ 1 )?(?:<|≤|≡) {n}\b",
+            r"callers (?:<|≤|≡) {n}\b",
+            r"saved\.items (?:\+ 1 )?< {n}\b",
+        ),
+    ),
     (7, "callers", (r"AbstractFrame, {n}>",)),
     (16, "maps", (r"maps\S* (?:<|≤|<=|>) {n}\b", r"rows ≤ {n}\b", r"\bm < {n}\b", r"map_named w < {n}\b")),
 )
@@ -54,9 +73,10 @@ EXCEPTIONS = (
 )
 
 
-def bare(text, antt):
+def bare(text: str, antt: bool) -> list[str]:
     """The text without comments and strings, with the same lines."""
-    def without(m):
+
+    def without(m: re.Match[str]) -> str:
         part = m[0].removeprefix("b")
         if part.startswith("'"):
             return m[0]
@@ -71,7 +91,7 @@ def bare(text, antt):
     return lines
 
 
-def numbers(line):
+def numbers(line: str) -> Iterator[int]:
     """The numbers of a line, in any base."""
     kind = r"(?:[ui](?:8|16|32|64|128|size))?"
     for m in re.finditer(r"(?<![\w.'])(0x[0-9a-fA-F_]+|0b[01_]+|[0-9][0-9_]*)" + kind + r"(?!\w)", line):
@@ -82,7 +102,7 @@ def numbers(line):
         yield 2 ** int(m.group(1))
 
 
-def found(line):
+def found(line: str) -> Iterator[tuple[int, str]]:
     """The numbers of a line that are a limit."""
     for n in numbers(line):
         if n in VALUES:
@@ -94,7 +114,7 @@ def found(line):
                 break
 
 
-def main():
+def main() -> None:
     only = sys.argv[1:]
     used = [False] * len(EXCEPTIONS)
     left = 0
@@ -108,7 +128,7 @@ def main():
             path = "/".join(parts + [name])
             if path in HOME or not name.endswith((".rt", ".antt")):
                 continue
-            with open(os.path.join(folder, name)) as f:
+            with open(os.path.join(folder, name), encoding="utf-8") as f:
                 text = f.read()
             for at, line in enumerate(bare(text, name.endswith(".antt")), 1):
                 for n, what in found(line):

@@ -11,21 +11,43 @@ does not. PROGRAM is a program that is asked, whose file has its name (the defau
 those that `rt run` leaves in crates/).
 """
 import argparse
-import collections
 import os
 import re
 import shutil
 import subprocess
 import sys
 import tempfile
+from typing import NamedTuple
 
-TOP = os.path.dirname(os.path.dirname(os.path.abspath(__file__)))
-Command = collections.namedtuple("Command", "name about arguments options")
-Argument = collections.namedtuple("Argument", "name about")
-Option = collections.namedtuple("Option", "name value about")
+sys.path.insert(0, os.path.join(os.path.dirname(os.path.abspath(__file__)), "../checks"))
+from common import TOP, built, text_of, there, write
 
 
-def help_of(program, *words):
+class Argument(NamedTuple):
+    """An argument of a command, and what it is."""
+
+    name: str
+    about: str
+
+
+class Option(NamedTuple):
+    """An option with its value, which may be None."""
+
+    name: str
+    value: str | None
+    about: str
+
+
+class Command(NamedTuple):
+    """A command, or what the program does without one: its name is empty."""
+
+    name: str
+    about: str
+    arguments: list[Argument]
+    options: list[Option]
+
+
+def help_of(program: str, *words: str) -> str:
     """What help says: on standard error with status 1, or on standard output with status 0."""
     ran = subprocess.run([program, *words, "--help"], capture_output=True, text=True, check=False)
     said = ran.stdout if ran.returncode == 0 else ran.stderr
@@ -34,24 +56,24 @@ def help_of(program, *words):
     return said
 
 
-def rows(text, title):
+def rows(text: str, title: str) -> list[list[str]]:
     """The rows of a section of help: the left column, and the text about it."""
     found = re.search(rf"^{title}:\n((?:  .*\n)+)", text, re.M)
     return [re.split(r"  +", row.strip(), maxsplit=1) for row in found[1].splitlines()] if found else []
 
 
-def command_of(program, name, about):
+def command_of(program: str, name: str, about: str) -> Command:
     """A command, or what the program does without one: its name is empty."""
     text = help_of(program, *name.split())
     arguments = [Argument(left.strip("<>[]."), right) for left, right in rows(text, "Arguments")]
     options = []
     for left, right in rows(text, "Options"):
-        flag, value = re.fullmatch(r"(?:-\w, )?--([\w-]+)(?: <([^>]+)>)?", left).groups()
-        options.append(Option(flag, value, right))
+        found = there(re.fullmatch(r"(?:-\w, )?--([\w-]+)(?: <([^>]+)>)?", left))
+        options.append(Option(found[1], found[2], right))
     return Command(name, about, arguments, [one for one in options if one.name not in ("help", "version")])
 
 
-def read(program):
+def read(program: str) -> tuple[str, list[Command]]:
     """What the program is for, and its commands."""
     text = help_of(program)
     commands = [command_of(program, name, about) for name, about in rows(text, "Commands") if name != "help"]
@@ -90,44 +112,52 @@ STATUSES["xdpvm_filter"] = (
     (4, "a file or an output cannot be read or written"),
     (5, "out of memory"),
 )
-PAGES = {"xdpvm": "docs/GUIDE.md and docs/REFUSALS.md", "xdpvm_survey": "docs/SURVEY.md and docs/REFUSALS.md",
-         "xdpvm_filter": "docs/FORMATS.md and docs/REFUSALS.md"}
+PAGES = {
+    "xdpvm": "docs/GUIDE.md and docs/REFUSALS.md",
+    "xdpvm_survey": "docs/SURVEY.md and docs/REFUSALS.md",
+    "xdpvm_filter": "docs/FORMATS.md and docs/REFUSALS.md",
+}
 OTHERS = {"xdpvm": ("xdpvm_filter", "xdpvm_survey"), "xdpvm_survey": ("xdpvm",), "xdpvm_filter": ("xdpvm",)}
 
 
-def roff(text):
+def roff(text: str) -> str:
     """A text in roff's spelling."""
     text = text.replace("\\", "\\e").replace("-", "\\-")
     return re.sub(r"^([.'])", r"\\&\1", re.sub(r"`([^`]*)`", r"\\fB\1\\fR", text))
 
 
-def flag(option):
+def flag(option: Option) -> str:
     """An option with its value, if it takes one."""
     return f"\\fB\\-\\-{roff(option.name)}\\fR" + (f" \\fI{roff(option.value)}\\fR" if option.value else "")
 
 
-def upper(argument):
+def upper(argument: Argument) -> str:
     return roff(argument.name if "|" in argument.name else argument.name.upper())
 
 
-def synopsis(name, command):
+def synopsis(name: str, command: Command) -> str:
     words = [f"[{flag(one)}]" for one in command.options]
     words += [f"\\fI{upper(one)}\\fR" for one in command.arguments]
     return " ".join([f"\\fB{name} {command.name}".rstrip() + "\\fR", *words])
 
 
-def manual(name, about, commands):
-    lines = ['.\\" Made by tools/manual.py of what the program says as its help.', f".TH {name.upper()} 1", ".SH NAME",
-             f"{name} \\- {roff(about[0].lower() + about[1:])}", ".SH SYNOPSIS"]
+def manual(name: str, about: str, commands: list[Command]) -> str:
+    """The man page of a program."""
+    lines = [
+        '.\\" Made by tools/manual.py of what the program says as its help.',
+        f".TH {name.upper()} 1",
+        ".SH NAME",
+        f"{name} \\- {roff(about[0].lower() + about[1:])}",
+        ".SH SYNOPSIS",
+    ]
     for command in commands:
         lines += [synopsis(name, command), ".br"]
     lines[-1:] = [".SH COMMANDS"]
     for command in commands:
         lines += [".TP", f"\\fB{command.name or name}\\fR", roff(command.about) + "."]
-        for one in command.arguments:
-            lines += [".RS", ".TP", f"\\fI{upper(one)}\\fR", roff(one.about) + ".", ".RE"]
-        for one in command.options:
-            lines += [".RS", ".TP", flag(one), roff(one.about) + ".", ".RE"]
+        parts = [(f"\\fI{upper(one)}\\fR", one.about) for one in command.arguments]
+        for left, right in parts + [(flag(one), one.about) for one in command.options]:
+            lines += [".RS", ".TP", left, roff(right) + ".", ".RE"]
     lines += [".SH FILES", "A path may be \\fI/dev/stdin\\fR for what is read, and \\fI/dev/stdout\\fR for what is written."]
     lines += [".SH EXIT STATUS"]
     for status, meaning in STATUSES[name]:
@@ -139,27 +169,44 @@ def manual(name, about, commands):
 
 # ---- completions
 
-def bash(name, commands):
-    lines = [f"# Completions of {name} for bash, made by tools/manual.py.", f"_{name}() {{",
-             '    local word=${COMP_WORDS[COMP_CWORD]} command=${COMP_WORDS[1]}', "    COMPREPLY=()"]
+
+def bash(name: str, commands: list[Command]) -> str:
+    """The completions for bash."""
+    lines = [
+        f"# Completions of {name} for bash, made by tools/manual.py.",
+        f"_{name}() {{",
+        "    local word=${COMP_WORDS[COMP_CWORD]} command=${COMP_WORDS[1]}",
+        "    COMPREPLY=()",
+    ]
     own = [one for one in commands if not one.name]
     first = [one.name for one in commands if one.name] + [f"--{it.name}" for one in own for it in one.options]
-    lines += ["    if ((COMP_CWORD == 1)); then",
-              f'        mapfile -t COMPREPLY < <(compgen -W "{" ".join(first)} --help --version" {"-f " if own else ""}-- "$word")',
-              "        return", "    fi", '    if [[ $word == -* ]]; then', "        case $command in"]
-    for command in commands[len(own):] + own:
+    lines += [
+        "    if ((COMP_CWORD == 1)); then",
+        f'        mapfile -t COMPREPLY < <(compgen -W "{" ".join(first)} --help --version" {"-f " if own else ""}-- "$word")',
+        "        return",
+        "    fi",
+        "    if [[ $word == -* ]]; then",
+        "        case $command in",
+    ]
+    for command in commands[len(own) :] + own:
         flags = " ".join([f"--{one.name}" for one in command.options] + ["--help"])
         lines.append(f'        {command.name or "*"}) mapfile -t COMPREPLY < <(compgen -W "{flags}" -- "$word") ;;')
-    lines += ["        esac", "        return", "    fi", '    mapfile -t COMPREPLY < <(compgen -f -- "$word")', "}",
-              f"complete -o filenames -F _{name} {name}"]
+    lines += [
+        "        esac",
+        "        return",
+        "    fi",
+        '    mapfile -t COMPREPLY < <(compgen -f -- "$word")',
+        "}",
+        f"complete -o filenames -F _{name} {name}",
+    ]
     return "\n".join(lines) + "\n"
 
 
-def quoted(text):
+def quoted(text: str) -> str:
     return text.replace("'", "'\\''")
 
 
-def arguments_of(command):
+def arguments_of(command: Command) -> str:
     """The arguments of zsh's _arguments for a command."""
     words = ["_arguments '--help[Print help]'"]
     for one in command.options:
@@ -171,22 +218,27 @@ def arguments_of(command):
     return " ".join(words)
 
 
-def zsh(name, commands):
-    lines = [f"#compdef {name}", f"# Completions of {name} for zsh, made by tools/manual.py.", f"_{name}() {{", "    local -a commands",
-             "    commands=("]
+def zsh(name: str, commands: list[Command]) -> str:
+    lines = [
+        f"#compdef {name}",
+        f"# Completions of {name} for zsh, made by tools/manual.py.",
+        f"_{name}() {{",
+        "    local -a commands",
+        "    commands=(",
+    ]
     own = [one for one in commands if not one.name]
     lines += [f"        '{one.name}:{quoted(one.about)}'" for one in commands if one.name]
     lines += ["    )", "    if ((CURRENT == 2)); then", "        _describe command commands"]
     lines += ["        _files"] if own else []
     lines += ["        return", "    fi", "    case $words[2] in"]
-    for command in commands[len(own):] + own:
+    for command in commands[len(own) :] + own:
         lines.append(f"    {command.name or '*'})")
         lines += ["        " + ("shift words; ((CURRENT--)); " if command.name else "") + arguments_of(command), "        ;;"]
     lines += ["    esac", "}", f'_{name} "$@"']
     return "\n".join(lines) + "\n"
 
 
-def fish(name, commands):
+def fish(name: str, commands: list[Command]) -> str:
     lines = [f"# Completions of {name} for fish, made by tools/manual.py."]
     for command in commands:
         when = f"'__fish_seen_subcommand_from {command.name}'" if command.name else "__fish_use_subcommand"
@@ -199,7 +251,8 @@ def fish(name, commands):
 
 # ---- all
 
-def made(program):
+
+def made(program: str) -> dict[str, str]:
     name = os.path.basename(program)
     about, commands = read(program)
     return {
@@ -210,7 +263,7 @@ def made(program):
     }
 
 
-def is_read(name, *words):
+def is_read(name: str, *words: str) -> bool:
     """Whether a tool accepts its file, if the tool is installed."""
     if not shutil.which(words[0]):
         return True
@@ -234,11 +287,11 @@ COMP_WORDS=(xdpvm_filter image frames out --che) COMP_CWORD=4; _xdpvm_filter; ec
 """
 
 
-def check(files):
+def check(files: dict[str, str]) -> bool:
     good = True
     for name, text in files.items():
         path = os.path.join(TOP, name)
-        if not os.path.exists(path) or open(path, encoding="utf-8").read() != text:
+        if not os.path.exists(path) or text_of(path) != text:
             print(f"{name}: it is not what tools/manual.py makes of the program's help")
             good = False
     os.chdir(TOP)
@@ -255,10 +308,9 @@ def check(files):
     return good
 
 
-def main():
+def main() -> None:
     words = argparse.ArgumentParser(description=__doc__, formatter_class=argparse.RawDescriptionHelpFormatter)
-    built = [os.path.join(TOP, f"crates/{name}/out/{name}") for name in STATUSES]
-    words.add_argument("programs", nargs="*", metavar="PROGRAM", default=built)
+    words.add_argument("programs", nargs="*", metavar="PROGRAM", default=[built(name) for name in STATUSES])
     words.add_argument("--check", action="store_true")
     asked = words.parse_args()
     files = {}
@@ -270,8 +322,7 @@ def main():
         sys.exit(0 if check(files) else 1)
     for name, text in files.items():
         os.makedirs(os.path.dirname(os.path.join(TOP, name)), exist_ok=True)
-        with open(os.path.join(TOP, name), "w", encoding="utf-8") as file:
-            file.write(text)
+        write(os.path.join(TOP, name), text)
 
 
 if __name__ == "__main__":

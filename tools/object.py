@@ -76,7 +76,7 @@ def verified(given: argparse.Namespace, says_yes: bool = True) -> Verdict:
     """The verdict on the image, which is printed; a yes if that is wanted."""
     if not shutil.which(given.xdpvm):
         raise Failed(f"there is no program {given.xdpvm} to verify the image; --unverified leaves that out")
-    ran = subprocess.run([given.xdpvm, "verify", given.taken], capture_output=True, text=True)
+    ran = subprocess.run([given.xdpvm, "verify", given.taken], capture_output=True, text=True, check=False)
     if ran.returncode or says_yes:
         print(ran.stdout, end="", flush=True)
     sys.stderr.write(ran.stderr)
@@ -92,7 +92,7 @@ def lines(given: argparse.Namespace, program: Program, data: bytes) -> Dict[int,
         return object_link.lines_of_text(given.source, program)
     listing = ""
     if not given.unverified:
-        ran = subprocess.run([given.xdpvm, "dis", given.taken], capture_output=True)
+        ran = subprocess.run([given.xdpvm, "dis", given.taken], capture_output=True, check=False)
         listing = ran.stdout.decode() if ran.returncode == 0 else ""
     return object_link.lines_of_listing(given.image, program, listing)
 
@@ -101,7 +101,7 @@ def assembled(given: argparse.Namespace) -> Optional[bytes]:
     """The image that xdpvm makes of the source."""
     with tempfile.TemporaryDirectory() as folder:
         words = [given.xdpvm, "asm", given.source, f"{folder}/image"]
-        if subprocess.run(words, stdout=subprocess.DEVNULL).returncode:
+        if subprocess.run(words, stdout=subprocess.DEVNULL, check=False).returncode:
             return None
         return content(f"{folder}/image")
 
@@ -142,9 +142,7 @@ def write_object(given: argparse.Namespace, data: bytes) -> int:
         out.put(it.bytes)
     if it.begins:
         which = ", ".join(it.maps[index] for index in it.begins)
-        words = (
-            f"with the values of {path_of(given.image)}: each loader fills them in; other maps begin empty, or as zeros"
-        )
+        words = f"with the values of {path_of(given.image)}: each loader fills them in; other maps begin empty, or as zeros"
         print(f"{given.object}: {which} begin{'' if len(it.begins) > 1 else 's'} {words}", file=sys.stderr)
     if not program.is_in_order_of_calls():
         words = "its functions are not in the order of their calls, so image.py makes another image of the object"
@@ -153,6 +151,7 @@ def write_object(given: argparse.Namespace, data: bytes) -> int:
 
 
 def load(given: argparse.Namespace, data: bytes) -> int:
+    """Loads the object: the exit status."""
     program, is_accepted = Program(data), False
     if not given.unverified:
         verdict = verified(given)
@@ -215,6 +214,7 @@ def answered(given: argparse.Namespace) -> int:
 
 
 def arguments() -> argparse.Namespace:
+    """The words of the command line."""
     text = named(__doc__ or "")
     usage = text.split("\n\n")[1].removeprefix("usage: ")
     words = argparse.ArgumentParser(description=text, usage=usage, formatter_class=argparse.RawDescriptionHelpFormatter)

@@ -142,9 +142,7 @@ def atomics(program: Program) -> List[Finding]:
         if it.opcode & 7 == STX and it.opcode & 0xE0 == ATOMIC and it.destination != FRAME:
             size = SIZES[it.opcode & 0x18]
             if it.offset % size:
-                found.append(
-                    Finding(False, f"slot {slot} has an atomic instruction of {size} bytes at {it.offset:+}", ATOMICS)
-                )
+                found.append(Finding(False, f"slot {slot} has an atomic instruction of {size} bytes at {it.offset:+}", ATOMICS))
     return found
 
 
@@ -156,9 +154,7 @@ class Stack:
         self.program, self.depths = program, dict.fromkeys(program.begins, 0)
         self.subtractions: List[int] = []
         self.copies = {FRAME: 0}
-        targets = {
-            slot + 1 + distance(it) for slot in program.instructions for it in [program.slot(slot)] if is_jump(it)
-        }
+        targets = {slot + 1 + distance(it) for slot in program.instructions for it in [program.slot(slot)] if is_jump(it)}
         begin = 0
         for slot in program.instructions:
             if slot in targets or slot in self.depths:
@@ -198,10 +194,7 @@ def distance(it: Slot) -> int:
 
 def subtractions(program: Program) -> List[Finding]:
     """Stack pointers that are moved by a subtraction."""
-    return [
-        Finding(True, f"slot {slot} subtracts from a stack pointer", SUBTRACTIONS)
-        for slot in Stack(program).subtractions
-    ]
+    return [Finding(True, f"slot {slot} subtracts from a stack pointer", SUBTRACTIONS) for slot in Stack(program).subtractions]
 
 
 def callees(program: Program) -> Dict[int, List[int]]:
@@ -214,7 +207,7 @@ def stack(program: Program) -> List[Finding]:
     """Calls whose call frames have over 512 bytes together, or are too many (check_max_stack_depth)."""
     own, called = Stack(program).depths, callees(program)
     for step, is_sure, where in ((WITH_JIT, True, ""), (WITHOUT, False, " without the JIT, and in older kernels")):
-        size, chain = dearest(called, {begin: rounded(own[begin], step) for begin in own})
+        size, chain = dearest(called, {begin: rounded(size, step) for begin, size in own.items()})
         if size > STACK:
             said = f"the call frames of the functions at slots {listed(chain)} have {size:,} bytes of stack"
             return [Finding(is_sure, said + where, FRAMES), *deep(called)]
@@ -244,15 +237,11 @@ def deep(called: Dict[int, List[int]]) -> List[Finding]:
     """A chain of over 8 calls, if the code has one."""
     longest = {begin: [begin] for begin in called}
     for _ in range(CALL_FRAMES):
-        after: Dict[int, List[int]] = {
-            begin: max((longest[to] for to in called[begin]), key=len, default=[]) for begin in called
-        }
+        after: Dict[int, List[int]] = {begin: max((longest[to] for to in called[begin]), key=len, default=[]) for begin in called}
         longest = {begin: [begin, *chain] for begin, chain in after.items()}
     chain = longest[0]
     return (
-        [Finding(True, f"the functions at slots {listed(chain)} are a chain of calls", DEPTH)]
-        if len(chain) > CALL_FRAMES
-        else []
+        [Finding(True, f"the functions at slots {listed(chain)} are a chain of calls", DEPTH)] if len(chain) > CALL_FRAMES else []
     )
 
 

@@ -119,9 +119,8 @@ class Program:
         first, the calls of one function after those of the one before."""
         order = [0]
         for begin in order:
-            for slot in range(begin, self.end(begin)):
-                if slot in self.calls and self.calls[slot] not in order:
-                    order.append(self.calls[slot])
+            calls = [self.calls[slot] for slot in range(begin, self.end(begin)) if slot in self.calls]
+            order += [it for it in dict.fromkeys(calls) if it not in order]
         return order == self.begins
 
 

@@ -74,7 +74,7 @@ def tool(name: str) -> str:
 
 def ran(name: str, *words: str) -> bytes:
     """The standard output of a tool; its own words if it fails."""
-    done = subprocess.run([tool(name), *words], stdin=subprocess.DEVNULL, capture_output=True)
+    done = subprocess.run([tool(name), *words], stdin=subprocess.DEVNULL, capture_output=True, check=False)
     if done.returncode:
         raise failure(name, (done.stderr or done.stdout).decode(errors="replace"))
     return done.stdout
@@ -107,7 +107,7 @@ def place_of(word: str) -> Place:
 
 def need_file_system(folder: str) -> None:
     """Pins are kept by a BPF file system only."""
-    with open("/proc/self/mounts") as file:
+    with open("/proc/self/mounts", encoding="utf-8") as file:
         mounts = [line.split() for line in file]
     inside = [it for it in mounts if os.path.commonpath([it[1], folder]) == it[1]]
     kind = max(enumerate(inside), key=lambda it: (len(it[1][1]), it[0]))[1][2]
@@ -147,7 +147,7 @@ def next_to(place: Place) -> str:
 def remove(folder: str) -> None:
     """Removes a folder of pins."""
     for path in glob.glob(f"{glob.escape(folder)}/maps/*") + glob.glob(f"{glob.escape(folder)}/*"):
-        os.rmdir(path) if os.path.isdir(path) else os.unlink(path)
+        (os.rmdir if os.path.isdir(path) else os.unlink)(path)
     if os.path.isdir(folder):
         os.rmdir(folder)
 
@@ -172,9 +172,7 @@ class Loader:
         need_file_system(self.place.folder)
         there = attached(self.place.device) if self.place.device else None
         if there and there.id not in pinned(self.place) and not replaces:
-            words = (
-                f"{self.place.said} has a program that object.py did not load (id {there.id}); --replace replaces it"
-            )
+            words = f"{self.place.said} has a program that object.py did not load (id {there.id}); --replace replaces it"
             raise Failed(words)
         kept = self.kept() if keeps else {}
         remove(self.next)
@@ -189,9 +187,7 @@ class Loader:
             raise
         remove(self.place.folder)
         os.rename(self.next, self.place.folder)
-        done = (
-            "loaded" if not self.place.device else "attached" if not there else "attached in place of the old program"
-        )
+        done = "loaded" if not self.place.device else "attached" if not there else "attached in place of the old program"
         return f"{self.place.said}: {done}; pinned in {self.place.folder}"
 
     def kept(self) -> Dict[int, str]:
@@ -300,6 +296,7 @@ def read(place: Place) -> List[Entry]:
 
 
 def load_by(name: str, place: Place, it: Object, replaces: bool, mode: Optional[str]) -> str:
+    """Has a loader of Linux attach the object; what it said."""
     if not place.device:
         raise Failed(f"{name} loads on an interface, and {place.folder} is none; --by bpftool pins")
     with tempfile.TemporaryDirectory() as folder:

@@ -43,6 +43,7 @@ class Lines:
         return Refused(f"{self.name}:{number}:{column}: {why}")
 
     def entry(self, number: int, line: str) -> Entry:
+        """The entry that a line has."""
         words = list(re.finditer(r"\S+", line))
         if len(words) < 4:
             raise self.wrong(number, len(line.rstrip()) + 1, "a map line has an index, a key and a value")

@@ -18,34 +18,30 @@ import shutil
 import subprocess
 import sys
 
-TOP = os.path.dirname(os.path.dirname(os.path.abspath(__file__)))
+sys.path.insert(0, os.path.join(os.path.dirname(os.path.abspath(__file__)), "../checks"))
+from common import TOP, built, crates_below, text_of, there, write
+
+Graph = dict[str, list[str]]
 NAMES = ("guarded",)
 
 
-def graph_of(program, name):
+def graph_of(program: str, name: str) -> str:
     """The graph of a stored program, in dot's language."""
     words = [program, "dis", "--dot", os.path.join(TOP, "examples", f"{name}.image")]
     return subprocess.run(words, stdout=subprocess.PIPE, text=True, check=True).stdout
 
 
-def crates():
-    """Each crate of crates.txt, with the crates of this repository that it builds on."""
-    with open(os.path.join(TOP, "crates.txt"), encoding="utf-8") as file:
-        rows = [line.partition(":") for line in file if line.strip() and not line.startswith("#")]
-    found = {head.split()[0]: names.split() for head, _, names in rows}
-    return {crate: [name for name in names if name in found] for crate, names in found.items()}
-
-
-def all_below(graph, crate, known):
+def all_below(graph: Graph, crate: str, known: dict[str, set[str]]) -> set[str]:
     """The crates that a crate builds on, directly or not."""
     if crate not in known:
         known[crate] = set(graph[crate]).union(*(all_below(graph, it, known) for it in graph[crate]))
     return known[crate]
 
 
-def graph_of_crates():
+def graph_of_crates() -> str:
     """The crates in dot's language, without the arrows that others imply."""
-    graph, known = crates(), {}
+    graph = crates_below()
+    known: dict[str, set[str]] = {}
     lines = ["digraph crates {", '  node [shape=box, fontname="monospace"];', "  rankdir=BT;"]
     lines += [f'  {crate} [label="{crate}"];' for crate in graph]
     for crate, below in graph.items():
@@ -54,18 +50,18 @@ def graph_of_crates():
     return "\n".join([*lines, "}", ""])
 
 
-def drawn(graph):
+def drawn(graph: str) -> str | None:
     """The picture of a graph. None: there is no dot."""
     if not shutil.which("dot"):
         return None
     return subprocess.run(["dot", "-Tsvg"], input=graph, stdout=subprocess.PIPE, text=True, check=True).stdout
 
 
-def version_of(picture):
-    return re.search(r"graphviz version (\S+)", picture)[1]
+def version_of(picture: str) -> str:
+    return there(re.search(r"graphviz version (\S+)", picture))[1]
 
 
-def has_parts(picture, graph):
+def has_parts(picture: str, graph: str) -> bool:
     """Whether a picture has the lines of all blocks of a graph, in their order, or the crates in any, and as many edges."""
     labels = re.findall(r'label="((?:[^"\\]|\\.)*)"', graph)
     lines = [re.sub(r"\\(.)", r"\1", one) for label in labels for one in label.split("\\l") if one]
@@ -75,16 +71,16 @@ def has_parts(picture, graph):
     return texts == lines and picture.count('class="edge"') == graph.count(" -> ")
 
 
-def is_made(picture, graph):
+def is_made(picture: str, graph: str) -> bool:
     again = drawn(graph)
     if again is None or version_of(again) != version_of(picture):
         return has_parts(picture, graph)
     return has_parts(picture, graph) and again == picture
 
 
-def main():
+def main() -> None:
     words = argparse.ArgumentParser(description=__doc__, formatter_class=argparse.RawDescriptionHelpFormatter)
-    words.add_argument("program", nargs="?", default=os.path.join(TOP, "crates/xdpvm_survey/out/xdpvm_survey"))
+    words.add_argument("program", nargs="?", default=built("xdpvm_survey"))
     words.add_argument("--check", action="store_true")
     asked = words.parse_args()
     if not os.path.exists(asked.program):
@@ -98,9 +94,8 @@ def main():
             if picture is None:
                 raise SystemExit("pictures.py: there is no dot (Debian: graphviz)")
             os.makedirs(os.path.dirname(path), exist_ok=True)
-            with open(path, "w", encoding="utf-8") as file:
-                file.write(picture)
-        elif not os.path.exists(path) or not is_made(open(path, encoding="utf-8").read(), graph):
+            write(path, picture)
+        elif not os.path.exists(path) or not is_made(text_of(path), graph):
             print(f"docs/pictures/{name}.svg: it is not what tools/pictures.py makes")
             good = False
     sys.exit(0 if good else 1)

@@ -42,11 +42,11 @@ def tell_refusal(source: Source, ran: "subprocess.CompletedProcess[str]") -> Non
         slot, way = re.match(r"slot (\d+):", line), line.startswith("way:")
         named = source.line(int(slot[1])) if slot else None
         if named:
-            print("  {}: {}".format(*named), file=sys.stderr)
+            print(f"  {named[0]}: {named[1]}", file=sys.stderr)
         for here, there in re.findall(r"(\d+) -> (\d+)", line) if way else []:
             before, after = source.line(int(here)), source.line(int(there))
             if before and after:
-                print("  {}: {}\n    -> {}: {}".format(*before, *after), file=sys.stderr)
+                print(f"  {before[0]}: {before[1]}\n    -> {after[0]}: {after[1]}", file=sys.stderr)
 
 
 def plural(count: int, noun: str) -> str:
@@ -88,15 +88,9 @@ def tell_report(lines: Iterable[str], source: Source, shows_all: bool) -> None:
     if not last:
         return
     total = sum(actions.values())
-    say(
-        f"{plural(total, 'frame')}: "
-        + (", ".join(f"{count:,} {name}" for name, count in actions.most_common()) or "none")
-    )
+    say(f"{plural(total, 'frame')}: " + (", ".join(f"{count:,} {name}" for name, count in actions.most_common()) or "none"))
     if reasons:
-        say(
-            "reasons: "
-            + ", ".join(f"{reason} ({count:,})" for reason, count in sorted(reasons.items(), key=lambda it: -it[1]))
-        )
+        say("reasons: " + ", ".join(f"{reason} ({count:,})" for reason, count in sorted(reasons.items(), key=lambda it: -it[1])))
     tell_maps(entries, source, shows_all)
     if last.startswith("fault"):
         say(last)

@@ -98,9 +98,9 @@ def program_beside(name: str) -> str:
     return name
 
 
-def the_xdpvm(environment: Mapping[str, str] = os.environ) -> str:
+def the_xdpvm(environment: Mapping[str, str] | None = None) -> str:
     """The program that is used where no option names one."""
-    return environment.get("XDPVM") or program_beside("xdpvm")
+    return (os.environ if environment is None else environment).get("XDPVM") or program_beside("xdpvm")
 
 
 def the_filter(xdpvm: str) -> str:
@@ -109,9 +109,7 @@ def the_filter(xdpvm: str) -> str:
     beside = os.path.join(os.path.dirname(shutil.which(xdpvm) or xdpvm), "xdpvm_filter")
     it = os.environ.get("XDPVM_FILTER") or (beside if os.path.isfile(beside) else program_beside("xdpvm_filter"))
     if not shutil.which(it):
-        raise Failed(
-            f"there is no program {it}, which runs a filter on maps that are filled; `bash install.sh FOLDER` makes one"
-        )
+        raise Failed(f"there is no program {it}, which runs a filter on maps that are filled; `bash install.sh FOLDER` makes one")
     return it
 
 
@@ -141,9 +139,7 @@ def compiled(path: str, choice: Choice, folder: str) -> str:
     kind = ["-gbtf", "-I/usr/include"] if "gcc" in os.path.basename(choice.clang) else ["-target", "bpf", "-g"]
     if not shutil.which(choice.clang):
         raise Failed(f"{path} is C, and there is no {choice.clang} to compile it")
-    if subprocess.run(
-        [choice.clang, *kind, "-O2", *choice.flags, headers, "-c", path, "-o", made], check=False
-    ).returncode:
+    if subprocess.run([choice.clang, *kind, "-O2", *choice.flags, headers, "-c", path, "-o", made], check=False).returncode:
         raise Failed(f"{path}: it does not compile")
     return made
 
@@ -161,9 +157,7 @@ def image_of(path: str, choice: Choice, folder: str) -> tuple[str, Source]:
         return made, Source.of_object(called, image)
     if begin in CAPTURES or begin[:3] == b"XPF":
         raise Failed(f"{called} is a capture or a frame stream, and the filter comes first")
-    ran = subprocess.run(
-        [choice.xdpvm, "asm", path, made], capture_output=True, text=True, errors="replace", check=False
-    )
+    ran = subprocess.run([choice.xdpvm, "asm", path, made], capture_output=True, text=True, errors="replace", check=False)
     if ran.returncode:
         ran.stderr = ran.stderr.replace(path, called)
         raise TextRefused(called, ran)

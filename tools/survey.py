@@ -183,9 +183,14 @@ def in_order(rows: list[Row], column: str) -> list[Row]:
 
 
 def arguments() -> argparse.Namespace:
+    """The words of the command line."""
     words = sys.argv[1:]
     cut = words.index("--") if "--" in words else len(words)
-    parser = argparse.ArgumentParser(description=named(__doc__ or ""), formatter_class=argparse.RawDescriptionHelpFormatter, usage=named("python3 tools/survey.py FILTER|FOLDER .. [OPTION ..]"))
+    parser = argparse.ArgumentParser(
+        description=named(__doc__ or ""),
+        formatter_class=argparse.RawDescriptionHelpFormatter,
+        usage=named("python3 tools/survey.py FILTER|FOLDER .. [OPTION ..]"),
+    )
     parser.add_argument("filters", metavar="FILTER", nargs="+")
     parser.add_argument("--format", choices=["table", "csv", "json"], default="table")
     parser.add_argument("--no-header", action="store_true")
@@ -209,9 +214,7 @@ def main() -> int:
         if not shutil.which(program):
             sys.exit(f"survey.py: there is no program {program}; `bash install.sh FOLDER` makes one")
     end_by_signal()
-    choice = Choice(
-        given.xdpvm, clang=given.clang, flags=given.flags, btf=given.btf, lru_as_hash=given.lru_as_hash
-    )
+    choice = Choice(given.xdpvm, clang=given.clang, flags=given.flags, btf=given.btf, lru_as_hash=given.lru_as_hash)
     try:
         with tempfile.TemporaryDirectory() as folder:
             found: list[Program] = []

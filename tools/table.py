@@ -40,22 +40,27 @@ import os
 import re
 import struct
 import sys
+from collections.abc import Iterable, Iterator
+from typing import Any, BinaryIO
 
 from inputs import NoText, named, text_lines
 from outputs import IsRead, end_by_signal, write_whole
 
+Value = tuple[Any, ...]  # a kind, and its fields
 MAGIC = b"XPT1"
-MOST = 1_000_000                # entries of a table, and steps of a run
-UNSET, CONTEXT, END = ("unset",), ("context",), ("end",)
+MOST = 1_000_000  # entries of a table, and steps of a run
+UNSET: Value = ("unset",)
+CONTEXT: Value = ("context",)
+END: Value = ("end",)
 KINDS = ["unset", "number", "context", "stack", "packet", "end", "map", "value", "null"]
 FIELDS = {"number": "<QQQQqqIIii", "stack": "<Bi", "packet": "<iIiiI", "map": "<B", "value": "<Bii", "null": "<BI"}
-BLANK = ("bytes", 0)
+BLANK: Value = ("bytes", 0)
 
 
 class Refused(Exception):
     """Why bytes are not a table: a code, and the index of the entry if it has one."""
 
-    def __init__(self, code, entry=None):
+    def __init__(self, code: str, entry: int | None = None) -> None:
         super().__init__(code if entry is None else f"{code} entry {entry}")
         self.code, self.entry = code, entry
 
@@ -68,91 +73,94 @@ class Frame:
     """What is known about a call frame: where its exit leads, r0 to r9, and 64 stack slots from
     -512 upward."""
 
-    def __init__(self):
-        self.leads, self.registers, self.slots = 0, [UNSET] * 10, [BLANK] * 64
+    def __init__(self) -> None:
+        self.leads = 0
+        self.registers: list[Value] = [UNSET] * 10
+        self.slots: list[Value] = [BLANK] * 64
 
 
 class Entry:
     """The most steps from a state on, the state's slot and frames, and the entries to which its step leads."""
 
-    def __init__(self, number, slot, successors=()):
+    def __init__(self, number: int, slot: int, successors: Iterable[int] = ()) -> None:
         self.number, self.slot, self.frames, self.successors = number, slot, [Frame()], list(successors)
 
 
-def any_number():
-    return ("number", 0, 2**64 - 1, 0, 2**64 - 1, -2**63, 2**63 - 1, 0, 2**32 - 1, -2**31, 2**31 - 1)
+def any_number() -> Value:
+    return ("number", 0, 2**64 - 1, 0, 2**64 - 1, -(2**63), 2**63 - 1, 0, 2**32 - 1, -(2**31), 2**31 - 1)
 
 
-def signed(number, bits):
-    return number - 2**bits if number >> bits - 1 else number
+def signed(number: int, bits: int) -> int:
+    return number - (1 << bits) if number >> bits - 1 else number
 
 
-def constant(number):
+def constant(number: int) -> Value:
     whole, low = number % 2**64, number % 2**32
     return ("number", whole, 0, whole, whole, *[signed(whole, 64)] * 2, low, low, *[signed(low, 32)] * 2)
 
 
 # ---- bytes
 
-def value_bytes(value):
+
+def value_bytes(value: Value) -> bytes:
     name = value[0]
     fields = struct.pack(FIELDS[name], *value[1:]) if name in FIELDS else b""
     return bytes([KINDS.index(name)]) + fields
 
 
-def slot_bytes(slot):
+def slot_bytes(slot: Value) -> bytes:
     return bytes([0, slot[1]]) if slot[0] == "bytes" else b"\1" + value_bytes(slot)
 
 
-def frame_bytes(frame):
+def frame_bytes(frame: Frame) -> bytes:
     parts = [struct.pack("<H", frame.leads)] + [value_bytes(value) for value in frame.registers]
     return b"".join(parts + [slot_bytes(slot) for slot in frame.slots])
 
 
-def entry_bytes(entry):
+def entry_bytes(entry: Entry) -> bytes:
     parts = [struct.pack("<IHB", entry.number, entry.slot, len(entry.frames))]
     parts += [frame_bytes(frame) for frame in entry.frames]
     return b"".join(parts) + struct.pack(f"<B{len(entry.successors)}I", len(entry.successors), *entry.successors)
 
 
-def table_bytes(entries):
+def table_bytes(entries: list[Entry]) -> bytes:
     return MAGIC + struct.pack("<I", len(entries)) + b"".join(entry_bytes(entry) for entry in entries)
 
 
 class Reader:
     """Takes bytes from the front of a file. A byte without a meaning is P5 of the entry, and an end is P2."""
 
-    def __init__(self, file):
+    def __init__(self, file: BinaryIO) -> None:
         self.file, self.entry = file, 0
 
-    def take(self, form):
+    def take(self, form: str) -> Value:
         size = struct.calcsize(form)
         data = self.file.read(size)
         if len(data) < size:
             raise Refused("P2")
         return struct.unpack(form, data)
 
-    def byte(self, least, most):
-        number, = self.take("<B")
+    def byte(self, least: int, most: int) -> int:
+        number: int = self.take("<B")[0]
         if not least <= number <= most:
             raise Refused("P5", self.entry)
         return number
 
-    def value(self):
+    def value(self) -> Value:
         name = KINDS[self.byte(0, 8)]
         return (name, *self.take(FIELDS[name])) if name in FIELDS else (name,)
 
-    def stack_slot(self):
+    def stack_slot(self) -> Value:
         return self.value() if self.byte(0, 1) else ("bytes", *self.take("<B"))
 
-    def frame(self):
+    def frame(self) -> Frame:
         frame = Frame()
-        frame.leads, = self.take("<H")
+        (frame.leads,) = self.take("<H")
         frame.registers = [self.value() for _ in range(10)]
         frame.slots = [self.stack_slot() for _ in range(64)]
         return frame
 
-    def one(self):
+    def one(self) -> Entry:
         entry = Entry(*self.take("<IH"))
         entry.frames = [self.frame() for _ in range(self.byte(1, 8))]
         count = self.byte(0, 2)
@@ -160,7 +168,7 @@ class Reader:
         return entry
 
 
-def each_entry(file):
+def each_entry(file: BinaryIO) -> Iterator[Entry]:
     """The entries that a file's bytes spell, whatever their fields hold, one after the other. Refused: P1 to P5, by
     the format."""
     reader = Reader(file)
@@ -175,35 +183,36 @@ def each_entry(file):
         raise Refused("P3")
 
 
-def entries_of(data):
+def entries_of(data: bytes) -> list[Entry]:
     """The same for bytes: all entries."""
     return list(each_entry(io.BytesIO(data)))
 
 
 # ---- text
 
-def limits_text(least, greatest):
+
+def limits_text(least: int, greatest: int) -> str:
     return f"{least}..{greatest}"
 
 
-def number_text(value):
+def number_text(value: Value) -> str:
     if value == constant(value[1]):
         return f"number {value[1]}"
     parts, every = ["number"], any_number()
     if value[1:3] != every[1:3]:
         parts += [f"{value[1]} mask {value[2]:#x}"]
     for name, at in (("u", 3), ("s", 5), ("lu", 7), ("ls", 9)):
-        if value[at:at + 2] != every[at:at + 2]:
-            parts += [name, limits_text(*value[at:at + 2])]
+        if value[at : at + 2] != every[at : at + 2]:
+            parts += [name, limits_text(*value[at : at + 2])]
     return " ".join(parts)
 
 
-def packet_text(fixed, identity, least, greatest, proved):
+def packet_text(fixed: int, identity: int, least: int, greatest: int, proved: int) -> str:
     part = f" id {identity} {limits_text(least, greatest)}" if (identity, least, greatest) != (0, 0, 0) else ""
     return f"packet {fixed}{part}" + (f" proved {proved}" if proved else "")
 
 
-def value_text(value):
+def value_text(value: Value) -> str:
     name, fields = value[0], value[1:]
     if name == "number":
         return number_text(value)
@@ -216,7 +225,7 @@ def value_text(value):
     return " ".join([name, *map(str, fields)])
 
 
-def frame_text(frame):
+def frame_text(frame: Frame) -> list[str]:
     lines = [f"return {frame.leads}"] if frame.leads else []
     lines += [f"r{at} {value_text(value)}" for at, value in enumerate(frame.registers) if value != UNSET]
     for at, slot in enumerate(frame.slots):
@@ -225,7 +234,7 @@ def frame_text(frame):
     return lines
 
 
-def entry_text(entry):
+def entry_text(entry: Entry) -> str:
     leads = " ".join(["", "to", *map(str, entry.successors)]) if entry.successors else ""
     lines = [f"entry {entry.number} slot {entry.slot}{leads}"]
     for at, frame in enumerate(entry.frames):
@@ -233,48 +242,48 @@ def entry_text(entry):
     return "\n".join(lines) + "\n"
 
 
-def text_of(entries):
+def text_of(entries: Iterable[Entry]) -> str:
     return "".join(map(entry_text, entries))
 
 
 class Words:
     """The words of a line, taken from the front."""
 
-    def __init__(self, line):
+    def __init__(self, line: str) -> None:
         self.words = line.split("#")[0].split()
 
-    def __bool__(self):
+    def __bool__(self) -> bool:
         return bool(self.words)
 
-    def take(self, what="a word"):
+    def take(self, what: str = "a word") -> str:
         if not self.words:
             raise Wrong(f"{what} is missing")
         return self.words.pop(0)
 
-    def number(self):
+    def number(self) -> int:
         word = self.take("a number")
         try:
             return int(word, 0)
         except ValueError:
             raise Wrong(f"no number: {word}") from None
 
-    def limits(self):
+    def limits(self) -> list[int]:
         found = re.fullmatch(r"(-?\w+)\.\.(-?\w+)", self.take("A..B"))
         if not found:
             raise Wrong("no limits, which are A..B")
         return Words(" ".join(found.groups())).all_numbers(2)
 
-    def all_numbers(self, count):
+    def all_numbers(self, count: int) -> list[int]:
         return [self.number() for _ in range(count)]
 
-    def follows(self, word):
+    def follows(self, word: str) -> bool:
         if self.words[:1] == [word]:
             self.words.pop(0)
             return True
         return False
 
 
-def number_from(words):
+def number_from(words: Words) -> Value:
     value = list(any_number())
     if words and re.match(r"[-0-9]", words.words[0]):
         number = words.number()
@@ -284,11 +293,11 @@ def number_from(words):
             value[1:3] = number, words.number()
     for name, at in (("u", 3), ("s", 5), ("lu", 7), ("ls", 9)):
         if words.follows(name):
-            value[at:at + 2] = words.limits()
+            value[at : at + 2] = words.limits()
     return tuple(value)
 
 
-def value_from(words):
+def value_from(words: Words) -> Value:
     name = words.take("a value")
     if name == "number":
         return number_from(words)
@@ -309,7 +318,7 @@ def value_from(words):
     return (name, *words.all_numbers(2 if name == "stack" else 1 if name == "map" else 0))
 
 
-def set_place(frame, place, words):
+def set_place(frame: Frame, place: str, words: Words) -> None:
     register = re.fullmatch(r"r(\d)", place)
     if register:
         frame.registers[int(register[1])] = value_from(words)
@@ -320,7 +329,7 @@ def set_place(frame, place, words):
         raise Wrong(f"no register and no offset of a stack slot: {place}")
 
 
-def take_line(entries, words):
+def take_line(entries: list[Entry], words: Words) -> None:
     place = words.take()
     if place == "entry":
         number = words.number()
@@ -341,9 +350,9 @@ def take_line(entries, words):
         raise Wrong(f"too much: {words.take()}")
 
 
-def entries_in(lines):
+def entries_in(lines: Iterable[tuple[int, str]]) -> list[Entry]:
     """The entries of a text's lines. Wrong: a line does not have the format, by its number."""
-    entries = []
+    entries: list[Entry] = []
     for at, line in lines:
         words = Words(line)
         try:
@@ -355,12 +364,12 @@ def entries_in(lines):
     return entries
 
 
-def entries_from(text):
+def entries_from(text: str) -> list[Entry]:
     """The same for a text that is at hand."""
     return entries_in(enumerate(text.splitlines(), 1))
 
 
-def main(words):
+def main(words: list[str]) -> None:
     if words[:1] == ["show"] and len(words) == 2:
         with open(words[1], "rb") as file:
             for entry in each_entry(file):

@@ -221,9 +221,7 @@ class Commands(InFolder):
     def test_a_program_that_is_not_there(self) -> None:
         """It is named before anything runs."""
         with unittest.mock.patch.dict(os.environ, {"XDPVM_FILTER": "nowhere"}):
-            with self.assertRaisesRegex(
-                sources.Failed, "no program nowhere, which runs a filter on maps that are filled"
-            ):
+            with self.assertRaisesRegex(sources.Failed, "no program nowhere, which runs a filter on maps that are filled"):
                 sources.the_filter(PROGRAM)
 
     def test_a_script_that_has_no_values_does_not_run(self) -> None:
@@ -247,9 +245,7 @@ class Commands(InFolder):
         """And image.py reads the same values back."""
         self.ran("image.py", f"{MADE}/values.clang14.o", "a.image")
         said = self.ran("object.py", "--unverified", "a.image", "a.o")
-        self.assertIn(
-            "a.o: map0, map1, map3 begin with the values of a.image.maps: each loader fills them in", said.stderr
-        )
+        self.assertIn("a.o: map0, map1, map3 begin with the values of a.image.maps: each loader fills them in", said.stderr)
         self.assertEqual(self.ran("image.py", "a.o", "b.image").returncode, 0)
         self.assertEqual(content(self.path("a.image.maps")), content(self.path("b.image.maps")))
 

@@ -62,17 +62,17 @@ def object_of(
     name: str = "xdpvm_prog",
     maps: Optional[str] = None,
     is_pinned: bool = False,
-    values: Mapping[int, bytes] = {},
+    values: Mapping[int, bytes] | None = None,
 ) -> bytes:
     program = Program(data)
-    wanted = object_link.Wanted(name, map_names(program, maps, name), is_pinned, None, values)
+    wanted = object_link.Wanted(name, map_names(program, maps, name), is_pinned, None, values or {})
     return object_link.Maker(program, wanted, object_link.lines_of_listing("an.image", program, "")).object()
 
 
 def ran(*words: str) -> "subprocess.CompletedProcess[str]":
     """object.py on these words, with the program that was built, or none."""
     command = [sys.executable, TOOL, "--xdpvm", XDPVM, *words]
-    return subprocess.run(command, cwd=EXAMPLES, capture_output=True, text=True, timeout=100)
+    return subprocess.run(command, cwd=EXAMPLES, capture_output=True, text=True, timeout=100, check=False)
 
 
 class Objects(unittest.TestCase):
@@ -164,7 +164,8 @@ class MapLines(unittest.TestCase):
     rows = [HASH, ARRAY]
 
     def test_lines_of_a_report(self) -> None:
-        text = "# a list\n\n0 PASS 54 34\n1 TRAP access 13 2\nmap 0 c0000201 0a00000000000000\nmap 1 01000000 FFFFffff00000000\nend 2\nfault F2 at 38\n"
+        text = "# a list\n\n0 PASS 54 34\n1 TRAP access 13 2\nmap 0 c0000201 0a00000000000000\nmap 1 01000000 FFFFffff00000000\n"
+        text += "end 2\nfault F2 at 38\n"
         wanted = [Entry(0, bytes([192, 0, 2, 1]), b"\n" + bytes(7)), Entry(1, b"\1\0\0\0", b"\xff" * 4 + bytes(4))]
         self.assertEqual(Lines("list", self.rows).entries(text), wanted)
 
@@ -208,7 +209,7 @@ class MapLines(unittest.TestCase):
 
 class Check(unittest.TestCase):
     def test_rows_are_those_of_the_page(self) -> None:
-        with open(os.path.join(TOP, "docs/DECISIONS.md")) as file:
+        with open(os.path.join(TOP, "docs/DECISIONS.md"), encoding="utf-8") as file:
             table = file.read().split("| less strict here | Linux |\n|---|---|\n")[1].split("\n\n")[0]
         self.assertEqual([f"| {row.here} | {row.linux} |" for row in object_check.ROWS], table.splitlines())
 
@@ -307,10 +308,11 @@ class Commands(unittest.TestCase):
     def test_lines_are_those_of_the_text(self) -> None:
         with tempfile.TemporaryDirectory() as folder:
             made = f"{folder}/made.o"
-            for words, file, number, text in [
+            rows: list[tuple[list[str], str, int | None, str]] = [
                 (["--source", "firewall.text"], f"{EXAMPLES}/firewall.text", None, "exit"),
                 ([], "firewall.image", 1, "r2 = *(u32 *)(r1 + 0)"),
-            ]:
+            ]
+            for words, file, number, text in rows:
                 done = ran(*words, "firewall.image", made)
                 self.assertEqual((done.returncode, done.stdout, done.stderr), (0, "", ""))
                 found = image.made(content(made)).lines
@@ -335,15 +337,11 @@ class Commands(unittest.TestCase):
     def test_help(self) -> None:
         done = ran("--help")
         self.assertEqual(done.returncode, 0)
-        self.assertRegex(
-            done.stdout, r"(?s)^usage: python3 tools/object.py IMAGE OBJECT.*\nexamples:\n    .*exit status is "
-        )
+        self.assertRegex(done.stdout, r"(?s)^usage: python3 tools/object.py IMAGE OBJECT.*\nexamples:\n    .*exit status is ")
 
     def test_a_tool_that_is_not_there_is_named_with_its_package(self) -> None:
         for name, package in object_load.PACKAGES.items():
-            with unittest.mock.patch("shutil.which", lambda *_, **__: None), self.assertRaises(
-                object_load.Failed
-            ) as caught:
+            with unittest.mock.patch("shutil.which", lambda *_, **__: None), self.assertRaises(object_load.Failed) as caught:
                 object_load.tool(name)
             self.assertEqual(str(caught.exception), f"there is no {name}; Debian's package {package} has it")
 

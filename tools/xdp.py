@@ -193,9 +193,7 @@ def tried(given: argparse.Namespace, folder: str) -> int:
     choice = Choice(given.xdpvm, given.section, given.program, given.clang, given.flags, given.btf, given.lru_as_hash)
     path = given.filter or text_of(given, folder)
     image, source = image_of(path, choice, folder)
-    verdict = subprocess.run(
-        [given.xdpvm, "verify", image], capture_output=True, text=True, errors="replace", check=False
-    )
+    verdict = subprocess.run([given.xdpvm, "verify", image], capture_output=True, text=True, errors="replace", check=False)
     tell_refusal(source, verdict)
     if given.capture is None or verdict.returncode and not given.trace:
         return verdict.returncode

@@ -2,7 +2,7 @@
 """Compares the speed of filters of tcpdump's expressions with tcpdump's own: processor time a frame, on the same
 frames.
 
-usage: python3 bench/tcpdump.py [--program XDPVM] [--frames N] [--turns N] [EXPRESSION ..]
+usage: python3 bench/beside_tcpdump.py [--program XDPVM] [--frames N] [--turns N] [EXPRESSION ..]
 
 N frames (1,000,000) of generated traffic are written to a capture and to a stream, which stay in the page cache. In
 each turn (5) `tcpdump -r CAPTURE -w /dev/null EXPRESSION` and `xdpvm run` of the filter run one after the other, the
@@ -10,15 +10,15 @@ report into a file and the frames out to /dev/null. A row has the least processo
 their ratio. It needs tcpdump. """
 import argparse
 import os
-import resource
 import struct
 import subprocess
 import sys
 import tempfile
 from typing import List
 
-TOP = os.path.dirname(os.path.dirname(os.path.abspath(__file__)))
-sys.path[:0] = [f"{TOP}/tools", f"{TOP}/assurance"]
+sys.path.insert(0, os.path.join(os.path.dirname(os.path.abspath(__file__)), "../checks"))
+import common
+
 sys.dont_write_bytecode = True
 import expression_frames
 from expressions import Options, of_expression
@@ -53,17 +53,17 @@ def written(folder: str, count: int) -> None:
 
 def taken(report: str, *words: str) -> float:
     """The processor seconds of a command."""
-    before = resource.getrusage(resource.RUSAGE_CHILDREN)
-    with open(report, "w") as out:
-        subprocess.run(words, stdout=out, stderr=subprocess.DEVNULL, check=True)
-    after = resource.getrusage(resource.RUSAGE_CHILDREN)
-    return after.ru_utime - before.ru_utime + after.ru_stime - before.ru_stime
+    ran = common.measured(words)
+    if ran.status:
+        sys.exit(f"{' '.join(words)}: status {ran.status}: {ran.err}")
+    common.write(report, ran.out)
+    return ran.seconds
 
 
 def measured(given: argparse.Namespace, expression: str, folder: str) -> None:
     """Prints the row of an expression."""
     image, report = f"{folder}/image", f"{folder}/report"
-    with open(f"{folder}/text", "w") as file:
+    with open(f"{folder}/text", "w", encoding="utf-8") as file:
         file.write(of_expression(expression, Options()))
     subprocess.run([given.program, "asm", f"{folder}/text", image], stdout=subprocess.DEVNULL, check=True)
     theirs: List[float] = []
@@ -78,7 +78,7 @@ def measured(given: argparse.Namespace, expression: str, folder: str) -> None:
 def main() -> None:
     words = argparse.ArgumentParser(description=__doc__, formatter_class=argparse.RawDescriptionHelpFormatter)
     words.add_argument("expressions", nargs="*", default=EXPRESSIONS)
-    words.add_argument("--program", default=f"{TOP}/crates/xdpvm/out/xdpvm")
+    words.add_argument("--program", default=common.built())
     words.add_argument("--frames", type=int, default=1_000_000)
     words.add_argument("--turns", type=int, default=5)
     given = words.parse_args()

@@ -1,7 +1,7 @@
 #!/usr/bin/env python3
 """Measures proof tables: `recheck` beside `verify` in turn, and how long `prove` takes.
 
-usage: python3 bench/tables.py [PROGRAM [LIBRARY]]
+usage: python3 bench/proving.py [PROGRAM [LIBRARY]]
 
 PROGRAM is the program that `rt run` leaves in crates/xdpvm (the default: crates/xdpvm/out/xdpvm), and LIBRARY the
 archive that `rt lib` leaves in crates/xdpvm_c (the default: crates/xdpvm_c/out/libxdpvm_c.a). An entry is an
@@ -16,45 +16,27 @@ import subprocess
 import sys
 import tempfile
 
-HERE = os.path.dirname(os.path.abspath(__file__))
-PROGRAM = os.path.abspath(sys.argv[1] if len(sys.argv) > 1 else os.path.join(HERE, "../crates/xdpvm/out/xdpvm"))
-LIBRARY = os.path.abspath(sys.argv[2] if len(sys.argv) > 2 else os.path.join(HERE, "../crates/xdpvm_c/out/libxdpvm_c.a"))
+sys.path.insert(0, os.path.join(os.path.dirname(os.path.abspath(__file__)), "../checks"))
+import common
+from common import TOP, branches, bytes_of, counted_loop, peak, stack_loop, straight, write
+
+PROGRAM = common.program()
+LIBRARY = os.path.abspath(sys.argv[2] if len(sys.argv) > 2 else f"{TOP}/crates/xdpvm_c/out/libxdpvm_c.a")
 COMPILER = shutil.which(os.environ.get("CC", "cc"))
 TIMES = int(os.environ.get("TIMES", "5"))
 
 
-def text_of(name):
-    with open(os.path.join(HERE, name + ".text")) as file:
-        return file.read()
+def text_of(name: str) -> str:
+    return common.text_of(f"{TOP}/bench/{name}.text")
 
 
-def counted_loop(turns):
-    return f"r1 = 0\nloop: r1 += 1\nif r1 < {turns} goto loop\nr0 = 2\nexit\n"
-
-
-def straight(slots):
-    body = ["r1 = 1", "r2 = 3"]
-    forms = ["r1 += r2", "r2 ^= r1", "r1 *= 5", "r2 += 7", "r1 &= 1048575"]
-    while len(body) < slots - 2:
-        body.append(forms[len(body) % len(forms)])
-    return "\n".join(body + ["r0 = 2", "exit"]) + "\n"
-
-
-def stack_loop(turns):
+def call_loop(turns: int) -> str:
     return (
-        "*(u64 *)(r10 - 8) = 0\nloop: r1 = *(u64 *)(r10 - 8)\nr1 += 1\n*(u64 *)(r10 - 8) = r1\n"
-        f"if r1 < {turns} goto loop\nr0 = 2\nexit\n"
+        f"r6 = 0\nr7 = 5\nloop: r1 = r6\ncall f\nr6 += 1\nif r6 < {turns} goto loop\nr0 = 2\nexit\n" "f: r0 = r1\nr0 += r1\nexit\n"
     )
 
 
-def call_loop(turns):
-    return (
-        f"r6 = 0\nr7 = 5\nloop: r1 = r6\ncall f\nr6 += 1\nif r6 < {turns} goto loop\nr0 = 2\nexit\n"
-        "f: r0 = r1\nr0 += r1\nexit\n"
-    )
-
-
-def nested_calls(turns):
+def nested_calls(turns: int) -> str:
     """Each of six functions calls the next; the seventh calls one in a loop."""
     lines = []
     for number in range(6):
@@ -63,7 +45,7 @@ def nested_calls(turns):
     return "\n".join(lines + ["g: r0 = 0\nexit"]) + "\n"
 
 
-def seven_frames(first, body, turns, start="r6 = r1", given="r6"):
+def seven_frames(first: list[str], body: str, turns: int, start: str = "r6 = r1", given: str = "r6") -> str:
     """Each of seven functions calls the next, which gets a pointer; the last one has a loop."""
     lines = [*first, start]
     for number in range(6):
@@ -78,14 +60,6 @@ LOOK_UP = KEY + "call 1\nif r0 == 0 goto out"
 ADD = "r1 = map_val(map_by_idx(0)) + 0\nr2 = 1\nlock *(u64 *)(r1 + 0) += r2"
 TEST = "r2 = *(u32 *)(r6 + 0)\nr3 = *(u32 *)(r6 + 4)\nr4 = r2\nr4 += 4\nif r4 > r3 goto out"
 STORE = "r2 = 1\n*(u64 *)(r6 - 8) = r2"
-
-
-def branches(count):
-    """Each path leaves another number in r0, which is kept, since the program calls a function."""
-    lines = ["r6 = *(u32 *)(r1 + 12)", "call zero"]
-    for bit in range(count):
-        lines += [f"if r6 & {1 << bit} goto +1", f"r0 += {1 << bit}"]
-    return "\n".join(lines + ["exit", "zero: r0 = 0", "exit"]) + "\n"
 
 
 ROWS = [
@@ -111,36 +85,25 @@ ROWS = [
 ]
 
 
-def measured(words):
+def measured(words: list[str]) -> tuple[str, float]:
     """Runs a command that is to succeed: its standard output, and its processor seconds."""
-    with tempfile.TemporaryFile() as out:
-        child = subprocess.Popen(words, stdout=out)
-        _, status, used = os.wait4(child.pid, 0)
-        child.returncode = os.waitstatus_to_exitcode(status)
-        out.seek(0)
-        said = out.read().decode()
-    if child.returncode:
-        sys.exit(f"{' '.join(words)}: status {child.returncode}, {said!r}")
-    return said, used.ru_utime + used.ru_stime
+    ran = common.measured(words)
+    if ran.status:
+        sys.exit(f"{' '.join(words)}: status {ran.status}, {ran.out!r}\n{ran.err}")
+    return ran.out, ran.seconds
 
 
-def build_calls():
+def build_calls() -> str | None:
     """Builds bench/rechecks.c in the current folder, if there is a library and a compiler; the command, or None."""
     rt = shutil.which("rt")
     if not rt or not COMPILER or not os.path.isfile(LIBRARY):
         return None
     heap = os.path.join(os.path.dirname(os.path.dirname(os.path.realpath(rt))), "c", "liblibc_c.a")
-    subprocess.run([COMPILER, "-std=gnu11", "-O2", "-o", "rechecks", os.path.join(HERE, "rechecks.c"), LIBRARY, heap], check=True)
+    subprocess.run([COMPILER, "-std=gnu11", "-O2", "-o", "rechecks", f"{TOP}/bench/rechecks.c", LIBRARY, heap], check=True)
     return os.path.abspath("rechecks")
 
 
-def peak(words):
-    """The peak memory of a command in megabytes, by GNU time."""
-    told = subprocess.run(["time", "-f", "%M", "--", *words], stdout=subprocess.DEVNULL, stderr=subprocess.PIPE, text=True)
-    return int(told.stderr.split()[-1]) / 1024
-
-
-def main():
+def main() -> None:
     with tempfile.TemporaryDirectory() as folder:
         os.chdir(folder)
         calls = build_calls()
@@ -148,14 +111,13 @@ def main():
         head += "".join(f"{name:>9}{'MB':>5}" for name in ("verify", "prove", "recheck")) + f"{'ratio':>7}"
         print(head + (f"{'a call':>10}{'recheck':>9}{'ratio':>7}" if calls else ""))
         for name, text in ROWS:
-            with open("p.text", "w") as file:
-                file.write(text)
-            measured([PROGRAM, "asm", "p.text", "p.image"])
+            measured([PROGRAM, "asm", write("p.text", text), "p.image"])
             measured([PROGRAM, "prove", "p.image", "p.table"])
-            size = os.path.getsize("p.table")
-            with open("p.table", "rb") as file:
-                entries = int.from_bytes(file.read(8)[4:], "little")
-            commands = [[PROGRAM, *words.split()] for words in ("verify p.image", "prove p.image q.table", "recheck p.image p.table")]
+            data = bytes_of("p.table")
+            size, entries = len(data), int.from_bytes(data[4:8], "little")
+            commands = [
+                [PROGRAM, *words.split()] for words in ("verify p.image", "prove p.image q.table", "recheck p.image p.table")
+            ]
             taken = [[measured(words) for words in commands] for _ in range(TIMES)]
             if len({said for runs in taken for said, _ in runs}) > 1:
                 sys.exit(f"{name}: other bounds")

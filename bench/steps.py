@@ -2,7 +2,7 @@
 """Measures xdpvm: steps a second of `trace` and `run`, explored instructions a second and peak memory of `verify`,
 and, for scale, a plain interpreter in C (bench/switch.c, gcc -O2) on the same programs.
 
-usage: python3 bench/run.py [PROGRAM ..]
+usage: python3 bench/steps.py [PROGRAM ..]
 
 PROGRAM is the program that `rt run` leaves in crates/xdpvm (the default: crates/xdpvm/out/xdpvm); several can be
 compared. All seconds are processor seconds of one process, and each figure is the least of TIMES runs (the default is
@@ -11,39 +11,19 @@ subtracted only if each run on the frames took longer than each run on none; els
 figure. Files are made in a folder of its own, which is removed at the end.
 """
 import os
-import struct
 import subprocess
 import sys
 import tempfile
+from collections.abc import Sequence
 
-HERE = os.path.dirname(os.path.abspath(__file__))
-PROGRAMS = [os.path.abspath(path) for path in sys.argv[1:]] or [os.path.join(HERE, "../crates/xdpvm/out/xdpvm")]
+sys.path.insert(0, os.path.join(os.path.dirname(os.path.abspath(__file__)), "../checks"))
+from common import TOP, branches, built, bytes_of, counted_loop, measured, peak, record, stack_loop, straight, text_of, write
+
+PROGRAMS = [os.path.abspath(path) for path in sys.argv[1:]] or [built()]
 TIMES = int(os.environ.get("TIMES", "5"))
 
 
-def counted_loop(turns):
-    """3 + 2 * turns steps on one path."""
-    return f"r1 = 0\nloop: r1 += 1\nif r1 < {turns} goto loop\nr0 = 2\nexit\n"
-
-
-def straight(slots):
-    """Each slot once: a body of additions, exclusive ors and products."""
-    body = ["r1 = 1", "r2 = 3"]
-    forms = ["r1 += r2", "r2 ^= r1", "r1 *= 5", "r2 += 7", "r1 &= 1048575"]
-    while len(body) < slots - 2:
-        body.append(forms[len(body) % len(forms)])
-    return "\n".join(body + ["r0 = 2", "exit"]) + "\n"
-
-
-def stack_loop(turns):
-    """3 + 4 * turns instructions on one path: the counter is on the stack."""
-    return (
-        "*(u64 *)(r10 - 8) = 0\nloop: r1 = *(u64 *)(r10 - 8)\nr1 += 1\n*(u64 *)(r10 - 8) = r1\n"
-        f"if r1 < {turns} goto loop\nr0 = 2\nexit\n"
-    )
-
-
-def functions():
+def functions() -> str:
     """200 calls of a function of 20 slots, each with the same arguments: by the program, and by six functions that call
     one another, so that 8 call frames are live in the last ones. 20 instructions of each are
     explored, 18 on the longer side of its test."""
@@ -61,101 +41,71 @@ def functions():
     return "\n".join(lines) + "\n"
 
 
-def stored(name):
-    with open(os.path.join(HERE, name + ".text")) as file:
-        return file.read()
+def stored(name: str) -> str:
+    return text_of(f"{TOP}/bench/{name}.text")
 
 
-def branches(count):
-    """count tests of the unknown bits of one number, one after the other. Each path leaves another
-    number in r0, which is not forgotten, since the program calls a function. So no state covers
-    another: 3 * 2^count + 2 instructions have to be explored in all."""
-    lines = ["r6 = *(u32 *)(r1 + 12)", "call zero"]
-    for bit in range(count):
-        lines += [f"if r6 & {1 << bit} goto +1", f"r0 += {1 << bit}"]
-    return "\n".join(lines + ["exit", "zero: r0 = 0", "exit"]) + "\n"
-
-
-def sinking():
+def sinking() -> str:
     """A loop whose end the verifier cannot see, through states that differ only in a number's
     signed limits."""
     return "r8 = 0\nloop: r5 = *(u32 *)(r1 + 12)\nr8 -= r5\nr8 += 1\nif r8 != 8 goto loop\nr0 = 1\nexit\n"
 
 
-def frames(count, size):
-    record = struct.pack("<QIII", 0, 1, 0, size) + bytes(range(size))
-    return b"XPF1" + record * count
+def frames(count: int, size: int) -> bytes:
+    return b"XPF1" + record(1, (0, 1, 0), 0, bytes(range(size))) * count
 
 
-def frames_with_reasons(count, size):
+def frames_with_reasons(count: int, size: int) -> bytes:
     """The same frames in a stream of version 2. No frame has a reason yet, so all are run."""
-    record = struct.pack("<QIIII", 0, 1, 0, size, 0) + bytes(range(size))
-    return b"XPF2" + record * count
+    return b"XPF2" + record(2, (0, 1, 0), 0, bytes(range(size))) * count
 
 
-def measured(words):
+def ended(words: Sequence[str]) -> tuple[int, str, float]:
     """Runs a command: its status, its output's last line, and its processor seconds."""
-    out = tempfile.TemporaryFile()
-    child = subprocess.Popen(words, stdout=out, stderr=subprocess.DEVNULL)
-    _, status, used = os.wait4(child.pid, 0)
-    child.returncode = os.waitstatus_to_exitcode(status)
-    out.seek(0, os.SEEK_END)
-    out.seek(max(0, out.tell() - 200))
-    return child.returncode, out.read().decode().strip().splitlines()[-1], used.ru_utime + used.ru_stime
+    ran = measured(words)
+    return ran.status, ran.out.strip().splitlines()[-1], ran.seconds
 
 
-def peak(words):
-    """The peak memory of a command in megabytes, by GNU time: what the system tells this script counts its own too."""
-    told = subprocess.run(["time", "-f", "%M", "--"] + words, stdout=subprocess.DEVNULL, stderr=subprocess.PIPE, text=True)
-    return int(told.stderr.split()[-1]) / 1024
-
-
-def in_turn(commands):
+def in_turn(commands: list[tuple[list[str], int, str]]) -> list[list[float]]:
     """The seconds of each run of each command, in turn. A command is its words, and the status and the last line with
     which it must end."""
-    taken = [[] for _ in commands]
+    taken: list[list[float]] = [[] for _ in commands]
     for _ in range(TIMES):
         for (words, status, last), seconds in zip(commands, taken):
-            run = measured(words)
+            run = ended(words)
             if run[:2] != (status, last):
                 sys.exit(f"{' '.join(words)}: status {run[0]}, {run[1]!r}, in place of {status}, {last!r}")
             seconds.append(run[2])
     return taken
 
 
-def without_start(starts, wholes):
+def without_start(starts: list[float], wholes: list[float]) -> float | None:
     """What the frames took, or nothing if it is less than two starts differ."""
     return min(wholes) - min(starts) if min(wholes) > max(starts) else None
 
 
-def name_of(program):
+def name_of(program: str) -> str:
     """The name of a program, if there are others."""
     return os.path.basename(program) if len(PROGRAMS) > 1 else ""
 
 
-def assembled(name, text):
-    with open(name + ".text", "w") as file:
-        file.write(text)
-    ended = subprocess.run([PROGRAMS[0], "asm", name + ".text", name + ".image"], stdout=subprocess.PIPE, text=True)
-    if ended.returncode != 0:
-        sys.exit(f"{name}: {ended.stdout.strip()}")
+def assembled(name: str, text: str) -> str:
+    ran = measured([PROGRAMS[0], "asm", write(name + ".text", text), name + ".image"])
+    if ran.status != 0:
+        sys.exit(f"{name}: {ran.out.strip()}")
     return name + ".image"
 
 
-def streamed(name, stream):
-    with open(name + ".frames", "wb") as file:
-        file.write(stream)
-    return name + ".frames"
-
-
-def plain_c(image, stream):
+def plain_c(image: str, stream: str) -> tuple[int, float]:
     """The steps and the seconds of the interpreter in C."""
-    ended = [subprocess.run(["./switch", image, stream, "1"], stdout=subprocess.PIPE, text=True, check=True).stdout for _ in range(TIMES)]
-    rows = [row.split() for row in ended]
+    words = ["./switch", image, stream, "1"]
+    rows = [subprocess.run(words, stdout=subprocess.PIPE, text=True, check=True).stdout.split() for _ in range(TIMES)]
     return int(rows[0][0]), min(float(row[1]) for row in rows)
 
 
-def rates(name, command, program, steps, count, seconds, c_seconds):
+def rates(
+    name: str, command: str, program: str, steps: int | None, count: int, seconds: float | None, c_seconds: float | None
+) -> None:
     """A line: the seconds, the steps and the frames a second, if the frames took long enough to
     measure."""
     each = ["too short", "-", "-", "-"]
@@ -165,10 +115,10 @@ def rates(name, command, program, steps, count, seconds, c_seconds):
     print(f"{name:<50}{command:<7}{each[0]:>9}{each[1]:>11}{each[2]:>11}{each[3]:>9} {name_of(program)}", flush=True)
 
 
-def compared(name, image, stream, count, steps, c_seconds):
+def compared(name: str, image: str, stream: str, count: int, steps: int | None, c_seconds: float | None) -> None:
     """`trace` and `run` of each program that reads such streams, without its start."""
-    empty = streamed("none", frames(0, 0))
-    able = [program for program in PROGRAMS if measured([program, "run", image, stream, "sent"])[1] != "fault F1 at 0"]
+    empty = write("none.frames", frames(0, 0))
+    able = [program for program in PROGRAMS if ended([program, "run", image, stream, "sent"])[1] != "fault F1 at 0"]
     ways = [(command, program) for command in ["trace", "run"] for program in able]
     commands = []
     for command, program in ways:
@@ -180,7 +130,7 @@ def compared(name, image, stream, count, steps, c_seconds):
         rates(name, command, program, steps, count, seconds, c_seconds)
 
 
-def execution():
+def execution() -> None:
     """Steps and frames a second. The interpreter in C reads no frames and writes no report, so it is compared only where
     the steps outweigh those."""
     print(f"{'program and frames':<50}{'by':<7}{'seconds':>9}{'steps/s':>11}{'frames/s':>11}{'times C':>9}")
@@ -191,7 +141,7 @@ def execution():
         ("two instructions, 1,000,000 frames, XPF2", "r0 = 2\nexit\n", 2, 1_000_000, frames_with_reasons, False),
     ]
     for name, text, steps, count, make, by_c in rows:
-        image, stream = assembled("p", text), streamed("f", make(count, 60))
+        image, stream = assembled("p", text), write("f.frames", make(count, 60))
         c_seconds = None
         if by_c:
             c_steps, c_seconds = plain_c(image, stream)
@@ -202,20 +152,18 @@ def execution():
             rates(name, "C", "", steps * count, count, c_seconds, c_seconds)
 
 
-def counting():
+def counting() -> None:
     """Filters of examples/ with maps, on the frames beside them ten thousand times: frames a second."""
     print()
     for name in ["traffic", "limit", "protocols"]:
-        path = os.path.join(HERE, "../examples", name)
-        with open(path + ".frames", "rb") as file:
-            stream = file.read()
-        with open(path + ".report") as file:
-            count = 10_000 * int(file.read().split()[-1])
-        frames_in = streamed("f", stream[:4] + stream[4:] * 10_000)
+        path = os.path.join(TOP, "examples", name)
+        stream, count = bytes_of(path + ".frames"), 10_000 * int(text_of(path + ".report").split()[-1])
+        frames_in = write("f.frames", stream[:4] + stream[4:] * 10_000)
         compared(f"examples/{name}, {count:,} frames", path + ".image", frames_in, count, None, None)
 
 
-def verification():
+def verification() -> None:
+    """Prints the rows of `verify`."""
     print()
     print(f"{'program':<46}{'answer':<24}{'seconds':>9}{'explored':>10}{'explored/s':>12}{'MB':>6}")
     rows = [
@@ -231,7 +179,7 @@ def verification():
     for name, text, answer, explored in rows:
         image = assembled("p", text)
         if answer is None:
-            _, answer, _ = measured([PROGRAMS[0], "verify", image])
+            _, answer, _ = ended([PROGRAMS[0], "verify", image])
             if not answer.startswith("refused V19 "):
                 sys.exit(f"{name}: {answer}")
         status = 0 if answer.startswith("ok") else 2
@@ -242,12 +190,12 @@ def verification():
             print(f"{name:<46}{answer:<24}{told} {name_of(program)}", flush=True)
 
 
-def parsers():
+def parsers() -> None:
     """Programs that read packets; how many instructions are explored is not printed by the program."""
     print()
     for name in ["parser", "headers", "options"]:
         image = assembled(name, stored(name))
-        _, answer, _ = measured([PROGRAMS[0], "verify", image])
+        _, answer, _ = ended([PROGRAMS[0], "verify", image])
         taken = in_turn([([program, "verify", image], 0, answer) for program in PROGRAMS])
         for program, runs in zip(PROGRAMS, taken):
             memory = peak([program, "verify", image])
@@ -255,10 +203,10 @@ def parsers():
             print(f"{name + '.text':<46}{answer:<24}{told} {name_of(program)}", flush=True)
 
 
-def main():
+def main() -> None:
     with tempfile.TemporaryDirectory() as folder:
         os.chdir(folder)
-        subprocess.run(["gcc", "-O2", "-o", "switch", os.path.join(HERE, "switch.c")], check=True)
+        subprocess.run(["gcc", "-O2", "-o", "switch", f"{TOP}/bench/switch.c"], check=True)
         print(f"{os.cpu_count()} cores; processor seconds, the least of {TIMES} runs; `trace` and `run` without their start")
         execution()
         counting()
