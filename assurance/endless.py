@@ -116,22 +116,27 @@ def tell_texts(folder):
 
 
 def long_texts():
-    """The bytes that a text of 100 MB repeats, the line it is refused with, and whether only its end decides that."""
-    yield b"r0 = 1 ; ", "refused A9 line 1 column 36865", False
-    yield b" ", "refused A9 line 1 column 1", True
-    yield b"\n", "refused A9 line 1 column 1", True
-    yield b"# a comment\n", "refused A9 line 1 column 1", True
-    yield b"#", "refused A9 line 1 column 1", True
-    yield b"a", "refused A2 line 1 column 1", True
-    yield b"7", "refused A2 line 1 column 1", True
-    yield b"(", "refused A2 line 1 column 1", True
-    yield b"r1 + 2 ", "refused A2 line 1 column 1", True
+    """What a text of 100 MB begins with and what it repeats, the line it is refused with, and whether only its end decides that."""
+    yield b"", b"r0 = 1 ; ", "refused A9 line 1 column 36865", False
+    yield b"", b" ", "refused A9 line 1 column 1", True
+    yield b"", b"\n", "refused A9 line 1 column 1", True
+    yield b"", b"# a comment\n", "refused A9 line 1 column 1", True
+    yield b"", b"#", "refused A9 line 1 column 1", True
+    yield b"", b"a", "refused A2 line 1 column 1", True
+    yield b"", b"7", "refused A2 line 1 column 1", True
+    yield b"", b"(", "refused A2 line 1 column 1", True
+    yield b"r0 ", b"(", "refused A2 line 1 column 1", True
+    yield b"a: ", b"(", "refused A2 line 1 column 1", True
+    yield b"map hash ", b"(", "refused A2 line 1 column 1", True
+    yield b"r0 = 2\nexit\n", b"(", "refused A2 line 3 column 1", True
+    yield b"", b"r1 + 2 ", "refused A2 line 1 column 1", True
 
 
-def send(to, part):
+def send(to, beginning, part):
     """Sends a long text, or as much of it as is read."""
     try:
         with os.fdopen(to, "wb", buffering=0) as file:
+            file.write(beginning)
             for _ in range(LONG // len(part)):
                 file.write(part)
     except BrokenPipeError:
@@ -142,11 +147,11 @@ def tell_long_texts(folder):
     """Whether long texts are refused within the limits, from a pipe, a file and standard input."""
     image = os.path.join(folder, "image")
     path = os.path.join(folder, "long")
-    for unit, line, is_whole in long_texts():
+    for beginning, unit, line, is_whole in long_texts():
         limits = (LONG // 1024 + MEMORY, WHOLE) if is_whole else (MEMORY, SECONDS)
         part = unit * (1_000_000 // len(unit))
         read, write = os.pipe()
-        sender = threading.Thread(target=send, args=(write, part))
+        sender = threading.Thread(target=send, args=(write, beginning, part))
         sender.start()
         with os.fdopen(read, "rb") as given:
             yield tell([PROGRAM, "asm", "/dev/stdin", image], 2, line, *limits, given)

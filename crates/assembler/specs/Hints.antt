@@ -1,5 +1,5 @@
 -- The hint for a text that is refused: a sentence for each case. The front has the bytes of the
--- line before the column, the back those from there on.
+-- line before the column, the back those from there on, up to some length.
 use Rattle.std.specs.Prelude.{ℕ, false, Bool, ◌&&◌, ◌||◌, nat_le, List, [], ◌∷◌, length, take, bytes_eq, codes, if◌then◌else◌}
 use Rattle.assembler.specs.declared.errors.AsmErrorKind.{AsmErrorKind}
 use Rattle.assembler.specs.declared.errors.AsmErrorKind.TheVariants.{UnknownByte, NoForm, OutOfRange, DefinedTwice, NotDefined, TooFar, MapLine, NoMap, NotOneValue, PastValue, LateVersion, Memory, SlotCount}

@@ -3,6 +3,7 @@ use Rattle.std.specs.Prelude.{ℕ, zero, suc, ◌-◌, ◌==◌, nat_le, nat_lt,
 use Rattle.std.specs.List.{prefix_len}
 use Rattle.lexer.specs.Lexing.{is_line_byte}
 use Rattle.assembler.specs.declared.errors.AsmError.{AsmError}
+use Rattle.assembler.specs.declared.showing.TheConstants.{MAX_SEARCHED}
 use Rattle.assembler.specs.Hints.{hint}
 
 -- ---- the line
@@ -27,6 +28,10 @@ before column bs = take (column - 1) bs
 abbrev pub from : ℕ → List ℕ → List ℕ
 from column bs = drop (column - 1) bs
 
+-- of these, what a hint looks at
+abbrev pub searched : List ℕ → List ℕ
+searched bs = take MAX_SEARCHED bs
+
 -- ---- what is shown of it
 
 -- tabs and printable ASCII stay, and every other byte becomes a question mark
@@ -48,4 +53,5 @@ abbrev pub shown : List ℕ → AsmError → List ℕ
 shown text error =
     let bs = line_of error.line text in
     shown_line error.column bs
-    ++ (hint error.kind (before error.column bs) (from error.column bs) ++ codes "\n")
+    ++ (hint error.kind (searched (before error.column bs)) (searched (from error.column bs))
+    ++ codes "\n")

@@ -2,7 +2,7 @@
 
 ghost use Rattle.std.specs.Prelude.{◌≡◌, ◌<◌, ◌++◌, ◌∷◌, [], map, IfOk, OnOk};
 ghost use Rattle.std.specs.String.{string_bytes};
-ghost use Rattle.assembler.specs.Shown.{after_line, after_lines, line_of, before, from, shown_byte, padding_byte, shown_line, shown};
+ghost use Rattle.assembler.specs.Shown.{after_line, after_lines, line_of, before, from, searched, shown_byte, padding_byte, shown_line, shown};
 
 use super::errors::AsmError;
 use super::hints::hint;
@@ -11,6 +11,9 @@ use std::alloc::{AllocError, Global};
 
 /// The most bytes of a line that is shown.
 const MAX_SHOWN: usize = 160;
+
+/// The most bytes on each side of a column that a hint looks at.
+const MAX_SEARCHED: usize = 1024;
 
 // What follows the first line feed.
 fn after_line(text: &[u8]) -> &[u8]
@@ -52,6 +55,13 @@ fn parted(line: &[u8], column: usize) -> (&[u8], &[u8])
     } else {
         (line, &[])
     }
+}
+
+// The bytes that a hint looks at.
+fn searched(bytes: &[u8]) -> &[u8]
+    ensures { result.now ≡ searched bytes.now }
+{
+    &bytes[..MAX_SEARCHED.min(bytes.len())]
 }
 
 fn shown_byte(byte: u8) -> u8
@@ -123,6 +133,6 @@ pub fn shown(alloc: Global, text: &[u8], error: AsmError) -> Result<String, Allo
     let line = line_of(text, error.line);
     let (front, back) = parted(line, error.column);
     let lines = shown_line(alloc, line, error.column)?;
-    let help = hint(error.kind, front, back);
+    let help = hint(error.kind, searched(front), searched(back));
     format!(in alloc; "{lines}{help}\n")
 }
