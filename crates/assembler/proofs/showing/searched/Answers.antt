@@ -1,0 +1,9 @@
+use Rattle.std.proofs.Common.{ℕ, take, ap, ◌∙◌}
+use Rattle.std.proofs.lemmas.List.{take_min}
+use Rattle.assembler.specs.declared.showing.TheConstants.{MAX_SEARCHED}
+use Rattle.assembler.proofs.showing.searched.Goals as goal
+
+pub returns : goal.returns
+returns c =
+    ap (λ (n : ℕ). take n c.args.bytes.now) c.min.ensures
+    ∙ take_min MAX_SEARCHED c.args.bytes.now
