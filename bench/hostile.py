@@ -517,10 +517,23 @@ def one_number(registers: list[str], turn: int) -> str:
     return f"if {registers[turn % len(registers)]} == {turn + 1} goto out"
 
 
-def two_numbers(registers: list[str], turn: int) -> str:
+def compared(sign: str, registers: list[str], turn: int) -> tuple[str, str, str]:
+    """Two numbers, and how they are compared."""
     count = len(registers)
     other = (turn * 3 + 1 + turn // count) % count
-    return f"if {registers[turn % count]} > {registers[other if other != turn % count else (turn + 1) % count]} goto out"
+    return registers[turn % count], sign, registers[other if other != turn % count else (turn + 1) % count]
+
+
+def two_numbers(registers: list[str], turn: int) -> str:
+    return f"if {' '.join(compared('>', registers, turn))} goto out"
+
+
+def two_signed(registers: list[str], turn: int) -> str:
+    return f"if {' '.join(compared('s>', registers, turn))} goto out"
+
+
+def two_halves(registers: list[str], turn: int) -> str:
+    return f"if {' '.join(compared('>', registers, turn)).replace('r', 'w')} goto out"
 
 
 def two_ways(narrowed: list[str], first: list[str], second: list[str]) -> list[str]:
@@ -552,6 +565,10 @@ def pending() -> Iterator[Image]:
     yield "3,000 tests of two of 8 numbers, 60 slots beside", tests_in_turn(two_numbers, 8, 60)
     yield "3,000 tests of two of 8 numbers of 64 bits", tests_in_turn(two_numbers, 8, 0, of_64_bits)
     yield "3,000 tests of two of 8 multiples of 256", tests_in_turn(two_numbers, 8, 0, multiples)
+    yield "3,000 signed tests of two of 8 numbers of 64 bits", tests_in_turn(two_signed, 8, 0, of_64_bits)
+    yield "3,000 signed tests of two of 8 multiples of 256", tests_in_turn(two_signed, 8, 0, multiples)
+    yield "3,000 tests of the low halves of two of 8 numbers of 64 bits", tests_in_turn(two_halves, 8, 0, of_64_bits)
+    yield "3,000 tests of the low halves of two of 8 multiples of 256", tests_in_turn(two_halves, 8, 0, multiples)
     yield "3,000 tests that lead to two slots, at which other stack slots are live", two_ways(
         [], all_tested([], range(0, 60, 2)), all_tested([], range(1, 60, 2))
     )

@@ -8,7 +8,7 @@ use Rattle.walks.specs.Refused.{StopsIn}
 use Rattle.walks.specs.Walks.{StepsTo}
 use Rattle.explorer.specs.Search.{IfStepsTo}
 use Rattle.walks.specs.declared.refusals.Refusal.{Refusal}
-use Rattle.walks.specs.declared.refusals.Refusal.TheVariants.{Flow, Step, Repeats, TooLong, Memory}
+use Rattle.walks.specs.declared.refusals.Refusal.TheVariants.{Flow, Step, Repeats, Memory}
 use Rattle.explorer.specs.declared.trail.Visit.{Visit}
 use Rattle.explorer.specs.declared.moves.Halt.{Halt}
 use Rattle.explorer.specs.declared.moves.Halt.TheVariants.{Refused, Stopped}

@@ -10,9 +10,10 @@ use Rattle.explorer.specs.declared.short_parts.ShortPlace.{ShortPlace}
 use Rattle.explorer.specs.declared.short_parts.ShortPlace.TheVariants.{Register, Slot}
 use Rattle.explorer.specs.declared.small_numbers.SmallNumbers.{SmallNumbers}
 use Rattle.explorer.specs.LargeNumbers.{large_numbers}
+use Rattle.explorer.specs.SignedNumbers.{signed_numbers}
 use Rattle.explorer.specs.declared.short_parts.ShortPacket.{ShortPacket}
 use Rattle.explorer.specs.declared.short_parts.Form.{Form}
-use Rattle.explorer.specs.declared.short_parts.Form.TheVariants.{UnsetRegister, WrittenSlot, SmallNumber, LargeNumber, MaskedNumber, PacketPlace, WholePart}
+use Rattle.explorer.specs.declared.short_parts.Form.TheVariants.{UnsetRegister, WrittenSlot, SmallNumber, LargeNumber, MaskedNumber, SignedNumber, MaskedSignedNumber, PacketPlace, WholeNumber, WholePart}
 
 -- the part that says that a register, or a stack slot, has a value of the kind
 abbrev pub part_at : ShortPlace → Kind → Part
@@ -47,5 +48,8 @@ part_of (WrittenSlot n marks) = InSlot n (Written marks)
 part_of (SmallNumber place s) = part_at place (Number (small_numbers s))
 part_of (LargeNumber place l) = part_at place (Number (large_numbers (2 ^ 32 - 1) l))
 part_of (MaskedNumber place l) = part_at place (Number (large_numbers (l.mask % 2 ^ 32) l))
+part_of (SignedNumber place s) = part_at place (Number (signed_numbers (2 ^ 32 - 1) s))
+part_of (MaskedSignedNumber place s) = part_at place (Number (signed_numbers (s.mask % 2 ^ 32) s))
 part_of (PacketPlace place p) = part_at place (packet_kind p)
+part_of (WholeNumber place numbers) = part_at place (Number numbers.value)
 part_of (WholePart part) = part.value

@@ -10,9 +10,10 @@ use reg_state::Scalar;
 /// The sign bit of a number.
 const SIGN: u64 = 1 << 63;
 
-/// How many low halves there are, and the bits of the high half.
+/// How many low halves there are.
 const HALVES: u64 = 1 << 32;
 
+/// The bits of the high half.
 const HIGH_HALF: u64 = 0xffff_ffff_0000_0000;
 
 /// Says what is known of a number of 64 bits by its unsigned limits and its unknown bits. The known
@@ -35,10 +36,18 @@ pub struct LargeNumbers {
 
 /// The known bits of numbers of which the least is this one.
 #[inline(always)]
-fn known_of(least: u64, mask: u64) -> u64
+pub fn known_of(least: u64, mask: u64) -> u64
     ensures { result ≡ known_of least mask }
 {
     (least ^ (least & mask)) & HIGH_HALF
+}
+
+/// The low half of a mask.
+#[inline(always)]
+pub fn low_half(mask: u64) -> u32
+    ensures { result ≡ mask % 2 ^ 32 }
+{
+    (mask % HALVES) as u32
 }
 
 /// The signed limits.
@@ -77,14 +86,6 @@ impl LargeNumbers {
             greatest,
             mask,
         })
-    }
-
-    /// The low half of the mask.
-    #[inline(always)]
-    pub fn low_mask(&self) -> u32
-        ensures { result ≡ self.now.mask % 2 ^ 32 }
-    {
-        (self.mask % HALVES) as u32
     }
 
     /// All that is known of the numbers, of which this is the greatest low half.

@@ -26,6 +26,7 @@ mod proved_bytes;
 mod search;
 mod shared_parts;
 mod short_parts;
+mod signed_numbers;
 mod small_numbers;
 mod state_trees;
 mod stored_forms;

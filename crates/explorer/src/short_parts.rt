@@ -3,7 +3,8 @@
 ghost use Rattle.std.specs.Prelude.{◌≡◌, IfOk, IfSome};
 ghost use Rattle.explorer.specs.ShortParts.{part_at, packet_kind, small_numbers};
 
-use crate::large_numbers::LargeNumbers;
+use crate::large_numbers::{LargeNumbers, low_half};
+use crate::signed_numbers::SignedNumbers;
 use crate::small_numbers::SmallNumbers;
 use known_bits::Bits;
 use ranges::{Range, Wide};
@@ -38,7 +39,10 @@ enum Form {
     SmallNumber(ShortPlace, SmallNumbers),
     LargeNumber(ShortPlace, LargeNumbers),
     MaskedNumber(ShortPlace, LargeNumbers),
+    SignedNumber(ShortPlace, SignedNumbers),
+    MaskedSignedNumber(ShortPlace, SignedNumbers),
     PacketPlace(ShortPlace, ShortPacket),
+    WholeNumber(ShortPlace, Box<Scalar>),
     WholePart(Box<Part>),
 }
 
@@ -118,20 +122,33 @@ fn small_of(numbers: &Scalar) -> Option<SmallNumbers> {
     })
 }
 
+/// A short form of numbers in a place, if there is one.
+#[inline(always)]
+fn short_number(place: ShortPlace, numbers: &Scalar) -> Option<Form> {
+    if let Some(small) = small_of(numbers) {
+        return Some(Form::SmallNumber(place, small));
+    }
+    let has_any_low_half = numbers.range.low.greatest == u32::MAX;
+    if let Some(large) = LargeNumbers::of(numbers) {
+        return Some(if has_any_low_half {
+            Form::LargeNumber(place, large)
+        } else {
+            Form::MaskedNumber(place, large)
+        });
+    }
+    let signed = SignedNumbers::of(numbers)?;
+    Some(if has_any_low_half {
+        Form::SignedNumber(place, signed)
+    } else {
+        Form::MaskedSignedNumber(place, signed)
+    })
+}
+
 /// A short form of what is known of a place, if there is one.
 #[inline(always)]
 fn short_kind(place: ShortPlace, kind: &Kind) -> Option<Form> {
     match *kind {
-        Kind::Number(numbers) => match small_of(&numbers) {
-            Some(small) => Some(Form::SmallNumber(place, small)),
-            None => match LargeNumbers::of(&numbers) {
-                Some(large) if numbers.range.low.greatest == u32::MAX => {
-                    Some(Form::LargeNumber(place, large))
-                }
-                Some(large) => Some(Form::MaskedNumber(place, large)),
-                None => None,
-            },
-        },
+        Kind::Number(numbers) => short_number(place, &numbers),
         Kind::Packet {
             fixed,
             identity,
@@ -165,6 +182,22 @@ fn short_of(part: &Part) -> Option<Form> {
     }
 }
 
+/// The place and the numbers of a part, if it says that numbers are there.
+#[inline(always)]
+fn placed_number(part: &Part) -> Option<(ShortPlace, Scalar)>
+    ensures { IfSome result (λ placed. part_at placed.0 (Kind.Number placed.1) ≡ part.now) }
+{
+    match part {
+        Part::InRegister(number, Kind::Number(numbers)) => {
+            Some((ShortPlace::Register(*number), *numbers))
+        }
+        Part::InSlot(index, StackSlot::Spilled(Kind::Number(numbers))) => {
+            Some((ShortPlace::Slot(*index), *numbers))
+        }
+        _ => None,
+    }
+}
+
 /// The short form, if it says what the part does.
 #[inline(always)]
 fn same_short(part: &Part) -> Option<ShortPart>
@@ -192,9 +225,16 @@ impl ShortPart {
                 part_at(*place, Kind::Number(numbers.scalar(u32::MAX)))
             }
             Form::MaskedNumber(place, numbers) => {
-                part_at(*place, Kind::Number(numbers.scalar(numbers.low_mask())))
+                part_at(*place, Kind::Number(numbers.scalar(low_half(numbers.mask))))
+            }
+            Form::SignedNumber(place, numbers) => {
+                part_at(*place, Kind::Number(numbers.scalar(u32::MAX)))
+            }
+            Form::MaskedSignedNumber(place, numbers) => {
+                part_at(*place, Kind::Number(numbers.scalar(low_half(numbers.mask))))
             }
             Form::PacketPlace(place, pointer) => part_at(*place, packet_kind(pointer)),
+            Form::WholeNumber(place, numbers) => part_at(*place, Kind::Number(**numbers)),
             Form::WholePart(part) => **part,
         }
     }
@@ -205,6 +245,14 @@ impl ShortPart {
     {
         if let Some(short) = same_short(part) {
             return Ok(short);
+        }
+        if let Some((place, numbers)) = placed_number(part) {
+            return match Box::new(alloc, numbers) {
+                Ok(numbers) => Ok(ShortPart {
+                    form: Form::WholeNumber(place, numbers),
+                }),
+                Err(_) => Err(AllocError),
+            };
         }
         match Box::new(alloc, *part) {
             Ok(part) => Ok(ShortPart {

@@ -1,4 +1,4 @@
-use Rattle.std.proofs.Common.{◌≡◌, map, length}
+use Rattle.std.proofs.Common.{◌≡◌, map}
 use Rattle.stack_state.specs.Effects.{proved_kind}
 use Rattle.explorer.proofs.proved_bytes.leave_out_of_all.Given as goal
 

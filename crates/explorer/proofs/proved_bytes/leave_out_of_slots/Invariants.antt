@@ -1,4 +1,4 @@
-use Rattle.std.proofs.Common.{◌≡◌, map, length}
+use Rattle.std.proofs.Common.{◌≡◌, map}
 use Rattle.stack_state.specs.Effects.{proved_kind, with_spilled}
 use Rattle.explorer.proofs.proved_bytes.leave_out_of_slots.Given as goal
 
