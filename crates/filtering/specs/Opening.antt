@@ -1,6 +1,8 @@
 -- The names of a run's files, and how a task ends if one cannot be opened.
-use Rattle.std.specs.Prelude.{ℕ, ◌⊎◌, List, Option, Some, None, bytes_eq, codes, if◌then◌else◌}
+use Rattle.std.specs.Prelude.{ℕ, ◌⊎◌, Bool, true, false, List, Option, Some, None, bytes_eq, codes, if◌then◌else◌}
 use Rattle.words.specs.FilterRequests.{FilterRequest}
+use Rattle.task_outcomes.specs.declared.forms.FileForm.{FileForm}
+use Rattle.task_outcomes.specs.declared.forms.FileForm.TheVariants.{Pcap}
 use Rattle.task_outcomes.specs.declared.outcomes.TaskOutcome.{TaskOutcome}
 use Rattle.task_outcomes.specs.Statuses.{IsMakeFailure, IsReadFailure}
 
@@ -11,6 +13,11 @@ frames_path path = if bytes_eq path (codes "-") then codes "/dev/stdin" else pat
 -- how messages name the output of the frames out: `-` is standard output
 abbrev pub output_name : List ℕ → List ℕ
 output_name path = if bytes_eq path (codes "-") then codes "standard output" else path
+
+-- a file with these first bytes is a capture that is read
+abbrev pub is_capture : FileForm → Bool
+is_capture Pcap = true
+is_capture form = false
 
 -- an output that is wanted cannot be made, or must not be overwritten
 abbrev pub MakesNot : Option (List ℕ) → TaskOutcome → Type 0

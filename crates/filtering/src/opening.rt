@@ -1,14 +1,16 @@
 //! The files of a run: the frames that are read, and the outputs.
 
 ghost use Rattle.std.specs.Prelude.{◌≡◌, IfErr, IfOk, bytes_eq, codes, option_map};
-ghost use Rattle.task_outcomes.specs.Statuses.{IsMakeFailure};
+ghost use Rattle.captures.specs.Choices.{IsFramesOf, frames_left};
+ghost use Rattle.task_outcomes.specs.Statuses.{IsMakeFailure, IsReadFailure};
 ghost use Rattle.words.specs.FilterRequests.{filter_request_of};
-ghost use Rattle.filtering.specs.Opening.{IsOpenFailure, IsOutputConflict, MakesNot, frames_path, output_name};
+ghost use Rattle.filtering.specs.Opening.{IsOpenFailure, IsOutputConflict, is_capture, MakesNot, frames_path, output_name};
 
+use captures::{FramesOf, OpenFailure};
 use exact_io::PromptWriter;
-use frames::Ahead;
+use frames::{Ahead, Source};
 use std::alloc::Global;
-use std::io::Write;
+use std::io::{ErrorKind, Write};
 use std::rt::{Clock, Files};
 use task_outcomes::{
     FileForm, STANDARD_OUTPUT, TaskOutcome, Watched, begin_frames, create_output, keep_apart,
@@ -131,14 +133,33 @@ fn open_wanted<'a, R: Files>(
     }
 }
 
+// The frame stream of a file with this path and this form: that which a capture becomes, or the file
+// itself.
+fn frames_of<'a, S: Source + Drop>(
+    alloc: Global,
+    source: S,
+    form: FileForm,
+    path: &'a str,
+) -> Result<FramesOf<S>, TaskOutcome<'a>>
+    ensures frames { IfOk result (λ frames. IsFramesOf (S.remaining source) (is_capture form)
+        (frames_left S.remaining frames)) }
+    ensures failed { IfErr result (IsReadFailure path.now) }
+{
+    match FramesOf::open(alloc, source, matches!(form, FileForm::Pcap)) {
+        Ok(frames) => Ok(frames),
+        Err(OpenFailure::NoMemory) => Err(TaskOutcome::NoMemory),
+        Err(_) => Err(TaskOutcome::CannotRead(path, ErrorKind::Other)),
+    }
+}
+
 /// Opens the frames, and then makes the outputs: the frames out, the report, and what the maps hold
-/// at the end. At the end the first bytes of the frames are read ahead.
+/// at the end. At the end the first bytes of the frames are read ahead, of a capture its head.
 pub fn open_all<'a, 'b, R: Files + Clock>(
     rt: &'b R,
     alloc: Global,
     task: FilterTask<'a>,
 ) -> Result<
-    Opened<'a, Ahead<Watched<'b, R, <R as Files>::File>>, <R as Files>::File>,
+    Opened<'a, FramesOf<Ahead<Watched<'b, R, <R as Files>::File>>>, <R as Files>::File>,
     TaskOutcome<'a>,
 >
     ensures report { IfOk result (λ opened. option_map (λ o. o.path.now) opened.report
@@ -157,6 +178,7 @@ pub fn open_all<'a, 'b, R: Files + Clock>(
     let written = [out, task.report.unwrap_or(out)];
     let maps_out = open_wanted(rt, alloc, task.maps_out, &read, &written)?;
     let (source, form) = begin_frames(rt, frames, source);
+    let source = frames_of(alloc, source, form, frames)?;
     Ok(Opened {
         source,
         form,

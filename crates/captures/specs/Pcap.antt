@@ -1,0 +1,171 @@
+-- The packets of a capture in the pcap format: a file head of 24 bytes, and then packet records of
+-- a head and the packet's bytes. draft-ietf-opsawg-pcap.
+-- A file head is: u32 magic number, u16 major version, u16 minor version, u32 reserved, u32
+-- reserved, u32 snap length, u32 link type, whose upper 16 bits say other things. A record's head
+-- is: u32 seconds, u32 microseconds or nanoseconds, u32 captured packet length, u32 original packet
+-- length. The magic number says in which order the bytes of all numbers are.
+use Rattle.std.specs.Prelude.{ℕ, zero, suc, ◌+◌, ◌*◌, ◌^◌, ◌-◌, ◌%◌, ◌==◌, List, [], ◌∷◌, ◌++◌, length, take, drop, min, replicate, nat_lt, if◌then◌else◌, Option, Some, None, Result, Ok, Err}
+use Rattle.byteorder.specs.Endian.{big_number, little_number}
+use Rattle.isa_model.specs.declared.frames.FrameHead.{FrameHead}
+use Rattle.captures.specs.declared.forms.NumberOrder.{NumberOrder}
+use Rattle.captures.specs.declared.forms.NumberOrder.TheVariants.{HighFirst, LowFirst}
+use Rattle.captures.specs.declared.forms.TimeUnit.{TimeUnit}
+use Rattle.captures.specs.declared.forms.TimeUnit.TheVariants.{Microseconds, Nanoseconds}
+use Rattle.captures.specs.declared.forms.LinkType.{LinkType}
+use Rattle.captures.specs.declared.forms.LinkType.TheVariants.{Ethernet, Cooked, Cooked2}
+use Rattle.captures.specs.declared.forms.PcapForm.{PcapForm}
+use Rattle.captures.specs.declared.forms.CaptureRefusal.{CaptureRefusal}
+use Rattle.captures.specs.declared.forms.CaptureRefusal.TheVariants.{TruncatedFileHead, NoPcap, UnknownLink}
+use Rattle.captures.specs.declared.packets.PacketFault.TheVariants.{TruncatedRecord, TooLong, TruncatedPacket}
+use Rattle.captures.specs.declared.packets.PacketEnd.{PacketEnd}
+use Rattle.captures.specs.declared.packets.PacketEnd.TheVariants as ending
+
+-- ---- numbers
+
+-- the number in the first four bytes
+abbrev pub number_of : NumberOrder → List ℕ → ℕ
+number_of HighFirst bytes = big_number 4 bytes
+number_of LowFirst bytes = little_number 4 bytes
+
+-- the number at an offset
+abbrev pub field : NumberOrder → ℕ → List ℕ → ℕ
+field order at bytes = number_of order (drop at bytes)
+
+-- ---- the file head
+
+-- the order and the unit that the magic number says, if it is that of a pcap file
+unfoldable pub pcap_start : List ℕ → Option (NumberOrder × TimeUnit)
+pcap_start bytes =
+    if big_number 4 bytes == 0xa1b2c3d4 then Some (HighFirst, Microseconds)
+    else if little_number 4 bytes == 0xa1b2c3d4 then Some (LowFirst, Microseconds)
+    else if big_number 4 bytes == 0xa1b23c4d then Some (HighFirst, Nanoseconds)
+    else if little_number 4 bytes == 0xa1b23c4d then Some (LowFirst, Nanoseconds)
+    else None
+
+-- the link types that are read
+abbrev pub link_of : ℕ → Option LinkType
+link_of number =
+    if number == 1 then Some Ethernet
+    else if number == 113 then Some Cooked
+    else if number == 276 then Some Cooked2
+    else None
+
+-- a form with this link type, or why it is not read
+abbrev pub with_link : NumberOrder → TimeUnit → ℕ → Option LinkType → Result PcapForm CaptureRefusal
+with_link order unit number (Some link) = Ok (record { order = order; unit = unit; link = link })
+with_link order unit number None = Err (UnknownLink number)
+
+abbrev pub with_start : List ℕ → Option (NumberOrder × TimeUnit) → Result PcapForm CaptureRefusal
+with_start bytes (Some start) =
+    let number = field start.0 20 bytes % 2 ^ 16 in
+    with_link start.0 start.1 number (link_of number)
+with_start bytes None = Err NoPcap
+
+-- the form of a capture, or why it is not read
+unfoldable pub opened : List ℕ → Result PcapForm CaptureRefusal
+opened bytes =
+    if nat_lt (length bytes) 24 then Err TruncatedFileHead
+    else with_start bytes (pcap_start bytes)
+
+-- ---- link types
+
+-- the Ethernet frame that the bytes of a packet become. Of Linux's `any` interface the destination
+-- is not known: it is zero.
+abbrev pub ethernet_frame : LinkType → List ℕ → List ℕ
+ethernet_frame Ethernet bytes = bytes
+ethernet_frame Cooked bytes =
+    if nat_lt (length bytes) 16 then bytes
+    else replicate 6 0 ++ (take 6 (drop 6 bytes) ++ drop 14 bytes)
+ethernet_frame Cooked2 bytes =
+    if nat_lt (length bytes) 20 then bytes
+    else replicate 6 0 ++ (take 6 (drop 12 bytes) ++ (take 2 bytes ++ drop 20 bytes))
+
+-- the interface that a packet came in by, 0 where its link type does not say it
+abbrev pub interface_of : LinkType → List ℕ → ℕ
+interface_of Ethernet bytes = 0
+interface_of Cooked bytes = 0
+interface_of Cooked2 bytes =
+    if nat_lt (length bytes) 20 then 0 else field HighFirst 4 bytes
+
+-- ---- packet records
+
+-- a packet: its time and interface, its Ethernet frame, and how many bytes it had on the wire
+pub record CapturedPacket : Type 0 where
+  pub head : FrameHead
+  pub body : List ℕ
+  pub original : ℕ
+
+-- the most bytes of a packet. libpcap, MAXIMUM_SNAPLEN
+abbrev pub max_captured : ℕ
+max_captured = 262144
+
+abbrev pub captured_length : PcapForm → List ℕ → ℕ
+captured_length form bytes = field form.order 8 bytes
+
+-- how many bytes the record at the front has
+abbrev pub packet_size : PcapForm → List ℕ → ℕ
+packet_size form bytes = 16 + captured_length form bytes
+
+-- how many nanoseconds the unit has
+abbrev pub nanoseconds : TimeUnit → ℕ
+nanoseconds Microseconds = 1000
+nanoseconds Nanoseconds = 1
+
+-- the bytes of the packet whose record is at the front
+abbrev pub packet_bytes : PcapForm → List ℕ → List ℕ
+packet_bytes form bytes = take (captured_length form bytes) (drop 16 bytes)
+
+-- the packet whose record is at the front
+abbrev pub packet_of : PcapForm → List ℕ → CapturedPacket
+packet_of form bytes = record {
+  head =
+      record {
+        time =
+            field form.order 0 bytes * 10 ^ 9
+            + field form.order 4 bytes * nanoseconds form.unit;
+        interface = interface_of form.link (packet_bytes form bytes);
+        queue = 0;
+      };
+  body = ethernet_frame form.link (packet_bytes form bytes);
+  original = field form.order 12 bytes;
+}
+
+-- ---- reading
+
+-- why no packet record begins with these bytes at the offset, if none does
+unfoldable pub stop_at : PcapForm → ℕ → List ℕ → Option PacketEnd
+stop_at form offset bytes =
+    if length bytes == 0 then Some ending.End
+    else if nat_lt (length bytes) 16 then Some (ending.Fault TruncatedRecord offset)
+    else if nat_lt max_captured (captured_length form bytes)
+    then Some (ending.Fault TooLong offset)
+    else if nat_lt (length bytes) (packet_size form bytes)
+    then Some (ending.Fault TruncatedPacket offset)
+    else None
+
+-- the offset after so many bytes more; a number of 64 bits says it, or the largest one
+abbrev pub moved : ℕ → ℕ → ℕ
+moved offset size = min (offset + size) (2 ^ 64 - 1)
+
+-- the packets whose records the bytes begin with, at the offset, and how these end; `fuel` is more
+-- than the number of bytes
+unfoldable pub packets_from : ℕ → PcapForm → ℕ → List ℕ → List CapturedPacket × PacketEnd
+packets_from zero form offset bytes = ([], ending.End)
+packets_from (suc fuel) form offset bytes =
+    elim (stop_at form offset bytes) [
+      | Some stop ↦ ([], stop)
+      | None ↦
+          let size = packet_size form bytes in
+          let more = packets_from fuel form (moved offset size) (drop size bytes) in
+          (packet_of form bytes ∷ more.0, more.1)
+    ]
+
+-- the packets after a head that says this form, or why the capture is not read
+abbrev pub captured_by : List ℕ → Result PcapForm CaptureRefusal
+    → Result (List CapturedPacket × PacketEnd) CaptureRefusal
+captured_by bytes (Ok form) = Ok (packets_from (suc (length bytes)) form 24 (drop 24 bytes))
+captured_by bytes (Err refusal) = Err refusal
+
+-- the packets of a capture's bytes and how they end, or why it is not read
+abbrev pub captured : List ℕ → Result (List CapturedPacket × PacketEnd) CaptureRefusal
+captured bytes = captured_by bytes (opened bytes)

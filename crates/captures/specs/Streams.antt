@@ -1,0 +1,27 @@
+-- The bytes that a capture's frame stream has left.
+use Rattle.std.specs.Prelude.{◌≡◌, ℕ, List, slice_range, Option, Some, None, Result, Ok, Err, option_map}
+use Rattle.std.specs.Io.KnownBytes.{prepend_known}
+use Rattle.captures.specs.declared.reader.OpenFailure.{OpenFailure}
+use Rattle.captures.specs.declared.reader.OpenFailure.TheVariants as failure
+use Rattle.captures.specs.declared.streams.CaptureStream.{CaptureStream}
+use Rattle.captures.specs.Pcap.{captured}
+use Rattle.captures.specs.Reading.{bytes_left}
+use Rattle.captures.specs.FrameBytes.{stream_of_capture, stream_rest}
+
+-- those that are spelled already, and then those of the packets that the reader has left
+abbrev pub stream_left : {R : Type 0} → (R → Option (List ℕ)) → CaptureStream R
+    → Option (List ℕ)
+stream_left remaining s =
+    prepend_known (slice_range s.held s.given s.count)
+    (option_map (stream_rest s.ended s.reader.position) (bytes_left remaining s.reader))
+
+-- what opening the stream of a capture comes to, where the source's bytes are known
+abbrev pub OpensStreamOf : {R : Type 0} → (R → Option (List ℕ)) → Option (List ℕ)
+    → Result (CaptureStream R) OpenFailure → Type 0
+OpensStreamOf remaining None result = Unit {0}
+OpensStreamOf remaining (Some bytes) (Ok stream) =
+    stream_left remaining stream ≡ Some (stream_of_capture bytes)
+OpensStreamOf remaining (Some bytes) (Err (failure.Refused refusal)) =
+    captured bytes ≡ Err refusal
+OpensStreamOf remaining (Some bytes) (Err failure.Unread) = Unit {0}
+OpensStreamOf remaining (Some bytes) (Err failure.NoMemory) = Unit {0}
