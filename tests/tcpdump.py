@@ -22,10 +22,9 @@ import sys
 import tempfile
 from typing import Dict, Iterable, List, NamedTuple, Optional, Set
 
-TOP = os.path.dirname(os.path.dirname(os.path.abspath(__file__)))
-FOLDER = os.path.join(TOP, "tests/expressions")
-CAPTURE, STORED = os.path.join(FOLDER, "frames.pcap"), os.path.join(FOLDER, "stored.txt")
-sys.path[:0] = [os.path.join(TOP, it) for it in ("tools", "assurance", "examples")]
+sys.path.insert(0, os.path.join(os.path.dirname(os.path.abspath(__file__)), "../checks"))
+from common import TOP
+
 sys.dont_write_bytecode = True
 import expression_corpus
 import expression_frames
@@ -33,6 +32,8 @@ import send
 from classic import Failed, compiled
 from expression_sweep import Trial, Wrong, kept, stream_of, tried
 
+FOLDER = os.path.join(TOP, "tests/expressions")
+CAPTURE, STORED = os.path.join(FOLDER, "frames.pcap"), os.path.join(FOLDER, "stored.txt")
 COMPOSED, SEED = 100, 1
 FRAMES, KINDS = 300, 3
 LONGEST = 4096  # bytes of a frame of the first form of streams
