@@ -51,6 +51,7 @@ CHECKS = (
         "whether each crate has a README of at most 40 lines, and clauses and names that pages name exist",
         3,
     ),
+    Check("hygiene", "python3 checks/hygiene.py", "what makes proofs hard to keep: it may only become less", 3),
     Check("trusted", "python3 checks/trusted.py", "which definitions the promise rests on", 2),
     Check(
         "scripts",
