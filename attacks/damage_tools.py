@@ -17,7 +17,7 @@ import tempfile
 from typing import Callable, Iterator
 
 sys.path.insert(0, os.path.join(os.path.dirname(os.path.abspath(__file__)), "../checks"))
-from common import TOP
+from common import TOP, bytes_of
 import frames
 import image
 import table
@@ -37,8 +37,7 @@ def read_object(data: bytes) -> None:
 
 def read_types(data: bytes) -> None:
     """The kernel's types, for an object that asks for some."""
-    with open(os.path.join(TOP, "tests/objects/made/headers.clang14.o"), "rb") as file:
-        asked = file.read()
+    asked = bytes_of(os.path.join(TOP, "tests/objects/made/headers.clang14.o"))
     with tempfile.NamedTemporaryFile() as types:
         types.write(data)
         types.flush()
@@ -83,8 +82,7 @@ def stored() -> Iterator[tuple[str, Reader, bytes]]:
     ]
     for pattern, reader in kinds:
         for path in sorted(glob.glob(os.path.join(TOP, pattern))):
-            with open(path, "rb") as file:
-                data = file.read()
+            data = bytes_of(path)
             yield os.path.relpath(path, TOP), reader, data
             if reader is read_table:
                 yield f"the text of {os.path.relpath(path, TOP)}", read_table_text, table.text_of(table.entries_of(data)).encode()

@@ -26,7 +26,7 @@ import tempfile
 from typing import Counter, List, NamedTuple, Optional, Set, Tuple
 
 sys.path.insert(0, os.path.join(os.path.dirname(os.path.abspath(__file__)), "../checks"))
-from common import TOP
+from common import TOP, bytes_of, write
 
 sys.dont_write_bytecode = True
 import expression_corpus
@@ -65,8 +65,7 @@ def tried(program: str, classic: str, stream: str) -> Trial:
     """The filter of a classic program, on a stream."""
     text = translated(classic_program(classic), "", Options())
     with tempfile.TemporaryDirectory() as folder:
-        with open(f"{folder}/text", "w", encoding="utf-8") as file:
-            file.write(text)
+        write(f"{folder}/text", text)
         made = ran(program, "asm", f"{folder}/text", f"{folder}/image")
         verdict = ran(program, "verify", f"{folder}/image") if made.returncode == 0 else made
         if verdict.returncode:
@@ -90,8 +89,7 @@ def kept(expression: str, capture: str, optimizes: bool = True) -> Set[int]:
             raise Failed(NO_END) from None
         if done.returncode:
             raise Failed(done.stderr.strip().splitlines()[-1].removeprefix("tcpdump: "))
-        with open(f"{folder}/out", "rb") as file:
-            data = file.read()
+        data = bytes_of(f"{folder}/out")
     order = "<" if data[:4] in (b"\xd4\xc3\xb2\xa1", b"\x4d\x3c\xb2\xa1") else ">"
     at, found = 24, set()
     while at < len(data):
@@ -204,8 +202,7 @@ def randoms(given: argparse.Namespace) -> int:
     found = expression_frames.frames(given.seed, 400, 3)
     with tempfile.TemporaryDirectory() as folder:
         stream = f"{folder}/frames"
-        with open(stream, "wb") as file:
-            file.write(stream_of(found))
+        write(stream, stream_of(found))
         for _ in range(given.random):
             rows = random_program(chance)
             array = (Row * len(rows))(*[Row(*row) for row in rows])
@@ -237,8 +234,7 @@ def main() -> int:
     with tempfile.TemporaryDirectory() as folder:
         capture, stream = f"{folder}/capture.pcap", f"{folder}/frames"
         for path, data in ((capture, expression_frames.pcap_of(found)), (stream, stream_of(found))):
-            with open(path, "wb") as file:
-                file.write(data)
+            write(path, data)
         return Sweep(given, capture, stream, len(found)).all()
 
 

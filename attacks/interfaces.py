@@ -31,7 +31,7 @@ import time
 from typing import List, NamedTuple, Optional, Tuple
 
 sys.path.insert(0, os.path.join(os.path.dirname(os.path.abspath(__file__)), "../checks"))
-from common import TOP
+from common import TOP, bytes_of, write
 
 sys.dont_write_bytecode = True
 import libbpf
@@ -77,11 +77,6 @@ def must(*words: str) -> str:
     return done.stdout
 
 
-def content(path: str) -> bytes:
-    with open(path, "rb") as file:
-        return file.read()
-
-
 def stored() -> List[str]:
     return sorted(glob.glob(f"{EXAMPLES}/*.image") + glob.glob(f"{EXAMPLES}/compiled/*.image"))
 
@@ -94,8 +89,7 @@ def interfaces() -> None:
     """in0, which has the number 2, and out0, without what the kernel would send by itself."""
     must("ip", "link", "add", "name", "in0", "index", "2", "type", "veth", "peer", "name", "out0", "index", "3")
     for name in ("in0", "out0"):
-        with open(f"/proc/sys/net/ipv6/conf/{name}/disable_ipv6", "w", encoding="utf-8") as file:
-            file.write("1")
+        write(f"/proc/sys/net/ipv6/conf/{name}/disable_ipv6", "1")
         must("ip", "link", "set", name, "up", "arp", "off", "mtu", str(MTU), "promisc", "on")
 
 
@@ -107,14 +101,13 @@ def loaders(program: str, tried: Tried, paths: List[str]) -> None:
     tried.say("libbpf.so.1", there is not None, "it is not there (Debian: libbpf1)")
     for path in paths:
         wanted = ran(program, "verify", path).returncode == 0
-        made, data = f"{called(path)}.o", content(path)
-        with open(made, "wb") as file:
-            file.write(object_of(data))
+        made, data = f"{called(path)}.o", bytes_of(path)
+        write(made, object_of(data))
         tags = object_image.tags(object_image.Program(data))
         tried.same(f"{made} by ip", wanted, by_ip(made, tags, tried))
         tried.same(f"{made} by bpftool", wanted, by_bpftool(made))
         tried.same(f"{made} by xdp-loader", wanted, by_xdp_loader(made))
-        tried.same(f"{made} by libbpf", wanted, bool(there and there.loads(content(made), 2)))
+        tried.same(f"{made} by libbpf", wanted, bool(there and there.loads(bytes_of(made), 2)))
 
 
 def by_ip(made: str, tags: List[str], tried: Tried) -> bool:
@@ -177,8 +170,7 @@ class Sender(threading.Thread):
 def updates(program: str, tried: Tried) -> None:
     """Filters that are replaced while frames come."""
     for name, text in (("counting", COUNTING), ("refused", REFUSED), ("deep", TOO_DEEP)):
-        with open(f"{name}.text", "w", encoding="utf-8") as file:
-            file.write(text)
+        write(f"{name}.text", text)
         must(program, "asm", f"{name}.text", f"{name}.image")
     load = [*OBJECT, "--xdpvm", program, "--load", "in0"]
     must(*load, "counting.image")
@@ -253,8 +245,8 @@ def bodies(path: str) -> List[bytes]:
     chance, found = random.Random(called(path)), []
     streams = [f"{EXAMPLES}/{it}.frames" for it in (called(path), called(path).split(".")[0])]
     for stream in [it for it in streams if os.path.exists(it)][:1]:
-        found += list(send.bodies(content(stream)))
-    shapes = [body for it in sorted(glob.glob(f"{EXAMPLES}/*.frames")) for body in send.bodies(content(it))]
+        found += list(send.bodies(bytes_of(stream)))
+    shapes = [body for it in sorted(glob.glob(f"{EXAMPLES}/*.frames")) for body in send.bodies(bytes_of(it))]
     for _ in range(40):
         one = bytearray(chance.choice([it for it in shapes if it]))
         for _ in range(chance.randrange(3)):
@@ -272,7 +264,7 @@ def expected(program: str, path: str) -> Tuple[List[Expected], List[str]]:
             file.write(struct.pack("<QIIII", 1000 * place, 2, 0, len(body), 0) + body)
     lines = must(program, "run", path, "given.frames", "sent.frames").splitlines()
     actions = [it.split()[1] for it in lines if it[0].isdigit()]
-    stream, at, after = content("sent.frames"), 4, []
+    stream, at, after = bytes_of("sent.frames"), 4, []
     while at < len(stream):
         (length,) = struct.unpack_from("<I", stream, at + 16)
         after.append(stream[at + 24 : at + 24 + length])
@@ -332,8 +324,7 @@ def run_all(given: argparse.Namespace) -> int:
     tried = Tried()
     with tempfile.TemporaryDirectory() as folder:
         os.chdir(folder)
-        with open("wrong.text", "w", encoding="utf-8") as file:
-            file.write("# a value of one byte\nmap 0 00000000 01\n")
+        write("wrong.text", "# a value of one byte\nmap 0 00000000 01\n")
         interfaces()
         few = [f"{EXAMPLES}/{it}.image" for it in FEW]
         images = stored() if given.all else given.images or few

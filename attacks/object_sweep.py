@@ -24,7 +24,7 @@ import tempfile
 from typing import Callable, Counter, Iterator, Optional, Tuple
 
 sys.path.insert(0, os.path.join(os.path.dirname(os.path.abspath(__file__)), "../checks"))
-from common import TOP
+from common import TOP, bytes_of
 
 sys.dont_write_bytecode = True
 import image
@@ -42,11 +42,6 @@ def object_of(data: bytes) -> bytes:
     program = Program(data)
     wanted = object_link.Wanted("xdpvm_prog", map_names(program, None, "xdpvm_prog"), False, None)
     return object_link.Maker(program, wanted, object_link.lines_of_listing("an.image", program, "")).object()
-
-
-def content(path: str) -> bytes:
-    with open(path, "rb") as file:
-        return file.read()
 
 
 def of_cases(program: str, every: int = 1) -> Iterator[Tuple[str, bytes]]:
@@ -70,12 +65,12 @@ def case_image(program: str, kind: str, value: str, bytes_of: Callable[[str], by
         with open(f"{folder}/text", "wb") as file:
             file.write(value.encode() if kind == "text" else bytes_of(value))
         ran = subprocess.run([program, "asm", f"{folder}/text", f"{folder}/image"], capture_output=True, check=False)
-        return content(f"{folder}/image") if ran.returncode == 0 else None
+        return bytes_of(f"{folder}/image") if ran.returncode == 0 else None
 
 
 def stored(program: str, every: int) -> Iterator[Tuple[str, bytes]]:
     for path in sorted(glob.glob(f"{TOP}/examples/*.image") + glob.glob(f"{TOP}/examples/compiled/*.image")):
-        yield os.path.relpath(path, TOP), content(path)
+        yield os.path.relpath(path, TOP), bytes_of(path)
     yield from of_cases(program, every)
 
 

@@ -24,7 +24,7 @@ import time
 from typing import Optional
 
 sys.path.insert(0, os.path.join(os.path.dirname(os.path.abspath(__file__)), "../checks"))
-from common import TOP, program
+from common import TOP, program, write
 
 PROGRAM = program()
 IMAGE = os.path.join(TOP, "examples/filter.image")
@@ -174,8 +174,7 @@ def tell_unwatched(folder: str) -> bool:
     """Whether nothing is handed on frame by frame that nobody waits for."""
     frames = os.path.join(folder, "frames")
     stream = b"XPF1" + 1000 * passed(b"ab")
-    with open(frames, "wb") as file:
-        file.write(stream)
+    write(frames, stream)
     sent = os.path.join(folder, "sent")
     counts = [
         calls(frames, sent, os.path.join(folder, "report")),

@@ -21,7 +21,9 @@ import tempfile
 from collections.abc import Callable, Iterable
 from functools import partial
 
-TOP = os.path.dirname(os.path.dirname(os.path.abspath(__file__)))
+sys.path.insert(0, os.path.join(os.path.dirname(os.path.abspath(__file__)), "../checks"))
+from common import TOP
+
 WIDTHS = {"Low32": 32, "Full64": 64}
 # The ends of signed and unsigned ranges of 8 to 64 bits, small numbers of either sign, and two without a pattern.
 OPERANDS = sorted(

@@ -17,13 +17,13 @@ import sys
 import tempfile
 from typing import Iterator, List, Tuple
 
-TOP = os.path.dirname(os.path.dirname(os.path.abspath(__file__)))
+from common import CANNOT, TOP
+
 PAGE = "docs/LOADING.md"
 BLOCK = re.compile(r"^```(\S+)\n(.*?)^```$", re.M | re.S)
 COMMAND = re.compile(r"^\$ (.*)\n((?:(?!\$ ).*\n)*)", re.M)
 TOOLS = {"unshare": "util-linux", "ip": "iproute2", "bpftool": "bpftool", "xdp-loader": "xdp-tools"}
 INSIDE = "--inside"
-CANNOT = 77
 PREPARED = "mount -t bpf bpf /sys/fs/bpf && ip link set dev lo up && bpftool prog show > /dev/null"
 
 

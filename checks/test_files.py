@@ -18,16 +18,11 @@ import time
 import unittest
 from functools import partial
 
-from common import TOP, built
+from common import TOP, built, bytes_of, write
 
 TOOLS, EXAMPLES = os.path.join(TOP, "tools"), os.path.join(TOP, "examples")
 PROGRAM = [built()]
 SECONDS, MOST = 1.0, 64 << 20  # for an answer on an endless input, without the start of Python; and bytes of memory
-
-
-def content(path: str) -> bytes:
-    with open(path, "rb") as file:
-        return file.read()
 
 
 class InFolder(unittest.TestCase):
@@ -58,7 +53,7 @@ class InFolder(unittest.TestCase):
         for name in sorted(os.listdir(self.folder)):
             path = os.path.join(self.folder, name)
             if os.path.isfile(path):
-                found[name] = content(path)
+                found[name] = bytes_of(path)
         return found
 
 
@@ -97,13 +92,10 @@ class Inputs(InFolder):
             os.remove(f"{self.folder}/soft{ending}")
 
     def test_an_old_output_stays_where_anything_fails(self) -> None:
-        with open(f"{self.folder}/bad.pcap", "wb") as file:
-            file.write(struct.pack("<IHHiIII", 0xA1B2C3D4, 2, 4, 0, 0, 65535, 105))
-        with open(f"{self.folder}/bad.c", "w", encoding="utf-8") as text:
-            text.write("nothing\n")
+        write(f"{self.folder}/bad.pcap", struct.pack("<IHHiIII", 0xA1B2C3D4, 2, 4, 0, 0, 65535, 105))
+        write(f"{self.folder}/bad.c", "nothing\n")
         for name in ("old.pcap", "old.image", "old.table", "old.frames"):
-            with open(f"{self.folder}/{name}", "wb") as file:
-                file.write(b"old")
+            write(f"{self.folder}/{name}", b"old")
             os.chmod(f"{self.folder}/{name}", 0o640)
         before = self.all()
         for command in (
@@ -120,7 +112,7 @@ class Inputs(InFolder):
                 self.assertNotEqual(self.ran(*command).returncode, 0)
                 self.assertEqual(self.all(), before)
         self.assertEqual(self.ran("frames.py", "firewall.pcapng", "old.frames").returncode, 0)
-        self.assertEqual(content(f"{self.folder}/old.frames"), content(f"{self.folder}/firewall.frames"))
+        self.assertEqual(bytes_of(f"{self.folder}/old.frames"), bytes_of(f"{self.folder}/firewall.frames"))
         self.assertEqual(stat.S_IMODE(os.stat(f"{self.folder}/old.frames").st_mode), 0o640)
 
     def test_options_stand_anywhere(self) -> None:
@@ -132,7 +124,7 @@ class Inputs(InFolder):
         ):
             self.assertEqual(self.ran("xdp.py", *words).stdout, wanted)
         self.assertEqual(self.ran("frames.py", "firewall.pcapng", "--reasons", "two.frames").returncode, 0)
-        self.assertEqual(content(f"{self.folder}/two.frames")[:4], b"XPF2")
+        self.assertEqual(bytes_of(f"{self.folder}/two.frames")[:4], b"XPF2")
         self.assertEqual(self.ran("image.py", "filter.o", "--section", "xdp", "made.image").returncode, 0)
 
 
@@ -149,8 +141,7 @@ class Surveys(InFolder):
     def test_a_row_for_each_program_with_its_line(self) -> None:
         for source in ("globals.clang14.o", "sections.clang14.o", "headers.gcc12.o"):
             shutil.copy(os.path.join(TOP, "tests/objects/made", source), self.folder)
-        with open(f"{self.folder}/wrong.text", "w", encoding="utf-8") as file:
-            file.write("r0 = 2\nr0 = *(u8 *)(r2 + 0)\nexit\n")
+        write(f"{self.folder}/wrong.text", "r0 = 2\nr0 = *(u8 *)(r2 + 0)\nexit\n")
         names = ("globals.clang14.o", "sections.clang14.o", "headers.gcc12.o", "wrong.text")
         header, *rows = self.rows(*names)
         verdicts = [("globals.clang14.o", "ok"), ("sections.clang14.o:other", "ok"), ("sections.clang14.o:program", "ok")]
@@ -162,8 +153,7 @@ class Surveys(InFolder):
         for folder, compiler in (("one", "clang14"), ("other", "gcc12")):
             os.mkdir(f"{self.folder}/{folder}")
             shutil.copy(os.path.join(TOP, f"tests/objects/made/globals.{compiler}.o"), f"{self.folder}/{folder}/globals.o")
-        with open(f"{self.folder}/one.csv", "w", encoding="utf-8") as file:
-            file.write("\n".join(",".join(row) for row in self.rows("one")) + "\n")
+        write(f"{self.folder}/one.csv", "\n".join(",".join(row) for row in self.rows("one")) + "\n")
         changed = {row[1] for row in self.rows("other", "--compare", "one.csv")[1:] if row[0] == "globals.o"}
         self.assertLessEqual({"slots", "bound"}, changed)
         self.assertNotIn("verdict", changed)
@@ -189,7 +179,7 @@ class Endless(InFolder):
             for _ in range(100):
                 file.write("(" * 1_000_000)
         with open(f"{self.folder}/zeros.table", "wb") as table:
-            table.write(content(f"{self.folder}/pass.table"))
+            table.write(bytes_of(f"{self.folder}/pass.table"))
             table.truncate(1 << 40)
         for path in ("/dev/zero", "/dev/urandom", "open"):
             for command in (
@@ -211,8 +201,8 @@ class Pipes(InFolder):
     def test_a_capture_through_pipes_is_the_capture(self) -> None:
         self.assertEqual(self.ran("xdp.py", "firewall.text", "firewall.pcapng", "sent.pcapng").returncode, 0)
         for name in ("firewall.pcapng", "firewall.frames"):
-            piped = self.ran("xdp.py", "firewall.text", "-", "-", "--to", "pcapng", input=content(f"{self.folder}/{name}"))
-            self.assertEqual((piped.returncode, piped.stdout), (0, content(f"{self.folder}/sent.pcapng")))
+            piped = self.ran("xdp.py", "firewall.text", "-", "-", "--to", "pcapng", input=bytes_of(f"{self.folder}/{name}"))
+            self.assertEqual((piped.returncode, piped.stdout), (0, bytes_of(f"{self.folder}/sent.pcapng")))
             self.assertIn(b"8 frames: 4 PASS, 4 DROP", piped.stderr)
 
     def test_frames_pass_as_they_come(self) -> None:

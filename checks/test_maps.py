@@ -15,7 +15,7 @@ import unittest
 import unittest.mock
 from typing import Iterator
 
-from common import TOP
+from common import TOP, bytes_of
 
 sys.dont_write_bytecode = True
 import image
@@ -31,12 +31,6 @@ MADE = os.path.join(TOP, "tests/objects/made")
 EXAMPLES = os.path.join(TOP, "examples")
 GIVEN = sys.argv[1:3]
 PROGRAM = GIVEN[0] if GIVEN else sources.the_xdpvm()
-
-
-def content(path: str) -> bytes:
-    """The bytes of a file."""
-    with open(path, "rb") as file:
-        return file.read()
 
 
 def stored(name: str) -> Iterator[str]:
@@ -62,7 +56,7 @@ class Values(unittest.TestCase):
     def test_each_section_that_is_named_begins_with_its_bytes(self) -> None:
         """The lines are those of the sections' own bytes, under the names of the maps."""
         for path in [*stored("values"), *stored("tables")]:
-            made, it = image.made(content(path)), Object(content(path))
+            made, it = image.made(bytes_of(path)), Object(bytes_of(path))
             begins = {}
             for index, name in enumerate(made.names):
                 section = it.names.index(name)
@@ -76,12 +70,12 @@ class Values(unittest.TestCase):
     def test_zeros_have_no_lines(self) -> None:
         """Images of objects whose variables begin as zeros are as they were."""
         for path in [*stored("variables"), *stored("globals"), *stored("calls")]:
-            self.assertEqual(image.made(content(path)).fill, "")
+            self.assertEqual(image.made(bytes_of(path)).fill, "")
         self.assertEqual(lines_of({3: bytes(8), 1: b"\0\1"}), "map 1 00000000 0001\n")
 
     def test_a_section_that_is_too_large_is_named(self) -> None:
         """A map's value has a limit, and a place after the section's end is no place of it."""
-        it = Object(content(f"{MADE}/values.clang14.o"))
+        it = Object(bytes_of(f"{MADE}/values.clang14.o"))
         for size, said in (
             (5000, r"its section \.data has 5,000 bytes, and a map's value has at most 4,096"),
             (4, r"byte \d+ of \.data is named in program"),
@@ -92,7 +86,7 @@ class Values(unittest.TestCase):
 
     def test_an_address_in_a_value_is_named(self) -> None:
         """What is known only where the program is loaded cannot be in a value."""
-        it = Object(content(f"{MADE}/values.clang14.o"))
+        it = Object(bytes_of(f"{MADE}/values.clang14.o"))
         home, own = it.names.index(".data"), it.relocations
         at = {8: Relocation(it.symbols[1], 2)}
         with unittest.mock.patch.object(it, "relocations", lambda section: at if section == home else own(section)):
@@ -101,7 +95,7 @@ class Values(unittest.TestCase):
 
     def test_an_address_that_is_not_the_variables_own_is_named(self) -> None:
         """gcc's assembler writes a variable's address, which is 0 only at the beginning of its section."""
-        it = Object(content(f"{MADE}/values.clang14.o"))
+        it = Object(bytes_of(f"{MADE}/values.clang14.o"))
         with unittest.mock.patch.object(it, "has_addresses", lambda: True):
             with self.assertRaisesRegex(Refused, "is named in program.* by an address that is not its own"):
                 Linker(it, Kernel(None)).link(image.chosen(it, None, None))
@@ -234,7 +228,7 @@ class Commands(InFolder):
     def test_lines_of_a_map_that_is_no_section(self) -> None:
         """object.py fills sections only from the file beside an image."""
         shutil.copy(f"{EXAMPLES}/talkers.image", self.path("a.image"))
-        data = content(self.path("a.image"))
+        data = bytes_of(self.path("a.image"))
         self.write("a.image.maps", map_files.first_line(data) + "map 0 c0000201 0100000000000000\n")
         said = self.ran("object.py", "--unverified", "a.image", "a.o")
         self.assertEqual((said.returncode, os.path.exists(self.path("a.o"))), (1, False))
@@ -246,7 +240,7 @@ class Commands(InFolder):
         said = self.ran("object.py", "--unverified", "a.image", "a.o")
         self.assertIn("a.o: map0, map1, map3 begin with the values of a.image.maps: each loader fills them in", said.stderr)
         self.assertEqual(self.ran("image.py", "a.o", "b.image").returncode, 0)
-        self.assertEqual(content(self.path("a.image.maps")), content(self.path("b.image.maps")))
+        self.assertEqual(bytes_of(self.path("a.image.maps")), bytes_of(self.path("b.image.maps")))
 
 
 @unittest.skipUnless(the_filter(), "there is no program xdpvm_filter")
@@ -263,7 +257,7 @@ class Runs(InFolder):
         its = [f"{EXAMPLES}/talkers.image", f"{EXAMPLES}/talkers.frames"]
         first = self.xdp(*its, "sent.frames", "--maps-out", "kept.maps")
         self.assertEqual(first.returncode, 0, first.stderr)
-        kept = content(self.path("kept.maps")).decode()
+        kept = bytes_of(self.path("kept.maps")).decode()
         self.assertTrue(kept.startswith("map 0 c0000201 0a00000000000000\n"))
         again = self.xdp(*its, "--maps", "kept.maps", "--maps-out", "-")
         self.assertEqual((again.returncode, again.stdout[:32]), (0, "map 0 c0000201 1400000000000000\n"), again.stderr)

@@ -15,7 +15,7 @@ import unittest
 import unittest.mock
 from typing import List, Mapping, Optional, Sequence, Tuple
 
-from common import TOP, built
+from common import TOP, built, bytes_of, text_of, write
 
 sys.dont_write_bytecode = True
 import image
@@ -33,11 +33,6 @@ EXAMPLES = os.path.join(TOP, "examples")
 XDPVM = built()
 PASS = [(0xB7, 0, 0, 0, 2), (0x95, 0, 0, 0, 0)]
 HASH, ARRAY = Row(1, 4, 8, 256), Row(2, 4, 8, 2)
-
-
-def content(path: str) -> bytes:
-    with open(path, "rb") as file:
-        return file.read()
 
 
 def stored() -> List[str]:
@@ -78,7 +73,7 @@ class Objects(unittest.TestCase):
     def test_image_py_makes_the_same_image_of_an_object(self) -> None:
         self.assertGreater(len(stored()), 50)
         for path in stored():
-            whole = content(path)
+            whole = bytes_of(path)
             with self.subTest(path):
                 self.assertEqual(image.bytes_of(image.made(object_of(whole))), whole)
 
@@ -109,10 +104,10 @@ class Objects(unittest.TestCase):
 
     def test_an_object_is_the_same_each_time(self) -> None:
         for path in stored():
-            self.assertEqual(object_of(content(path)), object_of(content(path)))
+            self.assertEqual(object_of(bytes_of(path)), object_of(bytes_of(path)))
 
     def test_damaged_images_are_refused(self) -> None:
-        whole = content(f"{EXAMPLES}/talkers.image")
+        whole = bytes_of(f"{EXAMPLES}/talkers.image")
         for end in range(len(whole)):
             with self.assertRaises(Refused):
                 object_of(whole[:end])
@@ -143,7 +138,7 @@ class Objects(unittest.TestCase):
         if library is None:
             self.skipTest("there is no libbpf.so.1 (Debian: libbpf1)")
         for path in stored():
-            whole = content(path)
+            whole = bytes_of(path)
             for is_pinned in (False, True):
                 found = library.found(object_of(whole, "a_filter", is_pinned=is_pinned))
                 program = Program(whole)
@@ -208,8 +203,9 @@ class MapLines(unittest.TestCase):
 
 class Check(unittest.TestCase):
     def test_rows_are_those_of_the_page(self) -> None:
-        with open(os.path.join(TOP, "docs/DECISIONS.md"), encoding="utf-8") as file:
-            table = file.read().split("| less strict here | Linux |\n|---|---|\n")[1].split("\n\n")[0]
+        table = (
+            text_of(os.path.join(TOP, "docs/DECISIONS.md")).split("| less strict here | Linux |\n|---|---|\n")[1].split("\n\n")[0]
+        )
         self.assertEqual([f"| {row.here} | {row.linux} |" for row in object_check.ROWS], table.splitlines())
 
     def test_rules(self) -> None:
@@ -277,10 +273,8 @@ class Commands(unittest.TestCase):
     def test_nothing_is_written_of_what_is_refused(self) -> None:
         with tempfile.TemporaryDirectory() as folder:
             old, cut = f"{folder}/old.o", f"{folder}/cut.image"
-            with open(old, "wb") as file:
-                file.write(b"old")
-            with open(cut, "wb") as file:
-                file.write(content(f"{EXAMPLES}/talkers.image")[:-1])
+            write(old, b"old")
+            write(cut, bytes_of(f"{EXAMPLES}/talkers.image")[:-1])
             for words, status, said in [
                 (["unguarded.image", old], 2, "the packet bytes are not proved to be there"),
                 (["damaged.image", old], 2, "slot 1"),
@@ -298,7 +292,7 @@ class Commands(unittest.TestCase):
             ]:
                 done = ran(*words)
                 with self.subTest(words):
-                    self.assertEqual((done.returncode, content(old)), (status, b"old"), done.stderr)
+                    self.assertEqual((done.returncode, bytes_of(old)), (status, b"old"), done.stderr)
                     self.assertIn(said, done.stderr)
                     self.assertNotIn("Traceback", done.stderr)
             self.assertEqual(sorted(os.listdir(folder)), ["cut.image", "old.o"])
@@ -314,7 +308,7 @@ class Commands(unittest.TestCase):
             for words, file, number, text in rows:
                 done = ran(*words, "firewall.image", made)
                 self.assertEqual((done.returncode, done.stdout, done.stderr), (0, "", ""))
-                found = image.made(content(made)).lines
+                found = image.made(bytes_of(made)).lines
                 line = found[-1] if number is None else found[0]
                 assert line is not None
                 self.assertEqual(os.path.basename(line.file), os.path.basename(file))

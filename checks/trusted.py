@@ -18,7 +18,7 @@ import os
 import re
 import sys
 
-from common import TOP
+from common import TOP, text_of, write
 from definitions import Base, Code
 
 PAGE = os.path.join(TOP, "docs/TRUSTED.md")
@@ -163,16 +163,14 @@ def differences(text: str, main: Rows, closed: Rows, more: dict[str, Rows]) -> l
 
 def main() -> int:
     main_rows, closed, more = lists()
-    with open(PAGE, encoding="utf-8") as file:
-        text = file.read()
+    text = text_of(PAGE)
     if "--print" in sys.argv[1:]:
         for path, lines in sorted(main_rows.items()):
             print(f"| `{path}` | {lines} |")
         for name, rows in more.items():
             print(f"\n{name}: {said(rows)}", *by_crate(rows), sep="\n")
     if "--write" in sys.argv[1:]:
-        with open(PAGE, "w", encoding="utf-8") as file:
-            file.write(written(text, main_rows, closed, more))
+        write(PAGE, written(text, main_rows, closed, more))
         return 0
     wrong = differences(text, main_rows, closed, more)
     print("\n".join(wrong + [f"the promise rests on {said(main_rows)}; that a table is closed, on {said(closed)} more"]))

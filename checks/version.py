@@ -10,7 +10,8 @@ import os
 import re
 import sys
 
-TOP = os.path.dirname(os.path.dirname(os.path.abspath(__file__)))
+from common import TOP
+
 FILE = os.path.join(TOP, "VERSION")
 FORM = r"\d+\.\d+\.\d+"
 PLACES = (
