@@ -45,7 +45,7 @@ if [ -n "$program" ]; then
         "$filter" --version 2> /dev/null | grep -q '^xdpvm_filter ' || stop "$filter is no xdpvm_filter"
     fi
     told="$program, as it was given: nothing was proved now"
-elif gate=$(python3 "$top/assurance/record.py" --find); then
+elif gate=$(python3 "$top/checks/record.py" --find); then
     program=$gate/xdpvm
     survey=$gate/xdpvm_survey
     filter=$gate/xdpvm_filter
@@ -79,7 +79,7 @@ if [ -n "$filter" ]; then install "$filter" "$folder/xdpvm_filter"; fi
 mkdir -p "$home/tools" "$home/examples/filters" "$home/docs/pictures"
 for tool in "$top"/tools/*; do
     case $(basename "$tool") in
-        limits.py | manual.py | pictures.py | unproved.py | version.py | test_*) ;;
+        unproved.py) ;;
         README.md) install -m 644 "$tool" "$home/tools" ;;
         *.py | *.sh)
             if [ "$(head -c 2 "$tool")" = '#!' ]; then

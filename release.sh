@@ -3,7 +3,7 @@
 # usage: bash release.sh FOLDER [--trial]       makes the archives in FOLDER
 #        bash release.sh --files FOLDER         compares an unpacked archive with its MANIFEST, and its programs with the gate's
 #        bash release.sh --check ARCHIVE        builds the archive's commit again, proofs included, and compares the bytes
-# The programs and the library are those that .ci/run left with its record of this very commit (assurance/record.py); a tree
+# The programs and the library are those that .ci/run left with its record of this very commit (checks/record.py); a tree
 # with changes that are not committed, or without a record, is refused. With --trial they are those in crates/*/out, and the
 # MANIFEST says that it is a trial. All times in the archives are the commit's, so the same build and the same commit give
 # the same archives. It needs the toolchain's `rt` on the path, for the library's heap and the licences of its ports, cc, ar
@@ -110,7 +110,7 @@ if [ -n "$trial" ]; then
     library=$top/crates/xdpvm_c/out/libxdpvm_c.a
 else
     [ -z "$(git -C "$top" status --porcelain)" ] || stop "there are changes that are not committed: a release is of a commit"
-    gate=$(python3 "$top/assurance/record.py" --find) || stop "the gate has not passed on this commit here: bash .ci/run"
+    gate=$(python3 "$top/checks/record.py" --find) || stop "the gate has not passed on this commit here: bash .ci/run"
     program=$gate/xdpvm
     survey=$gate/xdpvm_survey
     filter=$gate/xdpvm_filter
@@ -123,7 +123,7 @@ rt=$(command -v rt) || stop "rt, the toolchain's command, is not on the path"
 kit=$(dirname "$(dirname "$(realpath "$rt")")")
 heap=$kit/c/liblibc_c.a
 version=$(cat "$top/VERSION")
-python3 "$top/tools/version.py" > "$work/said" || stop "$(cat "$work/said")"
+python3 "$top/checks/version.py" > "$work/said" || stop "$(cat "$work/said")"
 [ "$("$program" verify "$top/examples/pass.image")" = "ok bound 2" ] || stop "$program does not verify examples/pass.image"
 commit=$(git -C "$top" rev-parse HEAD)
 SOURCE_DATE_EPOCH=$(git -C "$top" log -1 --format=%ct)

@@ -18,6 +18,7 @@ from typing import List
 
 sys.path.insert(0, os.path.join(os.path.dirname(os.path.abspath(__file__)), "../checks"))
 import common
+from common import write
 
 sys.dont_write_bytecode = True
 import expression_frames
@@ -63,8 +64,7 @@ def taken(report: str, *words: str) -> float:
 def measured(given: argparse.Namespace, expression: str, folder: str) -> None:
     """Prints the row of an expression."""
     image, report = f"{folder}/image", f"{folder}/report"
-    with open(f"{folder}/text", "w", encoding="utf-8") as file:
-        file.write(of_expression(expression, Options()))
+    write(f"{folder}/text", of_expression(expression, Options()))
     subprocess.run([given.program, "asm", f"{folder}/text", image], stdout=subprocess.DEVNULL, check=True)
     theirs: List[float] = []
     ours: List[float] = []

@@ -31,8 +31,7 @@ from pathlib import Path
 
 TOP = Path(__file__).resolve().parent.parent
 sys.path.insert(0, str(TOP / "tests"))
-
-from bridge import CANNOT, Bridge, Ends, Wrong, can_be_tried, called, image_of  # noqa: E402  pylint: disable=wrong-import-position
+from bridge import CANNOT, Bridge, Ends, Wrong, can_be_tried, called, image_of
 
 RATE, DELAYS, REPEATS = 100_000, 1000, 11
 LIST = "map 0 1b58 0000000000000000\n"  # port 7000

@@ -18,7 +18,7 @@ import time
 from collections.abc import Iterator
 
 sys.path.insert(0, os.path.join(os.path.dirname(os.path.abspath(__file__)), "../checks"))
-from common import crates_below, write
+from common import bytes_of, crates_below, write
 
 TICKS = os.sysconf("SC_CLK_TCK")
 Seen = dict[tuple[str, str, int], tuple[float, int]]  # seconds and megabytes of a prover: its crate, its kind and its number
@@ -27,8 +27,7 @@ KINDS = ("code", "tests", "edits")
 
 def read(path: str) -> bytes:
     try:
-        with open(path, "rb") as file:
-            return file.read()
+        return bytes_of(path)
     except OSError:
         return b""
 

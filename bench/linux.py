@@ -31,8 +31,7 @@ from pathlib import Path
 
 TOP = Path(__file__).resolve().parent.parent
 sys.path.insert(0, str(TOP / "tools"))
-
-from kernel_calls import Kernel, NoKernel  # noqa: E402  pylint: disable=wrong-import-position
+from kernel_calls import Kernel, NoKernel
 
 CANNOT = 77
 MOST = 1_000_000

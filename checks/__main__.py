@@ -18,10 +18,9 @@ from dataclasses import dataclass
 
 sys.path.insert(0, os.path.dirname(os.path.abspath(__file__)))
 import near
-from common import said_by
+from common import CANNOT, said_by
 from listed import CHECKS, TOP, Check
 
-CANNOT = 77
 EXAMPLES = re.compile(r"^(\d+) examples, (\d+) differ$")
 MOST_SHOWN = 20000  # characters of a check's output, from its end
 

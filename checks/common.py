@@ -12,7 +12,7 @@ from collections.abc import Iterable, Mapping, Sequence
 from typing import IO, NamedTuple, TypeVar
 
 TOP = os.path.dirname(os.path.dirname(os.path.abspath(__file__)))
-sys.path[1:1] = [os.path.join(TOP, it) for it in ("tools", "assurance", "tests", "bench", "examples")]
+sys.path[1:1] = [os.path.join(TOP, it) for it in ("tools", "attacks", "tests", "bench", "examples")]
 CANNOT = 77  # the status of a check that cannot be tried here
 T = TypeVar("T")
 

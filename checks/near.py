@@ -13,15 +13,12 @@ The exit status is 0 if all is proved and each edit is refused, else 1. It is no
 import argparse
 import re
 import subprocess
-import sys
 import time
 from collections.abc import Iterator
 from concurrent.futures import ThreadPoolExecutor
 from dataclasses import dataclass, field
 
 from listed import TOP
-
-sys.path.insert(0, str(TOP / "assurance"))
 
 import edits
 import run

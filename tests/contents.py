@@ -5,7 +5,7 @@ Linux.
 usage: python3 tests/contents.py [--halves N] [--programs N] [--texts N] [--seed S] [--jobs J] [--filter PROGRAM]
                                  [--keep FOLDER]
 
-Programs are those of assurance/random_programs.py that are accepted; each has random contents of its maps, and a random
+Programs are those of attacks/random_programs.py that are accepted; each has random contents of its maps, and a random
 stream. Of --halves of them a run over the stream is compared with two runs, the second on what the first one left: as
 its --maps-out, or as its report; report, frames out and maps have to be those of the whole. Of --programs of them a run
 is compared with one with all checks, and with the kernel's test runs, where bpf(2) can be used and the kernel accepts
@@ -28,8 +28,9 @@ from concurrent.futures import ProcessPoolExecutor
 from dataclasses import dataclass, field
 from typing import Counter, Iterator
 
-TOP = os.path.dirname(os.path.dirname(os.path.abspath(__file__)))
-sys.path[:0] = [f"{TOP}/tools", f"{TOP}/assurance"]
+sys.path.insert(0, os.path.join(os.path.dirname(os.path.abspath(__file__)), "../checks"))
+import common  # pylint: disable=unused-import
+
 sys.dont_write_bytecode = True
 import fuzz
 import kernel

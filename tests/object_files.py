@@ -22,7 +22,9 @@ import subprocess
 import sys
 import tempfile
 
-TOP = os.path.dirname(os.path.dirname(os.path.abspath(__file__)))
+sys.path.insert(0, os.path.join(os.path.dirname(os.path.abspath(__file__)), "../checks"))
+from common import TOP
+
 FOLDER = os.path.join(TOP, "tests/objects")
 BTF = os.path.join(FOLDER, "made/kernel.btf")
 CLANG = ["-target", "bpf", "-g", "-O2", f"-I/usr/include/{os.uname().machine}-linux-gnu"]

@@ -22,10 +22,9 @@ import sys
 import tempfile
 from typing import Dict, Iterable, List, NamedTuple, Optional, Set
 
-TOP = os.path.dirname(os.path.dirname(os.path.abspath(__file__)))
-FOLDER = os.path.join(TOP, "tests/expressions")
-CAPTURE, STORED = os.path.join(FOLDER, "frames.pcap"), os.path.join(FOLDER, "stored.txt")
-sys.path[:0] = [os.path.join(TOP, it) for it in ("tools", "assurance", "examples")]
+sys.path.insert(0, os.path.join(os.path.dirname(os.path.abspath(__file__)), "../checks"))
+from common import TOP, write
+
 sys.dont_write_bytecode = True
 import expression_corpus
 import expression_frames
@@ -33,6 +32,8 @@ import send
 from classic import Failed, compiled
 from expression_sweep import Trial, Wrong, kept, stream_of, tried
 
+FOLDER = os.path.join(TOP, "tests/expressions")
+CAPTURE, STORED = os.path.join(FOLDER, "frames.pcap"), os.path.join(FOLDER, "stored.txt")
 COMPOSED, SEED = 100, 1
 FRAMES, KINDS = 300, 3
 LONGEST = 4096  # bytes of a frame of the first form of streams
@@ -137,8 +138,7 @@ def store() -> None:
     for path in sorted(glob.glob(f"{TOP}/examples/*.frames")):
         with open(path, "rb") as file:
             found += [body for body in send.bodies(file.read()) if len(body) <= LONGEST]
-    with open(CAPTURE, "wb") as capture:
-        capture.write(expression_frames.pcap_of(found))
+    write(CAPTURE, expression_frames.pcap_of(found))
     told = subprocess.run(["tcpdump", "--version"], capture_output=True, text=True, check=False)
     versions = (told.stdout + told.stderr).splitlines()[:2]
     lines = [f"# by {', '.join(versions)}; made by `python3 tests/tcpdump.py --store`"]
@@ -149,8 +149,7 @@ def store() -> None:
             lines.append("  frames " + spans(kept(said, CAPTURE)))
         except Failed as why:
             lines.append(f"  refused {str(why).removeprefix(f'{said!r}: ')}")
-    with open(STORED, "w", encoding="utf-8") as file:
-        file.write("\n".join(lines) + "\n")
+    write(STORED, "\n".join(lines) + "\n")
 
 
 def main() -> int:
@@ -162,8 +161,7 @@ def main() -> int:
         store()
     found, frames, differ = cases(), stored_frames(), 0
     with tempfile.TemporaryDirectory() as folder, concurrent.futures.ThreadPoolExecutor(os.cpu_count()) as pool:
-        with open(f"{folder}/frames", "wb") as file:
-            file.write(stream_of(frames))
+        write(f"{folder}/frames", stream_of(frames))
         gate = Gate(program, f"{folder}/frames")
         for case, why in zip(found, pool.map(gate.wrong, found)):
             if why:

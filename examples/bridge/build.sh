@@ -10,7 +10,7 @@ rt=$(command -v rt) || { echo "build.sh: rt, the toolchain's command, is not on 
 heap=$(dirname "$(dirname "$(realpath "$rt")")")/c/liblibc_c.a
 archive=${2:-$top/crates/xdpvm_c/out/libxdpvm_c.a}
 if [ ! -f "$archive" ]; then
-    archive=$(python3 "$top/assurance/record.py" --find)/libxdpvm_c.a || { echo "build.sh: the library is not built: bash .ci/run" >&2; exit 1; }
+    archive=$(python3 "$top/checks/record.py" --find)/libxdpvm_c.a || { echo "build.sh: the library is not built: bash .ci/run" >&2; exit 1; }
 fi
 read -ra flags <<< "${CFLAGS:--O2 -Wall -Wextra}"
 "${CC:-cc}" -std=gnu11 "${flags[@]}" -I"$top/examples/embed" -o "${1:-bridge}" "$here"/*.c "$archive" "$heap" -pthread

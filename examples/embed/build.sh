@@ -18,7 +18,7 @@ if [ "${1:-}" = --short ]; then
     refused=(filter allow)
     [ -f "${1:-$out/libxdpvm_c.a}" ] || { echo "build.sh: there is no library ${1:-$out/libxdpvm_c.a}" >&2; exit 1; }
 fi
-gate=$(python3 "$top/assurance/record.py" --find) || gate=
+gate=$(python3 "$top/checks/record.py" --find) || gate=
 if [ ! -f "$out/libxdpvm_c.a" ] && [ -n "$gate" ]; then
     out=$gate
     echo "build.sh: the library is the one that the gate proved at this commit ($gate)" >&2

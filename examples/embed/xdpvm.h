@@ -21,7 +21,7 @@
    more than your buffer has, call again with a larger one; but not xdpvm_stream, which would run again. No text ends in a
    zero byte.
 
-   examples/embed/header.py compares this file with the sources of the library. */
+   checks/header.py compares this file with the sources of the library. */
 #ifndef XDPVM_H
 #define XDPVM_H
 

@@ -1,4 +1,4 @@
-# Completions of xdpvm for bash, made by tools/manual.py.
+# Completions of xdpvm for bash, made by checks/manual.py.
 _xdpvm() {
     local word=${COMP_WORDS[COMP_CWORD]} command=${COMP_WORDS[1]}
     COMPREPLY=()

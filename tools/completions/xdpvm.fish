@@ -1,4 +1,4 @@
-# Completions of xdpvm for fish, made by tools/manual.py.
+# Completions of xdpvm for fish, made by checks/manual.py.
 complete -c xdpvm -n __fish_use_subcommand -f -a asm -d 'Makes the image of a program that is written as text'
 complete -c xdpvm -n __fish_use_subcommand -f -a dis -d 'Prints the text of an image'
 complete -c xdpvm -n __fish_use_subcommand -f -a verify -d 'Verifies a program and prints the most steps that a run takes'

@@ -1,4 +1,4 @@
-# Completions of xdpvm_filter for fish, made by tools/manual.py.
+# Completions of xdpvm_filter for fish, made by checks/manual.py.
 complete -c xdpvm_filter -n __fish_use_subcommand -l maps -r -d 'The lines that fill the maps before the first frame, as a report has them'
 complete -c xdpvm_filter -n __fish_use_subcommand -l maps-out -r -d 'Gets the lines of what the maps hold after the last frame'
 complete -c xdpvm_filter -n __fish_use_subcommand -l table -r -d 'A proof table, which is tested in place of verifying the program'

@@ -1,4 +1,4 @@
-# Completions of xdpvm_survey for bash, made by tools/manual.py.
+# Completions of xdpvm_survey for bash, made by checks/manual.py.
 _xdpvm_survey() {
     local word=${COMP_WORDS[COMP_CWORD]} command=${COMP_WORDS[1]}
     COMPREPLY=()

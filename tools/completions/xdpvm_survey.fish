@@ -1,4 +1,4 @@
-# Completions of xdpvm_survey for fish, made by tools/manual.py.
+# Completions of xdpvm_survey for fish, made by checks/manual.py.
 complete -c xdpvm_survey -n __fish_use_subcommand -l format -r -d 'How rows are written: table, csv or json [default: table]'
 complete -c xdpvm_survey -n __fish_use_subcommand -l sort -r -d 'Sorts by a column: texts from a to z, numbers from the greatest to the least'
 complete -c xdpvm_survey -n __fish_use_subcommand -l only -r -d 'Prints only the rows of refused images'

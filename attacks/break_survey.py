@@ -1,0 +1,151 @@
+#!/usr/bin/env python3
+"""Breaks xdpvm_survey from outside: makes each allocation, read and write of some command lines fail in turn, and each
+opening of a file or folder and listing of a folder.
+
+usage: python3 attacks/break_survey.py [PROGRAM [FOLDER]]
+
+PROGRAM is xdpvm_survey (the default: crates/xdpvm_survey/out/xdpvm_survey). If an allocation fails,
+the status is 5 and standard error says so, or a row says `memory`; or what is known of a refusal is
+left out. If a read fails, its file is named, with status 4 or more; if a write fails, the output
+is, or standard error got less; it is not written to again. If a file or folder cannot be opened, or
+a folder not listed, standard error names it and says why, with status 4. It never crashes, and
+never accepts an image that `verify` refuses. The times in a row are those of a clock that this
+script sets. With FOLDER it surveys each image there by itself, once with proof tables, and shows
+it. It needs a C compiler (CC). The last line is 'N tried, M wrong'. Without FOLDER in the gate.
+"""
+import csv
+import json
+import os
+import re
+import shutil
+import subprocess
+import sys
+import tempfile
+from collections.abc import Iterator
+
+sys.path.insert(0, os.path.join(os.path.dirname(os.path.abspath(__file__)), "../checks"))
+import common
+from common import TOP, compiler, write
+
+RUNS = (
+    ["examples/filter.image", "examples/unguarded.image", "--format", "csv"],
+    ["few", "--sort", "bound"],
+    ["few", "--compare", "old.csv", "--format", "json"],
+    ["few", "--tables", "made"],
+    ["log", "examples/guarded.image"],
+    ["log", "examples/unguarded.image", "--slot", "1"],
+    ["dis", "examples/guarded.image"],
+    ["dis", "--dot", "examples/guarded.image"],
+    ["--sort", "nothing", "few"],
+    ["--what", "few"],
+)
+TIMES = re.compile(rb" *\d+\.\d+")
+# why break.c lets no file or folder be opened, and no folder be listed
+REASONS = {"open": b"permission denied", "list": b"timed out"}
+KINDS = ("alloc", "read", "write", *REASONS)
+
+# When the clock is read for the nth time, it says n * n ticks of so many nanoseconds: between its first and second reading
+# pass 3 ticks, between the third and the fourth 7, and between the fifth and the sixth 11.
+TICK = 1_234_567_000
+TOOK = {"milliseconds": "3703.701", "prove_milliseconds": "8641.969", "recheck_milliseconds": "13580.237"}
+
+
+class Answer:
+    """What the program wrote, its status, and whether the call that was to fail was reached. Times are left out."""
+
+    def __init__(self, program: str, words: list[str], kind: str | None = None, call: int = 0) -> None:
+        env = {"LD_PRELOAD": os.path.abspath("between.so")}
+        if os.path.exists("mark"):
+            os.remove("mark")
+        if kind:
+            env.update({"BREAK": kind, "WHEN": str(call), "MARK": "mark"})
+        ran = subprocess.run([program, *words], env=env, stdin=subprocess.DEVNULL, capture_output=True, timeout=60, check=False)
+        self.status, self.out, self.err = ran.returncode, TIMES.sub(b"T", ran.stdout), ran.stderr
+        self.broken = os.path.exists("mark")
+        self.tried_again = self.broken and os.path.getsize("mark") > 0
+
+
+def is_shorter(answer: Answer, whole: Answer) -> bool:
+    """Whether lines were left out at the end of what is known of a refusal."""
+    return (
+        (answer.status, answer.err) == (whole.status, whole.err) and b"refused" in answer.out and whole.out.startswith(answer.out)
+    )
+
+
+def is_right(kind: str, answer: Answer, whole: Answer) -> bool:
+    if answer.tried_again:
+        return False
+    if kind in REASONS:
+        is_named = re.search(rb"^cannot (read|write) \S+: " + REASONS[kind] + b"$", answer.err, re.M)
+        return answer.status == 4 and is_named is not None
+    if (answer.status, answer.out, answer.err) == (whole.status, whole.out, whole.err):
+        return True
+    if kind == "alloc":
+        says = answer.err.endswith(b"out of memory\n") or b"memory" in answer.out
+        return answer.status == 5 and says or is_shorter(answer, whole)
+    if kind == "read":
+        return answer.status in (4, 5) and b"cannot read" in answer.err or answer.status == whole.status and answer.out == whole.out
+    less_said = answer.status == whole.status and answer.out == whole.out and answer.err != whole.err
+    return answer.status == 4 and b"cannot write" in answer.err or less_said
+
+
+def has_right_times(program: str) -> bool:
+    """Whether a row says of verify, prove and recheck how long they took by the clock."""
+    env = {"LD_PRELOAD": os.path.abspath("between.so"), "TICK": str(TICK)}
+    rows: list[dict[str, object]] = []
+    for form in ("csv", "json"):
+        words = [program, "examples/pass.image", "--tables", "made", "--format", form]
+        ran = subprocess.run(words, env=env, stdin=subprocess.DEVNULL, capture_output=True, timeout=60, check=True)
+        lines = ran.stdout.decode().splitlines()
+        rows += csv.DictReader(lines) if form == "csv" else map(json.loads, lines)
+    took = [{name: str(row[name]) for name in TOOK} for row in rows]
+    if took != [TOOK, TOOK]:
+        print(f"times: {took}, not {TOOK}")
+    return took == [TOOK, TOOK]
+
+
+def runs_of(folder: str) -> Iterator[list[str]]:
+    """The command lines for the images of a folder."""
+    for name in sorted(os.listdir(folder)):
+        if name.endswith(".image"):
+            path = os.path.join(folder, name)
+            yield [path, "--format", "csv"]
+            yield [path, "--tables", "made"]
+            yield ["log", path, "--slot", "0"]
+            yield ["dis", path]
+            yield ["dis", "--dot", path]
+
+
+def prepare() -> None:
+    os.symlink(os.path.join(TOP, "examples"), "examples")
+    for name in ("few", "made"):
+        os.mkdir(name)
+    for name in ("filter", "talkers", "unguarded"):
+        shutil.copy(f"examples/{name}.image", "few")
+    write("old.csv", "file,bound,explored\nfew/filter.image,5,7\n")
+    subprocess.run([compiler(), "-O1", "-fPIC", "-shared", "-o", "between.so", f"{TOP}/attacks/break.c"], check=True)
+
+
+def main() -> None:
+    program = common.program("xdpvm_survey")
+    runs = list(runs_of(os.path.abspath(sys.argv[2]))) if len(sys.argv) > 2 else RUNS
+    with tempfile.TemporaryDirectory() as folder:
+        os.chdir(folder)
+        prepare()
+        tried, wrong = 1, int(not has_right_times(program))
+        for words in runs:
+            whole = Answer(program, words)
+            for kind in KINDS:
+                call = 1
+                while (answer := Answer(program, words, kind, call)).broken:
+                    tried += 1
+                    if not is_right(kind, answer, whole):
+                        wrong += 1
+                        print(f"{' '.join(words)}: {kind} {call}: {answer.status} {answer.out[-200:]!r} {answer.err[-200:]!r}")
+                    call += 1
+        os.chdir("/")
+    print(f"{tried} tried, {wrong} wrong")
+    sys.exit(1 if wrong else 0)
+
+
+main()

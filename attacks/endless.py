@@ -1,0 +1,203 @@
+#!/usr/bin/env python3
+"""Inputs without an end, or of terabytes, are refused at their first bytes.
+
+usage: python3 attacks/endless.py [PROGRAM [SURVEY]]
+
+Proof tables, program texts and earlier surveys that are devices without an end, or files of
+terabytes on no disk, or a right one with such bytes behind it: each has to be refused as the bytes
+at its beginning are, within a second of the processor and 64 MB. So is a text of 100 MB that its
+beginning decides, from a file, a pipe and standard input. One that only its end decides is read and
+kept as a whole: it may take 64 MB more than its size, and a few seconds. A comparison with an earlier
+survey of 36 MB may take three times as much. PROGRAM and SURVEY are the programs
+that `rt run` leaves in crates/xdpvm and crates/xdpvm_survey (the default: those in out/ there). The
+exit status is 0 if it is so, and 1 if not.
+"""
+import os
+import subprocess
+import sys
+import tempfile
+import threading
+from collections.abc import Iterator
+from typing import BinaryIO
+
+sys.path.insert(0, os.path.join(os.path.dirname(os.path.abspath(__file__)), "../checks"))
+from common import TOP, Ended, bytes_of, measured, program
+
+PROGRAM, SURVEY = program(), program("xdpvm_survey", 2)
+IMAGE = os.path.join(TOP, "examples/filter.image")
+FRAMES = os.path.join(TOP, "examples/numbers.frames")
+Given = int | BinaryIO  # what a command has as standard input
+TERABYTES = 1 << 42
+# At most so many KiB of memory, and seconds of the processor. A command that takes far longer is ended.
+MEMORY = 64 * 1024
+SECONDS = 1
+LONGEST = 60
+# A text that is read as a whole: its bytes, and at most so many seconds.
+LONG = 100_000_000
+WHOLE = 4
+
+
+def run(words: list[str], given: Given = subprocess.DEVNULL) -> Ended:
+    """How a command ended, which is killed if it takes far longer than it may."""
+    return measured(["timeout", "-s", "KILL", str(LONGEST), *words], given)
+
+
+def tell(
+    words: list[str], status: int, line: str, most: int = MEMORY, longest: float = SECONDS, given: Given = subprocess.DEVNULL
+) -> bool:
+    """Whether a command ends with this status, after this line of its output, within the limits."""
+    ended = run(words, given)
+    said = (ended.out + ended.err).splitlines()
+    is_right = ended.status == status and line in said and ended.kib <= most and ended.seconds <= longest
+    if not is_right:
+        print(f"{' '.join(words[1:])}: status {ended.status}, {said[:9]}, {ended.kib} KiB, {ended.seconds:.2f} s")
+    return is_right
+
+
+def sparse(path: str, beginning: bytes) -> str:
+    """A file of terabytes that begins with these bytes and has zeros behind them."""
+    with open(path, "wb") as file:
+        file.write(beginning)
+        file.truncate(TERABYTES)
+    return path
+
+
+def contents(words: list[str], path: str) -> bytes:
+    """The bytes that a command writes into a file."""
+    subprocess.run([*words, path], check=True, stdout=subprocess.DEVNULL)
+    return bytes_of(path)
+
+
+def tables(folder: str) -> Iterator[tuple[str, str]]:
+    """Proof tables, and the line that each is refused with."""
+    right = contents([PROGRAM, "prove", IMAGE], os.path.join(folder, "table"))
+    yield "/dev/zero", "refused P1"
+    yield "/dev/urandom", "refused P1"
+    yield sparse(os.path.join(folder, "zeros"), b""), "refused P1"
+    yield sparse(os.path.join(folder, "count"), b"XPT1"), "refused P4"
+    yield sparse(os.path.join(folder, "entries"), b"XPT1" + (1_000_000).to_bytes(4, "little")), "refused P5 entry 0"
+    yield sparse(os.path.join(folder, "right"), right), "refused P3"
+
+
+def tell_tables(folder: str) -> Iterator[bool]:
+    sent = os.path.join(folder, "sent")
+    for path, line in tables(folder):
+        yield tell([PROGRAM, "recheck", IMAGE, path], 2, line)
+        yield tell([PROGRAM, "run", IMAGE, FRAMES, sent, "--table", path], 2, line)
+
+
+def texts(folder: str) -> Iterator[tuple[str, str]]:
+    """Program texts, and the line that each is refused with."""
+    yield "/dev/zero", "refused A1 line 1 column 1"
+    yield sparse(os.path.join(folder, "no text"), b""), "refused A1 line 1 column 1"
+    yield sparse(os.path.join(folder, "program"), b"r0 = 2\nexit\n"), "refused A1 line 3 column 1"
+    yield sparse(os.path.join(folder, "comment"), b"# a comment\n\n"), "refused A1 line 3 column 1"
+    yield sparse(os.path.join(folder, "no form"), b"r0 = 2\nr1 2\n"), "refused A2 line 2 column 1"
+    yield sparse(os.path.join(folder, "twice"), b"a: r0 = 2\na: exit\n"), "refused A4 line 2 column 1"
+    yield sparse(os.path.join(folder, "number"), b"r0 = 2\nr1 = 0"), "refused A1 line 2 column 7"
+    yield sparse(os.path.join(folder, "slots"), b"exit\n" * 4097), "refused A9 line 4097 column 1"
+
+
+def tell_texts(folder: str) -> Iterator[bool]:
+    """Whether texts are refused that have no end."""
+    image = os.path.join(folder, "image")
+    for path, line in texts(folder):
+        yield tell([PROGRAM, "asm", path, image], 2, line)
+    ended = run([PROGRAM, "asm", "/dev/urandom", image])
+    is_right = ended.status == 2 and ended.out.startswith("refused A") and ended.kib <= MEMORY and ended.seconds <= SECONDS
+    if not is_right:
+        print(f"asm /dev/urandom: status {ended.status}, {ended.out}{ended.err}, {ended.kib} KiB, {ended.seconds:.2f} s")
+    yield is_right
+
+
+def long_texts() -> Iterator[tuple[bytes, bytes, str, bool]]:
+    """What a text of 100 MB begins with and what it repeats, the line it is refused with, and whether only its end decides that."""
+    yield b"", b"r0 = 1 ; ", "refused A9 line 1 column 36865", False
+    yield b"", b" ", "refused A9 line 1 column 1", True
+    yield b"", b"\n", "refused A9 line 1 column 1", True
+    yield b"", b"# a comment\n", "refused A9 line 1 column 1", True
+    yield b"", b"#", "refused A9 line 1 column 1", True
+    yield b"", b"a", "refused A2 line 1 column 1", True
+    yield b"", b"7", "refused A2 line 1 column 1", True
+    yield b"", b"(", "refused A2 line 1 column 1", True
+    yield b"r0 ", b"(", "refused A2 line 1 column 1", True
+    yield b"a: ", b"(", "refused A2 line 1 column 1", True
+    yield b"map hash ", b"(", "refused A2 line 1 column 1", True
+    yield b"r0 = 2\nexit\n", b"(", "refused A2 line 3 column 1", True
+    yield b"", b"r1 + 2 ", "refused A2 line 1 column 1", True
+
+
+def send(to: int, beginning: bytes, part: bytes) -> None:
+    """Sends a long text, or as much of it as is read."""
+    try:
+        with os.fdopen(to, "wb", buffering=0) as file:
+            file.write(beginning)
+            for _ in range(LONG // len(part)):
+                file.write(part)
+    except BrokenPipeError:
+        pass
+
+
+def tell_long_texts(folder: str) -> Iterator[bool]:
+    """Whether long texts are refused within the limits, from a pipe, a file and standard input."""
+    image = os.path.join(folder, "image")
+    path = os.path.join(folder, "long")
+    for beginning, unit, line, is_whole in long_texts():
+        limits = (LONG // 1024 + MEMORY, WHOLE) if is_whole else (MEMORY, SECONDS)
+        part = unit * (1_000_000 // len(unit))
+        read, write = os.pipe()
+        sender = threading.Thread(target=send, args=(write, beginning, part))
+        sender.start()
+        with os.fdopen(read, "rb") as given:
+            yield tell([PROGRAM, "asm", "/dev/stdin", image], 2, line, *limits, given)
+        sender.join()
+        if len(unit) != 1:
+            with open(path, "wb") as file:
+                file.writelines(part for _ in range(LONG // len(part)))
+            yield tell([PROGRAM, "asm", path, image], 2, line, *limits)
+            with open(path, "rb") as given:
+                yield tell([PROGRAM, "asm", "/dev/stdin", image], 2, line, *limits, given)
+
+
+def tell_comparison(folder: str) -> Iterator[bool]:
+    """Whether a comparison keeps little of an earlier survey whose images are gone."""
+    path = os.path.join(folder, "gone")
+    with open(path, "w", encoding="utf-8") as file:
+        file.write("file,verdict,slot,slots,maps,bound,explored,stored,deepest,stored_bytes,milliseconds\n")
+        file.writelines(
+            f"compiled/payload_{number:07}.image,ok,,49,0,1546,13357,3473,1258,1390896,12.345\n" for number in range(480_000)
+        )
+    size = os.path.getsize(path) // 1024
+    yield tell(
+        [SURVEY, "--format", "csv", "--compare", path, IMAGE], 0, "compiled/payload_0479999.image,verdict,ok,,", 3 * size, LONGEST
+    )
+
+
+def tell_surveys(folder: str) -> Iterator[bool]:
+    """Whether earlier surveys are refused that have no end."""
+    survey = subprocess.run([SURVEY, "--format", "csv", IMAGE], check=True, capture_output=True).stdout
+    paths = [
+        "/dev/zero",
+        "/dev/urandom",
+        sparse(os.path.join(folder, "no survey"), b""),
+        sparse(os.path.join(folder, "survey"), survey),
+        sparse(os.path.join(folder, "row"), survey + b"name,"),
+    ]
+    for path in paths:
+        yield tell([SURVEY, "--compare", path, IMAGE], 4, f"cannot compare with {path}: it is no survey as csv")
+
+
+def main() -> int:
+    with tempfile.TemporaryDirectory() as folder:
+        told = [
+            *tell_tables(folder),
+            *tell_texts(folder),
+            *tell_long_texts(folder),
+            *tell_surveys(folder),
+            *tell_comparison(folder),
+        ]
+    return 0 if all(told) else 1
+
+
+if __name__ == "__main__":
+    sys.exit(main())

@@ -1,0 +1,265 @@
+#!/usr/bin/env python3
+"""Looks for a program that `verify` accepts and should not: makes random programs over all forms of instruction, with
+maps, helpers and functions, and runs those that are accepted on random frames.
+
+usage: python3 attacks/fuzz.py [PROGRAM] [--programs N] [--seed S] [--jobs J] [--keep FOLDER] [--ways] [--seconds N]
+       [--library FILE]
+
+Programs and frame streams are of both versions. It reports each accepted program that `trace` ends
+with a trap or after more steps than the bound, that `run` and `trace` run differently, whose frames
+out have other reasons than the report says, or that names no action though it is of version 2;
+each refusal whose way (the jumps on standard error) is not one of the program; and each command
+that takes more than a minute. The program and its frames are kept in FOLDER. Most programs are
+right by construction except for one or two changes, such as a limit that is off by one, so that
+about half are accepted. The last line counts. The exit status is 1 if anything was reported. With
+--library a shared library (in_process.py says how to make one) does in this process what it can,
+some ten times as fast; a job that dies is reported with the folder of its last input.
+"""
+import argparse
+import json
+import os
+import random
+import re
+import shutil
+import struct
+import subprocess
+import sys
+import tempfile
+import zlib
+from collections import Counter
+from collections.abc import Callable, Iterable, Iterator
+
+import in_process
+import common
+from common import bytes_of, record, write
+from in_process import Ran, Run
+from random_programs import Maker
+
+Tried = Callable[[Run, int, str], tuple[str | None, str]]  # what is wrong with the results for a seed, and the verdict's code
+SECONDS = 60
+REASONS = [0, 0, 0, 0, 1, 7, 2**31, 2**32 - 1]
+
+
+def frames(chance: random.Random, version: int) -> bytes:
+    """Frames of many lengths, whose bytes are extreme, small or any; some have a reason, and are skipped."""
+    out = b"XPF%d" % version
+    for _ in range(6):
+        length = chance.choice(
+            [0, 1, 2, 7, 8, 13, 14, 15, 19, 20, 33, 34, 60, 64, 255, 256, 300, 4096] + [4097, 9215, 9216] * (version - 1)
+        )
+        body = chance.choice((b"\0", b"\xff", b"\0\1\x7f\x80\xff", b""))
+        some = [0, 1, 2, 7, 8, 15, 2**31 - 1, 2**31, 2**32 - 1]
+        interface, queue = (chance.choice([*some, chance.randrange(2**32)]) for _ in range(2))
+        head, reason = (chance.randrange(2**64), interface, queue), chance.choice(REASONS)
+        body = bytes(chance.choices(body, k=length)) if len(body) > 1 else body * length if body else chance.randbytes(length)
+        out += record(version, head, reason, body)
+    return out
+
+
+def reasons_of(stream: bytes) -> Iterator[int]:
+    """The reason of each record of a stream of version 2."""
+    at = 4
+    while at < len(stream):
+        length, reason = struct.unpack_from("<II", stream, at + 16)
+        yield reason
+        at += 24 + length
+
+
+def misreported(image: bytes, rows: list[list[str]], sent: bytes) -> str | None:
+    """What is wrong with the reasons and actions of a report and its frames out: None, or a text."""
+    exits = [row for row in rows if row[0].isdigit() and row[1] not in ("TRAP", "LIMIT", "SKIP")]
+    if image[:4] == b"XBP2" and any(row[1] == "INVALID" for row in exits):
+        return "a program of version 2 answers no action"
+    if sent[:4] == b"XPF1":
+        return None if all(len(row) == 4 for row in exits) else "a stream of version 1 has reasons"
+    for _, action, _, _, reason in exits:
+        if (reason == "0") != (action in ("PASS", "TX")) or image[:4] == b"XBP1" and reason not in ("0", "1"):
+            return f"{action} for the reason {reason}"
+    told = [row[4] for row in rows if row[0].isdigit() and row[1] not in ("TRAP", "LIMIT")]
+    return None if told == [str(reason) for reason in reasons_of(sent)] else "the frames out have other reasons than the report"
+
+
+def leaves(opcode: int, _: int, source: int, offset: int, imm: int) -> bool:
+    """Whether an instruction never goes on at the slot after it. A jump over nothing does."""
+    if opcode == 0x05:
+        return offset != 0
+    return opcode == 0x95 or (opcode == 0x06 or opcode == 0x85 and source == 1) and imm != 0
+
+
+def goes(code: list[list[int]], way: list[tuple[int, int]], slot: int) -> bool:
+    """Whether the jumps of a refusal lead through the program to the slot: each is one of the program's, and between
+    them the way goes from slot to slot."""
+    at, whole = 0, len(way) < 8
+    returns = [i + 1 for i, row in enumerate(code) if row[0] == 0x85 and row[2] == 1]
+    for begin, to in [*way, (slot, None)]:
+        if whole:
+            if begin < at or any(leaves(*code[i]) for i in range(at, begin)):
+                return False
+        if to is None:
+            return True
+        opcode, _, source, offset, imm = code[begin]
+        if opcode == 0x95:
+            right = to in returns
+        elif opcode in (0x85, 0x06):
+            right = to == begin + 1 + imm and (opcode == 0x06 or source == 1)
+        else:
+            right = opcode & 7 in (5, 6) and to == begin + 1 + offset
+        if not right:
+            return False
+        at, whole = to, True
+    return True
+
+
+def misled(code: list[list[int]], verdict: Ran, ways: bool) -> str | None:
+    """What is wrong with a refusal's way: None, or a text."""
+    if verdict.stdout[:9] != b"refused V" or verdict.stdout[9:11] == b"0 ":
+        return None
+    known = verdict.stderr.decode()
+    way = re.search("^way: (.*)$", known, re.M)
+    if not way and not ways:
+        return None
+    ends = [jump.split(" -> ") for jump in way[1].split(", ")] if way else []
+    jumps = [(int(begin), int(to)) for begin, to in ends]
+    return None if goes(code, jumps, int(verdict.stdout.split()[3])) else f"no way to the refusal: {known}"
+
+
+def differs(paths: list[str], bound: int, run: Run) -> str | None:
+    """What is wrong with the runs of an accepted program: None, or a text. In this process a program with maps is
+    traced on starting maps; one in eight runs in processes of its own too, where maps go from frame to frame. A
+    program whose trace is wrong is not run: that might not end, or end this process."""
+    image = bytes_of(paths[0])
+    if isinstance(run, in_process.Runner) and image[4:6] != b"\0\0":
+        wrong = in_process.differs_alone(run.library, image, bytes_of(paths[1]), bound)
+        if wrong or zlib.crc32(image) % 8:
+            return wrong
+    traced = run("trace", paths[0], paths[1], paths[2])
+    rows = [line.split() for line in traced.stdout.decode().splitlines()]
+    for row in rows:
+        if row[0].isdigit() and (row[1] in ("TRAP", "LIMIT") or int(row[3]) > bound):
+            return f"accepted with bound {bound}: {' '.join(row)}"
+    ran = run("run", paths[0], paths[1], paths[3])
+    sent = [bytes_of(path) for path in paths[2:]]
+    if (traced.returncode, traced.stdout, sent[0]) != (ran.returncode, ran.stdout, sent[1]) or traced.returncode != 0:
+        return f"run and trace differ: {ran.stdout!r} {traced.stdout!r}"
+    return misreported(image, rows, sent[0])
+
+
+def built(path: str) -> str:
+    """The program at a path, for a command line."""
+    if not os.access(path, os.X_OK):
+        raise argparse.ArgumentTypeError(f"there is no program {path}: give one, or build it as README.md says")
+    return os.path.abspath(path)
+
+
+def absolute(path: str) -> str:
+    return os.path.abspath(path)
+
+
+def wait(seconds: int) -> None:
+    """How long a command may take from now on."""
+    global SECONDS  # pylint: disable=global-statement
+    SECONDS = seconds
+
+
+def runner(program: str, library: str | None = None) -> Run:
+    """Runs the program with these words, for a minute at most; with a library, what it can in this process."""
+
+    def process(*words: str) -> Ran:
+        return subprocess.run([program, *words], timeout=SECONDS, stdin=subprocess.DEVNULL, capture_output=True, check=False)
+
+    if library:
+        return in_process.Runner(library, process)
+    return process
+
+
+def tried(run: Run, seed: int, folder: str, ways: bool) -> tuple[str | None, str]:
+    """What is wrong with the results for one seed (None: nothing), and the verdict's code."""
+    maker = Maker(seed)
+    paths = [os.path.join(folder, name) for name in ("image", "frames", "sent", "resent")]
+    image = maker.program()
+    versions = [maker.random.choice([1, 2]) for _ in range(2)]
+    write(paths[0], b"XBP%d" % versions[0] + image[4:])
+    verdict = run("verify", paths[0])
+    said = verdict.stdout.decode().split()
+    if (verdict.returncode, said[:1]) == (2, ["refused"]):
+        return misled(maker.code, verdict, ways), said[1]
+    if (verdict.returncode, said[:2]) != (0, ["ok", "bound"]):
+        return f"verify: {verdict}", "no verdict"
+    write(paths[1], frames(maker.random, versions[1]))
+    return differs(paths, int(said[2]), run), "accepted"
+
+
+def worker(asked: argparse.Namespace, name: str, seeds: Iterable[int], one: Tried, folder: str) -> tuple[Counter[str], int]:
+    """The verdicts on these seeds, and how many were found; `one` answers for a seed in a folder."""
+    counts: Counter[str] = Counter()
+    found, run = 0, runner(asked.program, asked.library)
+    for seed in seeds:
+        try:
+            wrong, code = one(run, seed, folder)
+        except subprocess.TimeoutExpired as late:
+            wrong, code = f"no answer in {late.timeout} seconds: {late.cmd[1]}", "no answer"
+        counts[code] += 1
+        if wrong:
+            found += 1
+            os.makedirs(asked.keep, exist_ok=True)
+            for kept in os.listdir(folder):
+                if "sent" not in kept:
+                    shutil.copy(os.path.join(folder, kept), os.path.join(asked.keep, f"{name}-{seed}.{kept}"))
+            print(f"{name} {seed}: {wrong}", flush=True)
+    return counts, found
+
+
+def spread(asked: argparse.Namespace, name: str, one: Tried) -> tuple[Counter[str], int]:
+    """The verdicts on all seeds that are asked for, and how many were found, in processes of their own."""
+    children = []
+    for job in range(asked.jobs):
+        (back, out), folder = os.pipe(), tempfile.mkdtemp()
+        if os.fork() == 0:
+            os.close(back)
+            told = worker(asked, name, range(asked.seed + job, asked.seed + asked.programs, asked.jobs), one, folder)
+            with os.fdopen(out, "w") as file:
+                json.dump(told, file)
+            os._exit(0)  # pylint: disable=protected-access
+        os.close(out)
+        children.append((back, folder))
+    counts: Counter[str] = Counter()
+    found = 0
+    for back, folder in children:
+        with os.fdopen(back) as file:
+            said = file.read()
+        if not said:
+            found += 1
+            print(f"{name}: a job died, its last input is in {folder}", flush=True)
+            continue
+        part, some = json.loads(said)
+        counts.update(part)
+        found += some
+        shutil.rmtree(folder)
+    return counts, found
+
+
+def words_of(parser: argparse.ArgumentParser) -> None:
+    """The arguments that fuzz.py and attacks.py share."""
+    parser.add_argument("program", nargs="?", type=built, default=common.built())
+    parser.add_argument("--seed", type=int, default=1)
+    parser.add_argument("--jobs", type=int, default=os.cpu_count())
+    parser.add_argument("--keep", default="found", help="folder for what is found")
+    parser.add_argument("--seconds", type=int, default=SECONDS, help="what a command may take; more on a busy machine")
+    parser.add_argument("--library", type=absolute, help="a shared library that answers in this process")
+
+
+def main() -> None:
+    words = argparse.ArgumentParser(description=__doc__.partition("\n")[0])
+    words_of(words)
+    words.add_argument("--programs", type=int, default=20_000)
+    words.add_argument("--ways", action="store_true", help="each refusal must say its way")
+    asked = words.parse_args()
+    wait(asked.seconds)
+    counts, found = spread(asked, "seed", lambda run, seed, folder: tried(run, seed, folder, asked.ways))
+    print(", ".join(f"{code} {count}" for code, count in counts.most_common()))
+    print(f"{asked.programs} programs, {counts['accepted']} accepted, {found} findings")
+    sys.exit(1 if found else 0)
+
+
+if __name__ == "__main__":
+    main()

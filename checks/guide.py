@@ -1,0 +1,370 @@
+#!/usr/bin/env python3
+"""Runs every example of README.md and docs/*.md, and prints each whose result is not what the page
+says.
+
+usage: python3 checks/guide.py [PROGRAM [SURVEY [FILTER]]]
+
+PROGRAM is the program that `rt run` leaves in crates/xdpvm (the default: crates/xdpvm/out/xdpvm), SURVEY the one that it
+leaves in crates/xdpvm_survey (crates/xdpvm_survey/out/xdpvm_survey), FILTER that in crates/xdpvm_filter. Without one of
+these two the blocks that call it are not tried.
+
+The first word after the backquotes of a code block says how the block is tried:
+
+    console     commands after `$`, each followed by its standard output
+    tcpdump     the same, where tcpdump 4.99 with libpcap 1.10 is installed
+    NAME.text   a program text; it is written to that file, for the commands that follow it on the page
+    NAME.maps   the same of a text of maps, NAME.cases of cases for tests/programs.py
+    program     a program text; `asm` assembles it, and `verify` answers what the comment says
+    trace       a program text; the first frame of examples/two.frames, traced, has the lines that the comment says
+    image       an image in hexadecimal; `verify` answers what the comment says
+    stream      a frame stream in hexadecimal; the report of examples/pass.image ends in what the comment says
+    table       a proof table of examples/pass.image in hexadecimal; `recheck` answers what the comment says
+    entries     the same as a text for tools/table.py
+
+The last six begin with a comment: the line of standard output, and after it what standard error gets. A refusal of
+`asm` counts as the answer. In hexadecimal `#` begins a comment. A block that begins with a crate's name is tried by
+tour.py; blocks with any other word, or with none, are not tried. Each examples/NAME.text has to make NAME.image, each
+NAME.bpf.c too where clang 14 is installed, each NAME.table is what `prove` writes for NAME.image, and each NAME.report
+is what `run` prints for NAME.image and NAME.frames, into a pipe and into a file. The last rows read crates.txt, the
+crates and the pages: what `run` and `recheck` depend on, that each crate has its row, and that each link leads somewhere.
+Each NAME.frames is what frames.py makes from NAME.pcapng, if there is one; frame streams of XPF1 and XPF2 become texts
+and captures, and those the same streams again. Each filter of examples/filters is answered as it says (filters.py). The
+exit status is 0 if every result is the one wanted, else 1.
+"""
+import argparse
+import glob
+import os
+import re
+import subprocess
+import sys
+import tempfile
+from collections.abc import Iterable, Iterator
+
+import common
+from common import TOP, text_of, write
+import filters
+
+PROGRAM, SURVEY, FILTER = common.program(), common.program("xdpvm_survey", 2), common.program("xdpvm_filter", 3)
+Example = tuple[str, str, str]  # what is tried, what is wanted, and the result
+BLOCK = re.compile(r"^```(\S+)\n(.*?)^```$", re.M | re.S)
+COMMENT = re.compile(r"(?:# .*\n)*")
+COMMAND = re.compile(r"^\$ (.*)\n((?:(?!\$ ).*\n)*)", re.M)
+
+
+def run(*words: str) -> tuple[int, str, str]:
+    """The status, the standard output and the standard error of the program."""
+    ran = subprocess.run([PROGRAM, *words], stdout=subprocess.PIPE, stderr=subprocess.PIPE, text=True, timeout=600, check=False)
+    return ran.returncode, ran.stdout, ran.stderr
+
+
+def shell(command: str) -> str:
+    """The standard output of a command line."""
+    ran = subprocess.run(
+        ["bash", "-c", command], stdout=subprocess.PIPE, stderr=subprocess.DEVNULL, text=True, timeout=600, check=False
+    )
+    return ran.stdout
+
+
+def hex_of(path: str) -> str:
+    """A line with the bytes of a file, or with none where it is not there."""
+    return (common.bytes_of(path).hex() if os.path.exists(path) else "") + "\n"
+
+
+def line(text: str, place: int) -> str:
+    """One line of a text, if it has any."""
+    return "".join(text.splitlines(keepends=True)[place:][:1])
+
+
+def write_hex(name: str, text: str) -> None:
+    write(name, bytes.fromhex(re.sub(r"#.*", "", text)))
+
+
+def assembled(text: str) -> str | None:
+    """The refusal of `asm`, or None if it made example.image."""
+    write("example.text", text)
+    status, answer, why = run("asm", "example.text", "example.image")
+    return answer + why if status else None
+
+
+def verified() -> str:
+    """The verdict on example.image."""
+    return "".join(run("verify", "example.image")[1:])
+
+
+def rechecked(kind: str, body: str) -> str:
+    """The answer to a proof table of examples/pass.image."""
+    if kind == "table":
+        write_hex("example.table", body)
+    else:
+        write("example.text", body)
+        shell("python3 tools/table.py make example.text example.table")
+    return "".join(run("recheck", "examples/pass.image", "example.table")[1:])
+
+
+def traced() -> str:
+    """The line of the first frame, and what standard error says of it."""
+    _, report, why = run("trace", "example.image", "examples/two.frames", "sent")
+    return line(report, 0) + why.split("frame 1,")[0]
+
+
+def has_tcpdump() -> bool:
+    """Whether the tcpdump of the pages is installed: others compile some expressions otherwise."""
+    return re.search(r"tcpdump version 4\.99\..*libpcap version 1\.10\.", shell("tcpdump --version 2>&1"), re.S) is not None
+
+
+def answer_of(kind: str, body: str) -> str:
+    """The result for a block whose first comment says what is wanted."""
+    if kind == "program":
+        return assembled(body) or verified()
+    if kind == "trace":
+        return assembled(body) or traced()
+    if kind == "image":
+        write_hex("example.image", body)
+        return verified()
+    if kind in ("table", "entries"):
+        return rechecked(kind, body)
+    write_hex("example.frames", body)
+    _, answer, why = run("run", "examples/pass.image", "example.frames", "sent")
+    return line(answer, -1) + why
+
+
+def has_programs(body: str) -> bool:
+    """Whether the programs that a block calls are there."""
+    fills = re.search(r"xdpvm_filter|xdp\.py .*(--maps|quota)", body)
+    return ("survey" not in body or os.path.exists(SURVEY)) and (not fills or os.path.exists(FILTER))
+
+
+def tries(kind: str, body: str) -> Iterator[Example]:
+    """The examples of a block: what is tried, what is wanted, and the result."""
+    if kind.endswith((".text", ".maps", ".cases")):
+        write(kind, body)
+    elif kind == "console" and has_programs(body) or kind == "tcpdump" and has_tcpdump():
+        for command, wanted in COMMAND.findall(body):
+            yield command, wanted, shell(command)
+    elif kind in ("program", "trace", "image", "stream", "table", "entries"):
+        yield body, re.sub("^# ", "", common.there(COMMENT.match(body))[0], flags=re.M), answer_of(kind, body)
+
+
+def stored() -> Iterator[Example]:
+    """Each stored image is made by the text beside it."""
+    for text in sorted(glob.glob("examples/*.text")):
+        run("asm", text, "example.image")
+        yield text, hex_of(text.removesuffix(".text") + ".image"), hex_of("example.image")
+
+
+def proved() -> Iterator[Example]:
+    """Each stored proof table is the one that `prove` writes for the image beside it, and `recheck` accepts it."""
+    for table in sorted(glob.glob("examples/*.table")):
+        image = table.removesuffix(".table") + ".image"
+        run("prove", image, "example.table")
+        yield table, hex_of(table), hex_of("example.table")
+        yield f"{table} by recheck", run("verify", image)[1], run("recheck", image, table)[1]
+
+
+def compiled() -> Iterator[Example]:
+    """Each stored image of a source in C is what the clang that made it makes from it, if that is
+    installed."""
+    if "clang version 14." in shell("clang --version") and os.path.exists("/usr/include/linux/bpf.h"):
+        for source in sorted(glob.glob("examples/*.bpf.c")):
+            shell(f"bash tools/compile.sh {source} example.image")
+            for ending in (".image", ".image.maps"):
+                kept = source.removesuffix(".bpf.c") + ending
+                yield source, hex_of(kept), hex_of(f"example{ending}")
+
+
+def captured() -> Iterator[Example]:
+    """Each stored frame stream is made from the capture beside it."""
+    for capture in sorted(glob.glob("examples/*.pcapng")):
+        kept = hex_of(capture.removesuffix(".pcapng") + ".frames")
+        flags = "--reasons" if kept[:8] == b"XPF2".hex() else ""
+        yield capture, kept, converted(flags, capture, "example.frames")
+
+
+FRAMES = """\
+frame 1000 interface 1 queue 0 reason 7
+  0000: ca fe                                           |..|
+frame 18446744073709551615 interface 2 queue 0
+frame 2000 interface 0 queue 0 reason 4294967295
+  0000: 61                                              |a|
+"""
+RECORDS = (
+    "58504632"  # XPF2
+    "e803000000000000"
+    "01000000"
+    "00000000"
+    "02000000"
+    "07000000"
+    "cafe"  # time, interface, queue, length, reason
+    "ffffffffffffffff"
+    "02000000"
+    "00000000"
+    "00000000"
+    "00000000"
+    "d007000000000000"
+    "00000000"
+    "00000000"
+    "01000000"
+    "ffffffff"
+    "61"
+)
+
+CAPTURE = (
+    "0a0d0d0a 1c000000 4d3c2b1a 01000000 ffffffff ffffffff 1c000000"  # a pcapng: its section,
+    "01000000 14000000 01000000 00000000 14000000"  # Ethernet, times in microseconds,
+    "06000000 34000000 00000000 00000000 01000000 02000000 02000000 cafe0000"  # a packet of two bytes,
+    "01000800 726561736f6e2037 00000000 34000000"  # and its comment `reason 7`
+)
+CAPTURED = "58504632e8030000000000000000000000000000" + "0200000007000000cafe"
+
+
+def converted(flags: str, given: str, *names: str) -> str:
+    """The bytes of the last file, each of them made by frames.py of the one before."""
+    for name in names:
+        shell(f"python3 tools/frames.py {flags} {given} {name}")
+        given = name
+    return hex_of(given)
+
+
+def returned() -> Iterator[Example]:
+    """Frame streams go through texts and captures unchanged, with their reasons; of a frame that is
+    too long its reason is left."""
+    write("example.text", FRAMES)
+    yield "a text with reasons", RECORDS + "\n", converted("--reasons", "example.text", "example.frames")
+    yield "a capture with reasons", RECORDS + "\n", converted("--reasons", "example.frames", "example.pcapng", "again.frames")
+    yield "a stream with reasons as a text", FRAMES, shell("python3 tools/frames.py --show again.frames")
+    write_hex("other.pcapng", CAPTURE)
+    yield "a capture of another tool", CAPTURED + "\n", converted("--reasons", "other.pcapng", "example.frames")
+    for flags, most in ("", 4096), ("--reasons", 9216):
+        write("example.text", "".join(f"frame {size}\n{bytes(size).hex()}\n" for size in (most, most + 1)))
+        converted(flags, "example.text", "example.frames")
+        shown = shell("python3 tools/frames.py --show example.frames | grep frame")
+        kept = f"frame {most + 1} interface 0 queue 0 reason 4294967295\n" if flags else ""
+        yield f"frames of {most} bytes {flags}", f"frame {most} interface 0 queue 0\n{kept}", shown
+    for stream in sorted(set(glob.glob("examples/*.frames")) - {"examples/cut.frames"}):
+        kept = hex_of(stream)
+        write("example.text", shell(f"python3 tools/frames.py --show {stream}"))
+        flags = "--reasons" if kept[:8] == b"XPF2".hex() else ""
+        yield f"{stream} as a text", kept, converted(flags, "example.text", "example.frames")
+
+
+def reported() -> Iterator[Example]:
+    """Each stored report is what `run` prints for the program and the frames beside it, into a pipe and into a file."""
+    for report in sorted(glob.glob("examples/*.report")):
+        name = report.removesuffix(".report")
+        kept = text_of(report)
+        yield report, kept, run("run", name + ".image", name + ".frames", "sent")[1]
+        shell(f"xdpvm run {name}.image {name}.frames sent > report")
+        yield f"{report} into a file", kept, text_of("report")
+
+
+def below(name: str) -> set[str]:
+    """The crates that this one depends on."""
+    stands_on, left = common.crates(), [name]
+    found: set[str] = set()
+    while left:
+        new = [it for it in stands_on.get(left.pop(), []) if it not in found]
+        found.update(new)
+        left += new
+    return found
+
+
+def depends() -> Iterator[Example]:
+    """`run` executes on words, with no test of an access: its machine depends on flatmem, and not on the checked one.
+    `recheck` depends on the step and the test of covering, and on nothing of the search for a bound."""
+    found = below("machine")
+    told = f"flatmem: {'flatmem' in found}, checked_vm: {'checked_vm' in found}\n"
+    yield "crates below machine", "flatmem: True, checked_vm: False\n", told
+    search = {"explorer", "walks", "state_index", "explanations", "proof_table"}
+    wanted = {"transfer", "state_cover"}
+    found = below("rechecking") & (search | wanted)
+    yield "crates below rechecking", f"{sorted(wanted)}\n", f"{sorted(found)}\n"
+
+
+def crates_on_pages() -> Iterator[Example]:
+    """Each crate of crates.txt has a row in ARCHITECTURE.md, and no other one has."""
+    crates = set(common.crates())
+    table = text_of(os.path.join(TOP, "docs/ARCHITECTURE.md")).split("\n## Crates\n")[1].split("\n## ")[0]
+    named = {name for row in re.findall(r"^\| (\[?`[^|]*) \|", table, re.M) for name in re.findall(r"`(\w+)`", row)}
+    yield "crates that differ in docs/ARCHITECTURE.md", "[]\n", f"{sorted(crates ^ named)}\n"
+
+
+def anchors(page: str) -> tuple[str, set[str]]:
+    """The anchors of a page's headings."""
+    text = re.sub(r"^```.*?^```$", "", text_of(page), flags=re.M | re.S)
+    heads = [re.sub(r"[^\w\- ]", "", head.strip().lower()) for head in re.findall(r"^#+ (.*)$", text, re.M)]
+    return text, {head.replace(" ", "-") for head in heads}
+
+
+def links(pages: list[str]) -> Iterator[Example]:
+    """Each link of a page leads to a file that is there, and to a heading."""
+    for page in pages:
+        wrong = []
+        for link in re.findall(r"\]\(([^)\s]+)\)", anchors(page)[0]):
+            file, _, anchor = link.partition("#")
+            there = os.path.join(os.path.dirname(page), file) if file else page
+            if ":" not in link and (not os.path.exists(there) or anchor and anchor not in anchors(there)[1]):
+                wrong.append(link)
+        yield f"links of {os.path.relpath(page, TOP)}", "[]\n", f"{wrong}\n"
+
+
+def filters_answer() -> Iterator[Example]:
+    """Each filter of examples/filters has the result that its first line says, those in C where
+    clang is installed, and each that the page on C names is there."""
+    has_headers = os.path.exists("/usr/include/linux/bpf.h")
+    asked = argparse.Namespace(program=PROGRAM, clang="clang" if has_headers else "no compiler", only=None)
+    for path in filters.paths(asked):
+        yield os.path.relpath(path, TOP), "", filters.wrong(path, asked) or ""
+    named = set(re.findall(r"`(\w+\.c)`", text_of(os.path.join(TOP, "docs/COMPILED.md"))))
+    yield "filters that COMPILED.md names", "[]\n", f"{sorted(named - set(os.listdir(filters.FOLDER)))}\n"
+
+
+def main() -> None:
+    if not os.access(PROGRAM, os.X_OK):
+        sys.exit(f"there is no program {PROGRAM}: give one, or build it as README.md says")
+    pages = [os.path.join(TOP, "README.md"), *sorted(glob.glob(os.path.join(TOP, "docs/*.md")))]
+    runs = failures = 0
+
+    def count(where: str, examples: Iterable[Example]) -> None:
+        nonlocal runs, failures
+        for what, wanted, answer in examples:
+            runs += 1
+            if answer != wanted:
+                failures += 1
+                print(f"{where}: {what}\nwanted:\n{wanted}answered:\n{answer}")
+
+    with tempfile.TemporaryDirectory() as folder:
+        os.chdir(folder)
+        os.symlink(os.path.join(TOP, "examples"), "examples")
+        os.mkdir("bin")
+        os.symlink(os.path.join(TOP, "tools"), "tools")
+        os.symlink(os.path.join(TOP, "tests"), "tests")
+        os.symlink(PROGRAM, "bin/xdpvm")
+        os.symlink(SURVEY, "bin/xdpvm_survey")
+        os.symlink(FILTER, "bin/xdpvm_filter")
+        os.environ["XDPVM"] = PROGRAM
+        os.environ["XDPVM_FILTER"] = FILTER
+        os.environ["PATH"] = os.path.join(folder, "bin") + os.pathsep + os.environ["PATH"]
+        for page in pages:
+            for kind, body in BLOCK.findall(text_of(page)):
+                count(os.path.relpath(page, TOP), tries(kind, body))
+        count("examples", stored())
+        count("examples", proved())
+        count("examples", compiled())
+        count("examples", captured())
+        count("frames.py", returned())
+        count("examples", reported())
+        count("filters", filters_answer())
+        count("crates.txt", depends())
+        count("crates.txt", crates_on_pages())
+        readmes = sorted(glob.glob(os.path.join(TOP, "crates/*/README.md")))
+        others = [os.path.join(TOP, it) for it in ("examples/README.md", "assurance/LOG.md", "bench/LOG.md")]
+        count("pages", links(pages + readmes + others))
+        os.chdir("/")
+    for program in (SURVEY, FILTER):
+        if not os.path.exists(program):
+            print(f"there is no program {program}: what calls it was not tried")
+    print(f"{runs} examples, {failures} differ")
+    sys.exit(1 if failures else 0)
+
+
+main()

@@ -1,0 +1,126 @@
+#!/usr/bin/env python3
+"""Counts what makes proofs hard to keep, and compares it with what is allowed: it may only become less.
+
+usage: python3 checks/hygiene.py [--each KIND]
+
+unnamed    lemmas of proofs/ whose names are nowhere else in crates/, so that nothing uses them
+twice      statements that stand word for word in two files of proofs/, besides those of hand proofs
+answers    functions with more than 150 lines of answers
+arguments  statements of proofs/ with more than 20 arguments and premises
+blanks     runs of five `_` or more in proofs/
+
+--each KIND prints each of a kind with its place. The exit status is 1 if there are more of a kind than LIMITS says. In the gate.
+"""
+import argparse
+import collections
+import re
+import sys
+from collections.abc import Iterator
+from pathlib import Path
+from typing import NamedTuple
+
+from common import TOP
+
+LIMITS = {"unnamed": 39, "twice": 40, "answers": 9, "arguments": 9, "blanks": 156}
+MOST_LINES, MOST_ARGUMENTS = 150, 20
+CRATES = Path(TOP, "crates")
+WORD = re.compile(r"[^\s(){},;:\"\[\].|]+")
+HEAD = re.compile(r"(?:pub )?([^\W\d][^\s:(){}.]*) :(?: |$)")
+BINDER = re.compile(r"[({]([^():{}]+) :")
+BLANKS = re.compile(r"(?:(?<![^\s(])_\s+){4,}_(?![^\s)])")
+SKIPPED = ("--", "//", "use ", "pub use ", "mod ", "pub mod ", "ghost use ")
+
+
+class Lemma(NamedTuple):
+    """A statement with its proof: where it is, its name, its type, and its lines."""
+
+    place: str
+    name: str
+    type: str
+    lines: list[str]
+
+
+def files(*endings: str) -> Iterator[Path]:
+    """The files of the crates by these endings, which no build made."""
+    for path in sorted(CRATES.rglob("*")):
+        if path.suffix in endings and "out" not in path.relative_to(CRATES).parts:
+            yield path
+
+
+def lemmas(path: Path) -> Iterator[Lemma]:
+    """The statements of a file of proofs, which begin at its margin."""
+    lines = path.read_text(encoding="utf-8").split("\n")
+    for at, line in enumerate(lines):
+        found = HEAD.match(line)
+        if found:
+            own = rf"(?: |unfolding|{re.escape(found[1])}(?: |$))"
+            end = next((it for it in range(at + 1, len(lines)) if not re.match(own, lines[it])), len(lines))
+            begin = next((it for it in range(at + 1, end) if not lines[it].startswith("   ")), end)
+            stated = " ".join(" ".join(lines[at:begin]).split()).partition(" : ")[2]
+            yield Lemma(f"{path.relative_to(CRATES)}:{at + 1}", found[1], stated, lines[at:end])
+
+
+def arguments(stated: str) -> int:
+    """How many arguments and premises a statement has."""
+    parts, depth, begin = [], 0, 0
+    for at, sign in enumerate(stated):
+        depth += (sign in "({") - (sign in ")}")
+        if sign == "→" and depth == 0:
+            parts.append(stated[begin:at].strip())
+            begin = at + 1
+    return sum(sum(len(names.split()) for names in BINDER.findall(it)) if BINDER.match(it) else 1 for it in parts)
+
+
+def unnamed(every: list[Lemma]) -> list[str]:
+    """Lemmas that nothing names, themselves aside."""
+    seen: collections.Counter[str] = collections.Counter()
+    for path in files(".antt", ".rt", ".edit"):
+        for line in path.read_text(encoding="utf-8").split("\n"):
+            if not line.lstrip().startswith(("--", "//")):
+                seen.update(WORD.findall(line))
+    own: collections.Counter[str] = collections.Counter()
+    for it in every:
+        own[it.name] += sum(WORD.findall(line).count(it.name) for line in it.lines if not line.lstrip().startswith("--"))
+    return [f"{it.place}: {it.name}" for it in every if seen[it.name] <= own[it.name]]
+
+
+def counted() -> dict[str, list[str]]:
+    """What there is of each kind, each with its place."""
+    every, texts, answers = [], collections.defaultdict(list), []
+    blanks = []
+    for path in files(".antt"):
+        place = path.relative_to(CRATES)
+        if "proofs" not in place.parts:
+            continue
+        if path.name == "Answers.antt":
+            count = len(path.read_text(encoding="utf-8").splitlines())
+            answers += [f"{place}: {count} lines"] if count > MOST_LINES else []
+        elif path.name not in ("Invariants.antt", "Lib.antt", "Proof.antt"):
+            found = list(lemmas(path))
+            every += found
+            for it in found:
+                texts[it.type].append(it)
+        for at, line in enumerate(path.read_text(encoding="utf-8").split("\n"), 1):
+            blanks += [f"{place}:{at}"] * len(BLANKS.findall(line))
+    twice = [
+        f"{it.place}: {it.name}" for same in texts.values() for it in same[1:] if len({x.place.split(":")[0] for x in same}) > 1
+    ]
+    many = [f"{it.place}: {it.name}: {arguments(it.type)}" for it in every if arguments(it.type) > MOST_ARGUMENTS]
+    return {"unnamed": unnamed(every), "twice": twice, "answers": answers, "arguments": many, "blanks": blanks}
+
+
+def main() -> int:
+    parser = argparse.ArgumentParser(description=__doc__, formatter_class=argparse.RawDescriptionHelpFormatter)
+    parser.add_argument("--each", choices=LIMITS, metavar="KIND")
+    given, found = parser.parse_args(), counted()
+    for line in found[given.each] if given.each else []:
+        print(line)
+    wrong = [kind for kind, most in LIMITS.items() if len(found[kind]) > most]
+    for kind in wrong:
+        print(f"{kind}: {len(found[kind])}, and {LIMITS[kind]} are allowed (python3 checks/hygiene.py --each {kind})")
+    print(", ".join(f"{kind} {len(found[kind])} of {most}" for kind, most in LIMITS.items()))
+    return 1 if wrong else 0
+
+
+if __name__ == "__main__":
+    sys.exit(main())

@@ -1,0 +1,130 @@
+#!/usr/bin/env python3
+"""Whether each script has a run: in the gate, or by hand with a row in docs/ASSURANCE.md that says when. And what black, mypy,
+pylint and shellcheck find in all of them, where these are installed: pyproject.toml and .shellcheckrc have their settings.
+
+usage: python3 checks/scripts.py [--anew]
+
+A script is a file of attacks/, bench/, checks/, examples/, tests/ or tools/ that is called by itself. It has a run in the gate if
+.ci/run, .ci/prove or the list of checks (checks/listed.py) calls it, or a script that they call does. The exit status is 1 if one
+has neither, if a row names none, or if one of the four finds something. Where they found nothing they are not asked again until a
+script, a setting or a version changes (noted in ~/.cache/xdpvm_scripts; --anew asks all the same). In the gate.
+"""
+import argparse
+import hashlib
+import os
+import re
+import shutil
+import subprocess
+import sys
+
+from common import TOP, bytes_of, said_by, write
+
+KEPT = os.path.join(os.environ.get("XDG_CACHE_HOME") or os.path.expanduser("~/.cache"), "xdpvm_scripts")
+SETTINGS = ("pyproject.toml", ".shellcheckrc")
+JOBS = str(len(os.sched_getaffinity(0)))
+# How each is called, and the ending of its files; those of .ci are for the shell.
+LINTERS = (
+    (["black", "--quiet", "--check"], ".py"),
+    (["mypy", "--no-error-summary"], ".py"),
+    (["pylint", "--rcfile=pyproject.toml", "--score=n", "--jobs", JOBS], ".py"),
+    (["shellcheck"], ".sh"),
+)
+FOLDERS = ("attacks", "bench", "checks", "examples", "tests", "tools")
+ROW = re.compile(r"^\| ((?:`[\w/]+\.\w+`(?:, )?)+) \| \d{1,2} [A-Z][a-z]+ 20\d\d \|", re.M)
+
+
+def text_of(path: str) -> str:
+    return bytes_of(os.path.join(TOP, path)).decode()
+
+
+def tracked(*names: str) -> list[str]:
+    """The files of the tree that are below one of these names, or match it."""
+    words = ["git", "ls-files", "-co", "--exclude-standard", "--", *names]
+    listed = subprocess.run(words, cwd=TOP, capture_output=True, text=True, check=True)
+    return [path for path in listed.stdout.split() if os.path.exists(os.path.join(TOP, path))]
+
+
+def code_of(text: str) -> str:
+    """A script without its comments and its first words, which may name others."""
+    text = re.sub(r'\A(#!.*\n)?"""[\s\S]*?"""', "", text)
+    return "\n".join(line for line in text.splitlines() if not line.lstrip().startswith("#"))
+
+
+def scripts() -> list[str]:
+    """The files of the folders that are called by themselves."""
+    found = []
+    for path in tracked(*FOLDERS):
+        if path.endswith((".py", ".sh")):
+            text = text_of(path)
+            if text.startswith("#!") and (
+                path.endswith(".sh") or "__main__" in text or re.search(r"^(main\(|sys\.exit\(main)", text, re.M)
+            ):
+                found.append(path)
+    return found
+
+
+def in_gate(every: list[str]) -> set[str]:
+    """The scripts that the gate calls, directly or by one that it calls."""
+    found: set[str] = set()
+    waiting = [".ci/run", ".ci/prove", "checks/listed.py", "checks/__main__.py"]
+    while waiting:
+        text = code_of(text_of(waiting.pop()))
+        for path in every:
+            name = os.path.basename(path)
+            called = rf"(?<![\w.]){re.escape(name)}(?![\w.])|^import {re.escape(name[:-3])}$"
+            if path not in found and re.search(called, text, re.M):
+                found.add(path)
+                waiting.append(path)
+    return found
+
+
+def linted(is_anew: bool) -> tuple[list[str], str]:
+    """What the linters find, and a sentence on what was asked."""
+    there = [words for words, _ in LINTERS if shutil.which(words[0])]
+    lacking = [words[0] for words, _ in LINTERS if words not in there]
+    files = {".py": tracked("*.py"), ".sh": tracked("*.sh", ".ci/*")}
+    sums = hashlib.sha256("".join(said_by([words[0], "--version"])[1] for words in there).encode())
+    for path in sorted([*files[".py"], *files[".sh"], *SETTINGS]):
+        sums.update(f"{path}\n".encode() + hashlib.sha256(bytes_of(os.path.join(TOP, path))).digest())
+    told = f"{', '.join(words[0] for words in there) or 'nothing'} asked of {len(files['.py'])} and {len(files['.sh'])} files"
+    told += f"; not installed: {', '.join(lacking)}" if lacking else ""
+    kept = os.path.join(KEPT, sums.hexdigest())
+    if os.path.exists(kept) and not is_anew:
+        return [], f"{told} by an earlier run"
+    found = []
+    for words, ending in LINTERS:
+        status, said = said_by([*words, *files[ending]], TOP) if words in there else (0, "")
+        found += [f"{words[0]} ended with status {status}:\n{said.rstrip()}"] if status else []
+    if not found:
+        os.makedirs(KEPT, exist_ok=True)
+        write(kept, "")
+    return found, told
+
+
+def main() -> int:
+    parser = argparse.ArgumentParser(description=__doc__, formatter_class=argparse.RawDescriptionHelpFormatter)
+    parser.add_argument("--anew", action="store_true")
+    given = parser.parse_args()
+    every = scripts()
+    tried = in_gate(every)
+    told = [path for row in ROW.findall(text_of("docs/ASSURANCE.md")) for path in re.findall("`(.*?)`", row)]
+    wrong = [
+        f"{path}: no run in the gate, and no row in docs/ASSURANCE.md" for path in every if path not in tried and path not in told
+    ]
+    wrong += [f"docs/ASSURANCE.md: there is no script {path}" for path in told if path not in every]
+    found, asked = linted(given.anew)
+    wrong += found
+    print(
+        "\n".join(
+            wrong
+            + [
+                f"{asked}: {len(found)} find something",
+                f"{len(every)} scripts, {len(tried)} of them in the gate, {len(told)} by hand",
+            ]
+        )
+    )
+    return 1 if wrong else 0
+
+
+if __name__ == "__main__":
+    sys.exit(main())

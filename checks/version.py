@@ -1,0 +1,57 @@
+#!/usr/bin/env python3
+"""The version, which stands in the file VERSION: whether each place that has it says the same.
+
+usage: python3 checks/version.py [--set X.Y.Z]
+
+The programs, the library, its header and its example name the version, and code cannot read a file when it is compiled. With
+--set the file and each of these places get another one. The exit status is 1 if a place says another. In the gate.
+"""
+import os
+import re
+import sys
+
+from common import TOP
+
+FILE = os.path.join(TOP, "VERSION")
+FORM = r"\d+\.\d+\.\d+"
+PLACES = (
+    ("crates/words/src/command_line.rt", rf'(pub const VERSION: &str = ")({FORM})(";)'),
+    ("crates/survey_words/src/command_line.rt", rf'(const VERSION: &str = ")({FORM})(";)'),
+    ("crates/command_calls/src/naming.rt", rf'(fill\(buffer, b")({FORM})("\))'),
+    ("crates/call_tests/src/tests/verdicts.rt", rf'(holds\(&version, b")({FORM})("\))'),
+    ("examples/embed/xdpvm.h", rf'(#define XDPVM_VERSION ")({FORM})(")'),
+    ("examples/embed/embed.rs", rf'(xdpvm::version\(\), ")({FORM})("\))'),
+)
+
+
+def read(path: str) -> str:
+    with open(path, encoding="utf-8") as file:
+        return file.read()
+
+
+def write(path: str, text: str) -> None:
+    with open(path, "w", encoding="utf-8") as file:
+        file.write(text)
+
+
+def main() -> int:
+    words = sys.argv[1:]
+    if words and (words[0] != "--set" or len(words) != 2 or not re.fullmatch(FORM, words[1])):
+        sys.exit(__doc__)
+    if words:
+        write(FILE, words[1] + "\n")
+    version, wrong = read(FILE).strip(), 0
+    for place, pattern in PLACES:
+        path = os.path.join(TOP, place)
+        text = read(path)
+        if words:
+            write(path, re.sub(pattern, rf"\g<1>{version}\g<3>", text))
+        elif [found[1] for found in re.findall(pattern, text)] != [version]:
+            wrong += 1
+            print(f"{place}: its version is not {version}, or is not where it was")
+    print(f"version {version}, {len(PLACES)} places, {wrong} say another")
+    return 1 if wrong else 0
+
+
+if __name__ == "__main__":
+    sys.exit(main())
