@@ -13,7 +13,7 @@ import re
 import sys
 
 TOP = os.path.dirname(os.path.dirname(os.path.dirname(os.path.abspath(__file__))))
-CRATES = ("verdict_calls", "table_calls", "run_calls", "held_machines", "session_calls", "command_calls", "xdpvm_c")
+CRATES = ("calls", "xdpvm_c")
 NUMBERS = {"u8": "uint8_t", "u32": "uint32_t", "u64": "uint64_t", "usize": "size_t", "": "void"}
 
 
