@@ -35,7 +35,10 @@ PROMISES: list[Text] = [
     ("crates/rechecking/src/rechecks.rt", "pub fn recheck(", "// The bytes are a closed table"),
 ]
 CLOSED: list[Text] = [("crates/rechecking/src/rechecks.rt", "// The bytes are a closed table", "ensures refused")]
-JUDGED: list[Text] = [("crates/surveys/src/judging.rt", "pub fn judge<", "\n{")]
+JUDGED: list[Text] = [
+    ("crates/surveys/src/judging.rt", "pub fn judge<", "\n{"),
+    ("crates/survey_commands/src/tables.rt", "pub fn wanted_table<", "\n{"),
+]
 
 # What the page says of a list.
 FACT = re.compile(r"\d+ lines in \d+ files")
