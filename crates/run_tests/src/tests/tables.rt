@@ -1,12 +1,12 @@
 //! The proof table of `r0 = 2; exit`, written to outputs that fail.
 
+use super::rows::holds_at;
 use explorer::{Verified, verify};
 use failing_io::{Failure, Writer};
 use image::Image;
 use proof_table::{WriteTableError, write_table};
 use std::alloc::Global;
 use std::io::ErrorKind;
-use std::process::Abort;
 
 /// `r0 = 2; exit`.
 const IMAGE: [u8; 24] = *b"XBP1\0\0\x02\0\xb7\0\0\0\x02\0\0\0\x95\0\0\0\0\0\0\0";
@@ -79,7 +79,7 @@ fn stops_where_the_writer_fails(rt: HostRuntime) {
     for (index, (failing, kind)) in FAILURES.iter().enumerate() {
         for room in ROOMS.iter() {
             let is_so = stops_so(rt.alloc(), (*room, *failing, *kind));
-            assert!(rt; is_so, "failure {index} after {room}");
+            holds_at(&rt, is_so, index, *room);
         }
     }
 }
