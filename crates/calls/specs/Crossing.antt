@@ -1,8 +1,5 @@
 -- What calls return and write: statuses, which `src/statuses` names, and bytes in a buffer.
-use Rattle.std.specs.Prelude.{◌≡◌, ℕ, Bool, true, false, List, ◌++◌, length, take, drop, ◌⊎◌}
-use Rattle.control_flow.specs.declared.errors.FlowError.TheVariants as flow
-use Rattle.walks.specs.declared.refusals.Refusal.{Refusal}
-use Rattle.walks.specs.declared.refusals.Refusal.TheVariants.{Flow, Step, Repeats, TooLong, Memory}
+use Rattle.std.specs.Prelude.{◌≡◌, ℕ, List, ◌++◌, length, take, drop, ◌⊎◌}
 use Rattle.calls.specs.declared.statuses.TheConstants.{ABSENT, MEMORY, OK, REFUSED, UNDECIDED, WRONG}
 
 -- done, refused, or out of memory
@@ -33,12 +30,3 @@ filled buffer bytes = take (length buffer) bytes ++ drop (length bytes) buffer
 pub record FillsBuffer (old new : List ℕ) (count : ℕ) (bytes : List ℕ) : Type 0 where
   pub whole : count ≡ length bytes
   pub written : new ≡ filled old bytes
-
--- whether a refusal says only that memory ran out
-abbrev pub is_memory : Refusal → Bool
-is_memory (Flow flow.Memory) = true
-is_memory (Flow error) = false
-is_memory (Step refusal) = false
-is_memory Repeats = false
-is_memory TooLong = false
-is_memory Memory = true

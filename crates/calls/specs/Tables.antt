@@ -11,7 +11,7 @@ use Rattle.calls.specs.declared.rechecks.Rechecked.{Rechecked}
 use Rattle.image.specs.declared.errors.ImageError.{ImageError}
 use Rattle.image.specs.Refusals.{refusal_of}
 use Rattle.calls.specs.Crossing.{FillsBuffer}
-use Rattle.refusal_texts.specs.Texts.{image_text, IsTableText}
+use Rattle.messages.specs.Texts.{image_text, IsTableText}
 use Rattle.calls.specs.Verdicts.{IsAcceptedImage, IsNoImage}
 
 -- what is returned for a bound, and says nothing of a refusal

@@ -5,7 +5,7 @@ use Rattle.image.specs.Images.{image_bytes}
 use Rattle.assembler.specs.declared.errors.AsmError.{AsmError}
 use Rattle.assembler.specs.declared.errors.AsmErrorKind.TheVariants as kind
 use Rattle.assembler.specs.Assembling.{assembled}
-use Rattle.refusal_texts.specs.Texts.{source_text}
+use Rattle.messages.specs.Texts.{source_text}
 use Rattle.calls.specs.Crossing.{FillsBuffer}
 use Rattle.calls.specs.declared.assembling.Assembled.{Assembled}
 

@@ -14,9 +14,10 @@ use Rattle.walks.specs.Accepting.{BoundsAll}
 use Rattle.walks.specs.Counts.{HasNumber}
 use Rattle.walks.specs.Messages as walks
 use Rattle.calls.specs.declared.judging.Verdict.{Verdict}
-use Rattle.calls.specs.Crossing.{FillsBuffer, is_memory}
+use Rattle.calls.specs.Crossing.{FillsBuffer}
 use Rattle.calls.specs.Numbers.{code_number}
-use Rattle.refusal_texts.specs.Texts.{image_text, IsProgramText}
+use Rattle.messages.specs.Lines.{is_memory}
+use Rattle.messages.specs.Texts.{image_text, IsProgramText}
 
 -- the bytes are an image, and every run of its program exits within the bound, without a trap
 pub record IsAcceptedImage (bytes : List ℕ) (bound : ℕ) : Type 0 where

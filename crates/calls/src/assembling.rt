@@ -3,7 +3,7 @@
 ghost use Rattle.std.specs.Prelude.{◌≡◌, ◌≢◌, ◌⊎◌};
 ghost use Rattle.assembler.specs.declared.errors.AsmErrorKind.TheVariants as Kind;
 ghost use Rattle.image.specs.Images.{image_bytes};
-ghost use Rattle.refusal_texts.specs.Texts.{source_text};
+ghost use Rattle.messages.specs.Texts.{source_text};
 ghost use Rattle.calls.specs.Crossing.{FillsBuffer, IsVerdictStatus};
 ghost use Rattle.calls.specs.Texts.{FillsAssembledImage, FillsTextRefusal, only_size};
 
@@ -11,7 +11,7 @@ use crate::buffers::fill;
 use crate::statuses::{MEMORY, OK, REFUSED};
 use assembler::{AsmError, AsmErrorKind, assemble};
 use image::Image;
-use refusal_texts::source_text;
+use messages::source_text;
 use std::alloc::Global;
 
 /// Says how many bytes an image or the message about a refusal has, and for a refusal the line and
@@ -57,11 +57,11 @@ fn write_refusal(alloc: Global, error: AsmError, why: &mut [u8], out: &mut Assem
     if error.kind == AsmErrorKind::Memory {
         return MEMORY;
     }
-    let Ok(message) = source_text(alloc, error) else {
+    let Some(message) = source_text(alloc, error) else {
         return MEMORY;
     };
     *out = Assembled {
-        size: fill(why, message.as_bytes()),
+        size: fill(why, message.as_slice()),
         line: error.line,
         column: error.column,
     };

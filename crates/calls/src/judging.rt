@@ -8,7 +8,8 @@ ghost use Rattle.stack_state.specs.Starts.{start};
 ghost use Rattle.walks.specs.Refused.{IsRefused};
 ghost use Rattle.walks.specs.Accepting.{BoundsAll};
 ghost use Rattle.walks.specs.Counts.{HasNumber};
-ghost use Rattle.calls.specs.Crossing.{IsDecision, is_memory};
+ghost use Rattle.messages.specs.Lines.{is_memory};
+ghost use Rattle.calls.specs.Crossing.{IsDecision};
 ghost use Rattle.calls.specs.Verdicts.{ReturnsBound, only_bound, IsRefusedImage, FillsImageRefusal, FillsProgramRefusal, IsUndecided};
 ghost use Rattle.calls.specs.declared.statuses.NotAccepted.TheVariants as NotAccepted;
 
@@ -20,7 +21,7 @@ use explorer::{Refusal, Verified, verify};
 use image::{Image, ImageError};
 use isa_model::MAX_EXPLORED;
 use listeners::{NoBound, verify_within};
-use refusal_texts::{image_text, program_text};
+use messages::{image_text, program_text};
 use std::alloc::Global;
 
 /// The verdict on an image: the most steps of a run if it is accepted, and otherwise the slot at
@@ -159,13 +160,13 @@ pub fn verify_image(
         Ok(program) => judge(alloc, program, limit, why, out),
         Err(ImageError::Memory) => MEMORY,
         Err(error) => {
-            let Ok(text) = image_text(alloc, error) else {
+            let Some(text) = image_text(alloc, error) else {
                 return MEMORY;
             };
             *out = Verdict {
                 bound: 0,
                 slot: 0,
-                said: fill(why, text.as_bytes()),
+                said: fill(why, text.as_slice()),
                 code: number_of_image_error(error),
             };
             REFUSED

@@ -13,8 +13,8 @@ use crate::statuses::{MEMORY, NotAccepted, OK, REFUSED};
 use bounds::Verified;
 use control_flow::FlowError;
 use image::{Image, ImageError};
+use messages::{image_text, table_text};
 use rechecking::{TableError, recheck};
-use refusal_texts::{image_text, table_text};
 use std::alloc::Global;
 use table_entries::TableRefusal;
 
@@ -153,11 +153,11 @@ pub fn recheck_table(
         Ok(program) => test(alloc, program, table, why, out),
         Err(ImageError::Memory) => MEMORY,
         Err(error) => {
-            let Ok(text) = image_text(alloc, error) else {
+            let Some(text) = image_text(alloc, error) else {
                 return MEMORY;
             };
             *out = Rechecked {
-                said: fill(why, text.as_bytes()),
+                said: fill(why, text.as_slice()),
                 bound: 0,
                 rule: 0,
                 entry: 0,

@@ -4,7 +4,7 @@ use Rattle.std.specs.declared.alloc.Global.{Global}
 use Rattle.std.specs.String.{string_bytes}
 use Rattle.std.proofs.lemmas.Bool.{false≢true}
 use Rattle.std.proofs.lemmas.Option.{none-some}
-use Rattle.task_outcomes.specs.declared.rejections.Rejection.TheVariants as rejection
+use Rattle.messages.specs.declared.rejections.Rejection.TheVariants as rejection
 use Rattle.task_outcomes.specs.declared.outcomes.TaskOutcome.{TaskOutcome}
 use Rattle.task_outcomes.specs.declared.outcomes.TaskOutcome.TheVariants.{Done, WrongWords, Refused, Faulted, CannotRead, CannotWrite, CannotReplace, NoMemory}
 use Rattle.task_outcomes.specs.Statuses.{status_of, is_unsaid, message_of}
@@ -14,7 +14,7 @@ use Rattle.task_outcomes.proofs.StatusesLaws.{silent_words, silent_memory, statu
 use Rattle.host.specs.Stops.{noted_of}
 use Rattle.words.specs.Requests.{TaskRequest, RunFiles, Trace, Run, Verify, Prove, Recheck, Assemble, Disassemble}
 use Rattle.words.specs.Asked.{asked}
-use Rattle.task_outcomes.specs.Faults.{fault_lines}
+use Rattle.messages.specs.Faults.{fault_lines}
 use Rattle.commands.specs.Executing.{IsTold, TellsDone, TellsFault}
 use Rattle.commands.proofs.Knowing.{Knows, KnowsBy, KnowsStops}
 

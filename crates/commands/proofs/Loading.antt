@@ -11,13 +11,13 @@ use Rattle.stack_state.specs.Starts.{start}
 use Rattle.walks.specs.Accepting.{BoundsAll}
 use Rattle.walks.specs.Counts.{HasNumber}
 use Rattle.frames.specs.Sources.{Origin}
-use Rattle.task_outcomes.specs.declared.rejections.Rejection.TheVariants as rejection
-use Rattle.task_outcomes.specs.declared.forms.FileForm.{FileForm}
+use Rattle.messages.specs.declared.rejections.Rejection.TheVariants as rejection
+use Rattle.messages.specs.declared.forms.FileForm.{FileForm}
 use Rattle.task_outcomes.specs.declared.outcomes.TaskOutcome.{TaskOutcome}
 use Rattle.task_outcomes.specs.declared.outcomes.TaskOutcome.TheVariants.{Done, WrongWords, Refused, Faulted, CannotRead, CannotWrite, CannotReplace, NoMemory}
 use Rattle.task_outcomes.specs.declared.endings.Ending.{Ending}
 use Rattle.task_outcomes.specs.Statuses.{IsReadFailure, IsMakeFailure}
-use Rattle.task_outcomes.specs.Lines.{bound_line}
+use Rattle.messages.specs.Lines.{bound_line}
 use Rattle.task_outcomes.specs.Judging.{Accepts}
 use Rattle.task_outcomes.specs.Known.{Plainly}
 use Rattle.task_outcomes.specs.Files.{LoadsNone, RunsOn}

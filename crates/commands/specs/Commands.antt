@@ -4,10 +4,10 @@ use Rattle.std.specs.declared.io.ErrorKind.{ErrorKind}
 use Rattle.isa_model.specs.{Program}
 use Rattle.bounds.specs.Bounds.{Bounded}
 use Rattle.frames.specs.Sources.{Origin}
-use Rattle.task_outcomes.specs.declared.forms.FileForm.{FileForm}
+use Rattle.messages.specs.declared.forms.FileForm.{FileForm}
 use Rattle.task_outcomes.specs.declared.outcomes.TaskOutcome.{TaskOutcome}
 use Rattle.task_outcomes.specs.declared.endings.Ending.{Ending}
-use Rattle.task_outcomes.specs.Lines.{bound_line}
+use Rattle.messages.specs.Lines.{bound_line}
 use Rattle.task_outcomes.specs.Statuses.{IsWrongWords}
 use Rattle.task_outcomes.specs.Judging.{Accepts}
 use Rattle.task_outcomes.specs.Known.{Plainly}

@@ -13,10 +13,10 @@ use Rattle.rechecking.specs.declared.errors.TableError.{TableError}
 use Rattle.rechecking.specs.declared.errors.TableError.TheVariants as table
 use Rattle.rechecking.specs.Refusing.{ShowsBound}
 use Rattle.rechecking.specs.Refusing as rechecking
-use Rattle.task_outcomes.specs.declared.rejections.Rejection.TheVariants as rejection
+use Rattle.messages.specs.declared.rejections.Rejection.TheVariants as rejection
 use Rattle.task_outcomes.specs.declared.outcomes.TaskOutcome.{TaskOutcome}
 use Rattle.task_outcomes.specs.declared.outcomes.TaskOutcome.TheVariants.{Refused}
-use Rattle.task_outcomes.specs.Lines.{verdict_line, table_line, is_memory, is_table_memory}
+use Rattle.messages.specs.Lines.{verdict_line, table_line, is_memory, is_table_memory}
 use Rattle.task_outcomes.specs.Saying.{Says, LacksMemory}
 use Rattle.task_outcomes.specs.Judging.{Accepts, SaysRefused}
 

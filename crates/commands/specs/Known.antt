@@ -8,7 +8,7 @@ use Rattle.isa_model.specs.{Program}
 use Rattle.listeners.specs.Reasons.{IsReason}
 use Rattle.explanations.specs.declared.entries.EntryReason.{EntryReason}
 use Rattle.explanations.specs.Entries.{IsEntryReason}
-use Rattle.task_outcomes.specs.declared.rejections.Rejection.TheVariants as rejection
+use Rattle.messages.specs.declared.rejections.Rejection.TheVariants as rejection
 use Rattle.task_outcomes.specs.declared.outcomes.TaskOutcome.{TaskOutcome}
 use Rattle.task_outcomes.specs.declared.outcomes.TaskOutcome.TheVariants.{Refused}
 use Rattle.task_outcomes.specs.declared.endings.Ending.{Ending}

@@ -13,7 +13,7 @@ use Rattle.host.specs.Tallies.{tallied}
 use Rattle.host.specs.Writing.{Outputs}
 use Rattle.host.specs.Reported.{Reports}
 use Rattle.task_outcomes.specs.declared.endings.Ending.{Ending}
-use Rattle.task_outcomes.specs.declared.forms.FileForm.{FileForm}
+use Rattle.messages.specs.declared.forms.FileForm.{FileForm}
 use Rattle.task_outcomes.specs.Streams.{EndsTask}
 use Rattle.commands.specs.Stopped.{TellsStopsOf, at_end}
 

@@ -8,9 +8,10 @@ use exact_io::PromptWriter;
 use frames::Source;
 use host::{run_checked, tally_in};
 use image::Image;
+use messages::FileForm;
 use std::alloc::Global;
 use std::io::Write;
-use task_outcomes::{Ending, FileForm, outcome_of};
+use task_outcomes::{Ending, outcome_of};
 use words::StepLimit;
 
 /// Runs a program on a frame stream of this file form, with checks. The checked report is written

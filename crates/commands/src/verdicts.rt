@@ -13,10 +13,11 @@ use super::searches::verify_watched;
 use bounds::Verified;
 use image::Image;
 use listeners::reason;
+use messages::Rejection;
 use std::alloc::Global;
 use std::io::Write;
 use std::rt::{Clock, Files};
-use task_outcomes::{Ending, Rejection, TaskOutcome, accepted, say_refused};
+use task_outcomes::{Ending, TaskOutcome, accepted, say_refused};
 
 // How a task that judged this program ended. If the program was refused, this looks for what is
 // known of the refusal; if memory runs out, nothing is.

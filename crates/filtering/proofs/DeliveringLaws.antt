@@ -15,7 +15,7 @@ use Rattle.host.specs.declared.traced.Counted.{Counted}
 use Rattle.host.specs.Counts.{Totals}
 use Rattle.host.specs.Writing.{Outputs}
 use Rattle.isa_model.specs.Machine.States.{KeyValues}
-use Rattle.task_outcomes.specs.declared.forms.FileForm.{FileForm}
+use Rattle.messages.specs.declared.forms.FileForm.{FileForm}
 use Rattle.task_outcomes.specs.declared.outcomes.TaskOutcome.{TaskOutcome}
 use Rattle.task_outcomes.specs.Saying.{AppendsPart, LacksMemory, Says}
 use Rattle.task_outcomes.specs.Streams.{outcome_at}

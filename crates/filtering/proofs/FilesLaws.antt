@@ -9,7 +9,7 @@ use Rattle.walks.specs.Accepting.{BoundsAll}
 use Rattle.walks.specs.Counts.{HasNumber}
 use Rattle.host.specs.declared.traced.Counted.{Counted}
 use Rattle.frames.specs.Sources.{Origin}
-use Rattle.task_outcomes.specs.declared.forms.FileForm.{FileForm}
+use Rattle.messages.specs.declared.forms.FileForm.{FileForm}
 use Rattle.task_outcomes.specs.declared.outcomes.TaskOutcome.{TaskOutcome}
 use Rattle.task_outcomes.specs.declared.endings.Ending.{Ending}
 use Rattle.task_outcomes.specs.Files.{LoadsNone}

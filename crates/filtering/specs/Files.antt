@@ -7,7 +7,7 @@ use Rattle.isa_model.specs.Machine.States.{KeyValues}
 use Rattle.frames.specs.Sources.{Origin}
 use Rattle.host.specs.declared.traced.Counted.{Counted}
 use Rattle.host.specs.Writing.{Outputs}
-use Rattle.task_outcomes.specs.declared.forms.FileForm.{FileForm}
+use Rattle.messages.specs.declared.forms.FileForm.{FileForm}
 use Rattle.task_outcomes.specs.declared.outcomes.TaskOutcome.{TaskOutcome}
 use Rattle.task_outcomes.specs.declared.endings.Ending.{Ending}
 use Rattle.task_outcomes.specs.Files.{LoadsNone, ReadsImage}

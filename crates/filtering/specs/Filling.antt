@@ -12,9 +12,9 @@ use Rattle.map_texts.specs.Fillings.{accepted, filled_by}
 use Rattle.map_texts.specs.Reading.{AreFilledFrom}
 use Rattle.task_outcomes.specs.declared.outcomes.TaskOutcome.{TaskOutcome}
 use Rattle.task_outcomes.specs.declared.outcomes.TaskOutcome.TheVariants.{Refused}
-use Rattle.task_outcomes.specs.declared.rejections.Rejection.TheVariants as rejection
+use Rattle.messages.specs.declared.rejections.Rejection.TheVariants as rejection
 use Rattle.task_outcomes.specs.Files.{ReadsNone}
-use Rattle.task_outcomes.specs.Lines.{maps_line}
+use Rattle.messages.specs.Lines.{maps_line}
 use Rattle.task_outcomes.specs.Saying.{LacksMemory, Says}
 
 -- the contents are those of new maps, or of new maps after the lines of a text that was read

@@ -8,7 +8,7 @@ use Rattle.host.specs.declared.tallies.Tally.{Tally}
 use Rattle.host.specs.Counts.{Totals, totals_of}
 use Rattle.maps.specs.Maps.{contents_of, rows_of}
 use Rattle.map_texts.specs.Listings.{text_of}
-use Rattle.task_outcomes.specs.declared.forms.FileForm.{FileForm}
+use Rattle.messages.specs.declared.forms.FileForm.{FileForm}
 use Rattle.task_outcomes.specs.declared.outcomes.TaskOutcome.{TaskOutcome}
 use Rattle.task_outcomes.specs.Saying.{LacksMemory, Says}
 use Rattle.task_outcomes.specs.Statuses.{IsWriteFailure}

@@ -8,11 +8,12 @@ ghost use Rattle.filtering.specs.Filling.{BeginsWith, BeginsNot, RefusesMapText,
 use image::Image;
 use map_texts::{MapTextError, MapTextErrorKind, fill_maps};
 use maps::Maps;
+use messages::{Rejection, maps_line};
 use std::alloc::Global;
+use std::{fs, io};
 use std::io::{ErrorKind, Read, Write};
 use std::rt::Files;
-use std::{fs, io};
-use task_outcomes::{Rejection, TaskOutcome, maps_line, say_made};
+use task_outcomes::{TaskOutcome, say_made};
 
 // A source that keeps why a read of it failed.
 #[derive(Drop)]

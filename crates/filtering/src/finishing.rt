@@ -10,9 +10,10 @@ use super::counting::counts_text;
 use super::delivering::store_maps;
 use super::opening::Named;
 use host::{Counted, FrameCounts, Tally};
+use messages::FileForm;
 use std::alloc::Global;
 use std::io::Write;
-use task_outcomes::{FileForm, TaskOutcome, say_made};
+use task_outcomes::{TaskOutcome, say_made};
 
 // How a task ends after a stream of this file form with this tally.
 fn outcome_at<'a>(form: FileForm, tally: &Tally) -> TaskOutcome<'a>

@@ -7,13 +7,11 @@ ghost use Rattle.filtering.specs.Opening.{IsOpenFailure, IsOutputConflict, Makes
 
 use exact_io::PromptWriter;
 use frames::Ahead;
+use messages::FileForm;
 use std::alloc::Global;
 use std::io::Write;
 use std::rt::{Clock, Files};
-use task_outcomes::{
-    FileForm, STANDARD_OUTPUT, TaskOutcome, Watched, begin_frames, create_output, keep_apart,
-    open_frames, open_standard_output,
-};
+use task_outcomes::{STANDARD_OUTPUT, TaskOutcome, Watched, begin_frames, create_output, keep_apart, open_frames, open_standard_output};
 use words::{FilterTask, Judging};
 
 /// An output, and the path that it was opened by.

@@ -6,12 +6,12 @@ use Rattle.isa_model.specs.{Program}
 use Rattle.bounds.specs.Bounds.{Bounded}
 use Rattle.frames.specs.Sources.{Origin}
 use Rattle.words.specs.Requests.{RunFiles}
-use Rattle.task_outcomes.specs.declared.forms.FileForm.{FileForm}
+use Rattle.messages.specs.declared.forms.FileForm.{FileForm}
 use Rattle.task_outcomes.specs.declared.outcomes.TaskOutcome.{TaskOutcome}
 use Rattle.task_outcomes.specs.declared.endings.Ending.{Ending}
 use Rattle.task_outcomes.specs.Known.{IsKnownOfText}
 use Rattle.task_outcomes.specs.Statuses.{IsReadFailure, IsMakeFailure}
-use Rattle.task_outcomes.specs.Lines.{size_line}
+use Rattle.messages.specs.Lines.{size_line}
 use Rattle.task_outcomes.specs.Judging.{StoresImage}
 use Rattle.task_outcomes.specs.Streams.{RunsAccepted}
 use Rattle.task_outcomes.specs.Files.{RunsOn, RunsSome, OpensNone, Assembles, AssemblesFile, StoresSome}

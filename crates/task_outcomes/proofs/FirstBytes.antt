@@ -3,8 +3,8 @@ use Rattle.std.proofs.Common.{◌≡◌, ◌∙◌, ℕ, ◌≤◌, List, ◌++�
 use Rattle.std.specs.Prelude.{IfSome, take, min}
 use Rattle.std.specs.Io.KnownBytes.{Consumes, IsAtEnd}
 use Rattle.std.proofs.lemmas.List.{append-nil, take-append-le}
-use Rattle.task_outcomes.specs.declared.forms.FileForm.{FileForm}
-use Rattle.task_outcomes.specs.Forms.{file_form_by, front_of, file_form_of, IsFileFormOf}
+use Rattle.messages.specs.declared.forms.FileForm.{FileForm}
+use Rattle.messages.specs.Forms.{file_form_by, front_of, file_form_of, IsFileFormOf}
 
 front_more : (front more : List ℕ) → length front ≡ 4 → front_of (front ++ more) ≡ front_of front
 front_more front more e =

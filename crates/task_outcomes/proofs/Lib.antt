@@ -1,8 +1,6 @@
-mod Written
 mod Delivered
 mod FirstBytes
 pub mod StatusesLaws
-pub mod MessagesLaws
 pub mod FilesLaws
 pub mod Silence
 mod SettledBytes

@@ -13,7 +13,7 @@ use Rattle.host.specs.declared.tallies.Tally.{Tally}
 use Rattle.words.specs.Requests.{RunFiles}
 use Rattle.table_entries.specs.declared.errors.WriteTableError.{WriteTableError}
 use Rattle.table_entries.specs.declared.errors.WriteTableError.TheVariants as write_error
-use Rattle.task_outcomes.specs.declared.forms.FileForm.{FileForm}
+use Rattle.messages.specs.declared.forms.FileForm.{FileForm}
 use Rattle.task_outcomes.specs.declared.outcomes.TaskOutcome.{TaskOutcome}
 use Rattle.task_outcomes.specs.declared.endings.Ending.{Ending}
 use Rattle.task_outcomes.specs.Statuses.{is_silent, status_of}

@@ -7,12 +7,12 @@ use Rattle.image.specs.Images.{IsImage}
 use Rattle.assembler.specs.Assembling.{assembled}
 use Rattle.bounds.specs.Bounds.{Bounded}
 use Rattle.frames.specs.Sources.{Origin}
-use Rattle.task_outcomes.specs.declared.forms.FileForm.{FileForm}
+use Rattle.messages.specs.declared.forms.FileForm.{FileForm}
 use Rattle.task_outcomes.specs.declared.outcomes.TaskOutcome.{TaskOutcome}
 use Rattle.task_outcomes.specs.declared.outcomes.TaskOutcome.TheVariants as outcome
 use Rattle.task_outcomes.specs.declared.endings.Ending.{Ending}
 use Rattle.task_outcomes.specs.Known.{IsKnownOfText, Plainly}
-use Rattle.task_outcomes.specs.Lines.{size_line}
+use Rattle.messages.specs.Lines.{size_line}
 use Rattle.task_outcomes.specs.Statuses.{IsMakeFailure, IsReadFailure}
 use Rattle.task_outcomes.specs.Saying.{Says}
 use Rattle.task_outcomes.specs.Judging.{RefusesImage, RefusesText, StoresImage}

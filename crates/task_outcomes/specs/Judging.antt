@@ -15,12 +15,12 @@ use Rattle.table_entries.specs.declared.errors.WriteTableError.TheVariants.{Memo
 use Rattle.assembler.specs.declared.errors.AsmErrorKind.TheVariants as kind
 use Rattle.assembler.specs.declared.errors.AsmError.{AsmError}
 use Rattle.assembler.specs.Assembling.{assembled}
-use Rattle.task_outcomes.specs.declared.rejections.Rejection.TheVariants as rejection
+use Rattle.messages.specs.declared.rejections.Rejection.TheVariants as rejection
 use Rattle.task_outcomes.specs.declared.outcomes.TaskOutcome.{TaskOutcome}
 use Rattle.task_outcomes.specs.declared.outcomes.TaskOutcome.TheVariants.{Done, Refused, NoMemory}
-use Rattle.task_outcomes.specs.Forms.{file_form_of}
+use Rattle.messages.specs.Forms.{file_form_of}
 use Rattle.task_outcomes.specs.Statuses.{IsWriteFailure, IsWriteFailureBy}
-use Rattle.task_outcomes.specs.Lines.{image_line, verdict_line, text_line, bound_line, explored_line, is_memory}
+use Rattle.messages.specs.Lines.{image_line, verdict_line, text_line, bound_line, explored_line, is_memory}
 use Rattle.task_outcomes.specs.Saying.{Says, LacksMemory}
 
 -- bytes are not an image, and standard output says why; or memory ran out
@@ -28,7 +28,8 @@ abbrev pub RefusesImage : List ℕ → Option (List ℕ) → Option (List ℕ) �
 RefusesImage bytes old new result =
     LacksMemory old new result
     ⊎ ((error : ImageError) × (refusal_of bytes ≡ Some error)
-    × Says old new (image_line error) (Refused (rejection.Image error (file_form_of bytes))) result)
+    × Says old new (image_line error)
+    (Refused (rejection.Image error (Some (file_form_of bytes)))) result)
 
 -- standard output says that a program is refused at a slot, where this instruction begins;
 -- or memory ran out

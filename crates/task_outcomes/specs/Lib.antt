@@ -1,12 +1,8 @@
 pub mod Causes
 pub mod Names
-pub mod Faults
-pub mod Forms
-pub mod Messages
 pub mod Statuses
 pub mod Known
 pub mod Flushing
-pub mod Lines
 pub mod Saying
 pub mod Judging
 pub mod Streams

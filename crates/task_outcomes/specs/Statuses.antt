@@ -8,8 +8,8 @@ use Rattle.task_outcomes.specs.declared.outcomes.TaskOutcome.{TaskOutcome}
 use Rattle.task_outcomes.specs.declared.outcomes.TaskOutcome.TheVariants.{Done, WrongWords, Refused, Faulted, CannotRead, CannotWrite, CannotReplace, NoMemory}
 use Rattle.task_outcomes.specs.Causes.{line_after, conflict_line, unread_text}
 use Rattle.task_outcomes.specs.Names.{shown_name}
-use Rattle.task_outcomes.specs.Faults.{fault_lines}
-use Rattle.task_outcomes.specs.Messages.{rejection_text}
+use Rattle.messages.specs.Faults.{fault_lines}
+use Rattle.messages.specs.Messages.{rejection_text}
 
 -- the program's status
 abbrev pub status_of : TaskOutcome → ℕ

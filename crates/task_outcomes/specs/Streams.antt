@@ -11,7 +11,7 @@ use Rattle.host.specs.declared.errors.HostError.TheVariants as failure
 use Rattle.host.specs.declared.tallies.Tally.{Tally}
 use Rattle.host.specs.Writing.{Outputs}
 use Rattle.host.specs.Accepted.{ReportsRun}
-use Rattle.task_outcomes.specs.declared.forms.FileForm.{FileForm}
+use Rattle.messages.specs.declared.forms.FileForm.{FileForm}
 use Rattle.task_outcomes.specs.declared.outcomes.TaskOutcome.{TaskOutcome}
 use Rattle.task_outcomes.specs.declared.outcomes.TaskOutcome.TheVariants.{Done, Faulted, NoMemory}
 use Rattle.task_outcomes.specs.Statuses.{IsOutputFailure, IsWriteFailureBy}

@@ -9,9 +9,9 @@ ghost use Rattle.task_outcomes.specs.Known.{IsKnownOfText, told_of};
 ghost use Rattle.task_outcomes.specs.Flushing.{Flushes};
 
 use super::outcomes::{STANDARD_OUTPUT, TaskOutcome};
-use super::rejections::Rejection;
 use assembler::shown;
 use exact_io::{PromptWriter, write_bytes};
+use messages::Rejection;
 use std::alloc::Global;
 use std::io;
 use std::io::Write;

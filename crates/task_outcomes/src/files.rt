@@ -8,7 +8,6 @@ ghost use Rattle.words.specs.Requests.{files_of};
 ghost use Rattle.task_outcomes.specs.Files.{LoadsNone, RunsOn, DisassemblesFile, Assembles, AssemblesFile};
 
 use super::endings::Ending;
-use super::forms::FileForm;
 use super::fronts::{Watched, read_ahead};
 use super::outcomes::TaskOutcome;
 use super::outputs::{create_file, create_sent};
@@ -22,6 +21,7 @@ use exact_io::PromptWriter;
 use frames::{Ahead, Buffered};
 use image::Image;
 use isa_model::{MAX_MAPS, MAX_SLOTS};
+use messages::FileForm;
 use std::alloc::Global;
 use std::fs;
 use std::io::Write;

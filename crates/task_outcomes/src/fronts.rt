@@ -2,12 +2,12 @@
 
 ghost use Rattle.std.specs.Prelude.{◌≤◌, IfSome};
 ghost use Rattle.frames.specs.Buffers.{buffered_remaining};
-ghost use Rattle.task_outcomes.specs.Forms.{IsFileFormOf};
+ghost use Rattle.messages.specs.Forms.{IsFileFormOf};
 
-use super::forms::{FileForm, file_form_of};
 use super::screens::Screen;
 use exact_io::Filled;
 use frames::{Ahead, Buffered, FRONT, Source, fill};
+use messages::{FileForm, file_form_of};
 use std::io;
 use std::io::{ErrorKind, Read};
 use std::rt::{Clock, Files};

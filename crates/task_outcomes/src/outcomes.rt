@@ -9,12 +9,10 @@ ghost use Rattle.task_outcomes.specs.Saying.{AppendsPart};
 ghost use Rattle.task_outcomes.specs.Judging.{IsStoreFailure};
 
 use super::causes::{Conflict, conflict_line, line_after, say_unread};
-use super::faults::say_fault;
-use super::forms::FileForm;
 use super::names::write_named;
-use super::rejections::Rejection;
 use exact_io::write_bytes;
 use isa_model::Fault;
+use messages::{FileForm, Rejection, say_fault};
 use std::io;
 use std::io::{ErrorKind, Write};
 use words::WordsError;

@@ -8,9 +8,9 @@ ghost use Rattle.table_entries.specs.Tables.{table_read};
 use assembler::is_text_settled;
 use image::Image;
 use std::alloc::Global;
+use std::{fs, io};
 use std::io::{ErrorKind, Read};
 use std::rt::Files;
-use std::{fs, io};
 use table_entries::is_settled;
 
 // How many bytes of a table or a text are read at a time, at most.

@@ -4,7 +4,6 @@ ghost use Rattle.task_outcomes.specs.Judging.{StoresImage};
 ghost use Rattle.task_outcomes.specs.Streams.{EndsTask, RunsAccepted};
 ghost use Rattle.exact_io.specs.Waiting.{behind, failure_of, held};
 
-use super::forms::FileForm;
 use super::outcomes::{STANDARD_OUTPUT, TaskOutcome};
 use super::verdicts::say_line;
 use bounds::Verified;
@@ -12,6 +11,7 @@ use exact_io::PromptWriter;
 use frames::Source;
 use host::{HostError, Tally, run};
 use image::Image;
+use messages::FileForm;
 use std::alloc::Global;
 use std::io::Write;
 

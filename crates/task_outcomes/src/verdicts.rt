@@ -7,14 +7,11 @@ ghost use Rattle.isa_model.specs.Text.CanonicalText.{canonical_text};
 ghost use Rattle.image.specs.Images.{IsImage, image_bytes};
 ghost use Rattle.assembler.specs.Assembling as spells;
 ghost use Rattle.task_outcomes.specs.Statuses.{is_silent};
-ghost use Rattle.task_outcomes.specs.Lines.{bound_line, size_line};
+ghost use Rattle.messages.specs.Lines.{bound_line, size_line};
 ghost use Rattle.task_outcomes.specs.Saying.{Says, LacksMemory};
 ghost use Rattle.task_outcomes.specs.Judging.{RefusesImage, Accepts, RefusesText, SaysRefused, EndsUnwritten};
 
-use super::forms::file_form_of;
-use super::lines::{image_line, text_line, verdict_line};
 use super::outcomes::{STANDARD_OUTPUT, TaskOutcome};
-use super::rejections::Rejection;
 use assembler::{AsmError, AsmErrorKind, assemble};
 use bounds::Verified;
 use control_flow::FlowError;
@@ -22,6 +19,7 @@ use disassembler::disassemble;
 use exact_io::write_bytes;
 use image::{Image, ImageError};
 use isa_model::Insn;
+use messages::{Rejection, file_form_of, image_line, text_line, verdict_line};
 use std::alloc::{AllocError, Global};
 use std::io::Write;
 use table_entries::WriteTableError;
@@ -76,7 +74,7 @@ pub fn image_of<'a, W: Write>(
         Err(ImageError::Memory) => Err(TaskOutcome::NoMemory),
         Err(error) => Err(say_made(
             image_line(alloc, error),
-            TaskOutcome::Refused(Rejection::Image(error, file_form_of(bytes))),
+            TaskOutcome::Refused(Rejection::Image(error, Some(file_form_of(bytes)))),
             out,
         )),
     }

@@ -2,7 +2,7 @@ use Rattle.std.proofs.Common.{ℕ, List, length, ap, ◌∙◌, sym, subst}
 use Rattle.isa_model.specs.Code.Instructions.{Program}
 use Rattle.bounds.specs.Bounds.{IsVerified}
 use Rattle.rechecking.specs.Refusing.{ShowsBound}
-use Rattle.refusal_texts.specs.Texts.{IsTableText}
+use Rattle.messages.specs.Texts.{IsTableText}
 use Rattle.calls.specs.Crossing.{filled}
 use Rattle.calls.specs.Tables.{broken}
 use Rattle.calls.proofs.rechecks.test.Goals as goal

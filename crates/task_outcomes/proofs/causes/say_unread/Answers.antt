@@ -1,7 +1,7 @@
 use Rattle.std.proofs.Common.{◌≡◌, ◌++◌, ◌∙◌, ap, codes, List, ℕ}
 use Rattle.task_outcomes.specs.Causes.{cause_line}
 use Rattle.task_outcomes.specs.Names.{shown_name, dash_line}
-use Rattle.task_outcomes.proofs.Written.{on_err, ok_text, err_text, ok_behind, err_behind, first_failed}
+use Rattle.messages.proofs.Written.{on_err, ok_text, err_text, ok_behind, err_behind, first_failed}
 use Rattle.task_outcomes.proofs.causes.say_unread.Goals as goal
 
 pub returns-in_err-write_named-clause-err : goal.returns-in_err-write_named-clause-err

@@ -1,5 +1,5 @@
 use Rattle.std.proofs.Common.{◌<◌, length, rules}
-use Rattle.task_outcomes.proofs.Written.{on_err}
+use Rattle.messages.proofs.Written.{on_err}
 use Rattle.task_outcomes.proofs.ShownNames.{next_written, next_broken, next_failed}
 use Rattle.task_outcomes.proofs.names.write_escaped.Goals as goal
 

@@ -1,6 +1,6 @@
 use Rattle.std.proofs.Common.{refl, string_bytes}
 use Rattle.task_outcomes.specs.Statuses.{message_of}
-use Rattle.task_outcomes.proofs.Written.{ok_text, err_text, ok_behind, err_behind}
+use Rattle.messages.proofs.Written.{ok_text, err_text, ok_behind, err_behind}
 use Rattle.task_outcomes.proofs.endings.Ending.say.Goals as goal
 
 pub returns-in-Some-clause-err : goal.returns-in-Some-clause-err

@@ -2,7 +2,7 @@ use Rattle.std.proofs.Common.{◌++◌, ℕ, List, codes, ap}
 use Rattle.task_outcomes.specs.Causes.{line_after, conflict_line}
 use Rattle.task_outcomes.specs.Names.{shown_name}
 use Rattle.task_outcomes.specs.Statuses.{usage}
-use Rattle.task_outcomes.proofs.Written.{ok_text, err_text, err_behind}
+use Rattle.messages.proofs.Written.{ok_text, err_text, err_behind}
 use Rattle.task_outcomes.proofs.outcomes.TaskOutcome.say.Goals as goal
 
 pub returns-in_ok-write_bytes-in-WrongWords-clause-err : goal.returns-in_ok-write_bytes-in-WrongWords-clause-err
