@@ -1,17 +1,20 @@
 //! The files of a run: the frames that are read, and the outputs.
 
 ghost use Rattle.std.specs.Prelude.{◌≡◌, IfErr, IfOk, bytes_eq, codes, option_map};
-ghost use Rattle.task_outcomes.specs.Statuses.{IsMakeFailure};
+ghost use Rattle.commands.specs.Statuses.{IsMakeFailure};
 ghost use Rattle.words.specs.FilterRequests.{filter_request_of};
 ghost use Rattle.filtering.specs.Opening.{IsOpenFailure, IsOutputConflict, MakesNot, frames_path, output_name};
 
+use commands::{
+    STANDARD_OUTPUT, TaskOutcome, Watched, begin_frames, create_output, keep_apart, open_frames,
+    open_standard_output,
+};
 use exact_io::PromptWriter;
 use frames::Ahead;
 use messages::FileForm;
 use std::alloc::Global;
 use std::io::Write;
 use std::rt::{Clock, Files};
-use task_outcomes::{STANDARD_OUTPUT, TaskOutcome, Watched, begin_frames, create_output, keep_apart, open_frames, open_standard_output};
 use words::{FilterTask, Judging};
 
 /// An output, and the path that it was opened by.

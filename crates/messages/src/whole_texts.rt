@@ -48,12 +48,7 @@ pub fn source_text(alloc: Global, error: AsmError) -> Option<Vec<u8>>
 }
 
 /// Returns why a program is refused, and at which slot and instruction. None: memory ran out.
-pub fn program_front(
-    alloc: Global,
-    image: &Image,
-    refusal: Refusal,
-    slot: usize,
-) -> Option<Vec<u8>>
+pub fn program_front(alloc: Global, image: &Image, refusal: Refusal, slot: usize) -> Option<Vec<u8>>
     ensures { IfSome result (λ text. text.items ≡ program_front image.now refusal slot) }
 {
     let insn = image.at(slot).copied();

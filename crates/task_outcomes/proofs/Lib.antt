@@ -1,7 +1,0 @@
-mod Delivered
-mod FirstBytes
-pub mod StatusesLaws
-pub mod FilesLaws
-pub mod Silence
-mod SettledBytes
-mod ShownNames

@@ -1,9 +1,0 @@
-pub mod Causes
-pub mod Names
-pub mod Statuses
-pub mod Known
-pub mod Flushing
-pub mod Saying
-pub mod Judging
-pub mod Streams
-pub mod Files
