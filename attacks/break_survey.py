@@ -68,7 +68,7 @@ class Answer:
 def is_shorter(answer: Answer, whole: Answer) -> bool:
     """Whether lines were left out at the end of what is known of a refusal."""
     return (
-        (answer.status, answer.err) == (whole.status, whole.err) and b"refused" in answer.out and whole.out.startswith(answer.out)
+        (answer.status, answer.out) == (whole.status, whole.out) and b"refused" in answer.out and whole.err.startswith(answer.err)
     )
 
 

@@ -15,7 +15,7 @@ from collections.abc import Callable, Iterator, Mapping
 
 from common import TOP, text_of, there
 
-CRATES = ("verdict_calls", "table_calls", "run_calls", "held_machines", "session_calls", "command_calls", "xdpvm_c")
+CRATES = ("calls", "xdpvm_c")
 NUMBERS = {"u8": "uint8_t", "u32": "uint32_t", "u64": "uint64_t", "usize": "size_t", "": "void"}
 
 

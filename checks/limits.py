@@ -69,7 +69,7 @@ EXCEPTIONS = (
     ("stack_state/proofs/CellLaws.antt", "div-div-eq-div-mul n ", "the third and the fourth byte of a number"),
     ("word_machine/specs/Addresses.antt", "packet_index address =", "2 ^ 16 addresses lead into the packet"),
     ("known_bits/", "", "the bits of a register"),
-    ("task_outcomes/src/watching.rt", "output.rdev()", "the bits of a device's major number"),
+    ("commands/src/watching.rt", "output.rdev()", "the bits of a device's major number"),
     ("commands/src/searches.rt", "const PERIOD: u32 =", "after how many explored instructions the clock is read"),
 )
 

@@ -28,7 +28,7 @@ Text = tuple[str, str, str]
 Rows = dict[str, int]
 
 PROMISES: list[Text] = [
-    ("crates/command_calls/src/streaming.rt", "    ensures promised {", "\n    ensures tally"),
+    ("crates/calls/src/streaming.rt", "    ensures promised {", "\n    ensures tally"),
     ("crates/image/src/images.rt", "pub fn parse(", "// All others"),
     ("crates/image/src/images.rt", "impl Model for Image {", "\n}"),
     ("crates/host/src/verified.rt", "pub fn run<", "\n{"),
@@ -36,7 +36,10 @@ PROMISES: list[Text] = [
     ("crates/rechecking/src/rechecks.rt", "pub fn recheck(", "// The bytes are a closed table"),
 ]
 CLOSED: list[Text] = [("crates/rechecking/src/rechecks.rt", "// The bytes are a closed table", "ensures refused")]
-JUDGED: list[Text] = [("crates/surveys/src/judging.rt", "pub fn judge<", "\n{")]
+JUDGED: list[Text] = [
+    ("crates/surveys/src/judging.rt", "pub fn judge<", "\n{"),
+    ("crates/survey_commands/src/tables.rt", "pub fn wanted_table<", "\n{"),
+]
 
 # What the page says of a list.
 FACT = re.compile(r"\d+ lines in \d+ files")
@@ -56,7 +59,7 @@ class Promise(Base):
             at = text.index(begin)
             self.add(module, text[at : text.index(end, at)])
 
-    def add_exports(self, status: int) -> None:
+    def add_exports(self, status: str) -> None:
         """Adds what the library's exports say where they return a status."""
         paths = sorted(glob.glob("crates/xdpvm_c/src/*.rt", root_dir=TOP))
         told = [(Code(path, TOP), path) for path in paths]
@@ -109,9 +112,9 @@ def lists() -> tuple[Rows, Rows, dict[str, Rows]]:
     closed = beside(base.rows(), main)
     library = Promise()
     library.add_texts(PROMISES)
-    library.add_exports(0)
+    library.add_exports("OK")
     done = library.rows()
-    library.add_exports(2)
+    library.add_exports("REFUSED")
     survey = Promise()
     survey.add_texts(PROMISES + JUDGED)
     more = {"status 0": beside(done, main), "status 2": beside(library.rows(), done), "a row": beside(survey.rows(), main)}

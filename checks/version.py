@@ -17,7 +17,7 @@ FORM = r"\d+\.\d+\.\d+"
 PLACES = (
     ("crates/words/src/command_line.rt", rf'(pub const VERSION: &str = ")({FORM})(";)'),
     ("crates/survey_words/src/command_line.rt", rf'(const VERSION: &str = ")({FORM})(";)'),
-    ("crates/command_calls/src/naming.rt", rf'(fill\(buffer, b")({FORM})("\))'),
+    ("crates/calls/src/naming.rt", rf'(fill\(buffer, b")({FORM})("\))'),
     ("crates/call_tests/src/tests/verdicts.rt", rf'(holds\(&version, b")({FORM})("\))'),
     ("examples/embed/xdpvm.h", rf'(#define XDPVM_VERSION ")({FORM})(")'),
     ("examples/embed/embed.rs", rf'(xdpvm::version\(\), ")({FORM})("\))'),

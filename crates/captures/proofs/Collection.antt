@@ -1,20 +1,11 @@
 -- Laws of bytes that are taken to the front of a buffer.
-use Rattle.std.proofs.Common.{◌≡◌, ℕ, ◌+◌, ◌-◌, ◌≤◌, List, [], ◌++◌, length, take, drop, Option, Some, None, sym, ap, ◌∙◌, append_assoc, append-nil, arith}
+use Rattle.std.proofs.Common.{◌≡◌, ℕ, ◌+◌, ◌-◌, ◌≤◌, List, [], ◌++◌, length, take, drop, Option, Some, None, sym, ap, ◌∙◌, append_assoc, arith}
 use Rattle.std.proofs.lemmas.List.{take-append-le, take_at, drop_at, length-take-le}
 use Rattle.std.proofs.lemmas.Slice.{take-put_mid}
 use Rattle.std.specs.Io.KnownBytes.{Consumes, Keeps, prepend_known}
-use Rattle.std.proofs.KnownBytes.{Keeps-refl}
 use borrow.Rule.Slice.PartMut.{put_mid, post_of}
 use lib.Seq.{take-add}
 use Rattle.captures.specs.Collecting.{Collects}
-
--- nothing moves
-pub Collects-none : (known : Option (List ℕ)) (front : List ℕ) → Collects known known front front
-Collects-none known front = record {
-  more = [];
-  grows = sym (append-nil front);
-  kept = Keeps-refl (prepend_known front known);
-}
 
 -- what the source lost is at the end of the front
 kept_more : (old new : Option (List ℕ)) (front more : List ℕ) → Consumes old new more

@@ -4,17 +4,17 @@ use Rattle.std.specs.declared.alloc.Global.{Global}
 use Rattle.std.specs.String.{string_bytes}
 use Rattle.std.proofs.lemmas.Bool.{false≢true}
 use Rattle.std.proofs.lemmas.Option.{none-some}
-use Rattle.task_outcomes.specs.declared.rejections.Rejection.TheVariants as rejection
-use Rattle.task_outcomes.specs.declared.outcomes.TaskOutcome.{TaskOutcome}
-use Rattle.task_outcomes.specs.declared.outcomes.TaskOutcome.TheVariants.{Done, WrongWords, Refused, Faulted, CannotRead, CannotWrite, CannotReplace, NoMemory}
-use Rattle.task_outcomes.specs.Statuses.{status_of, is_unsaid, message_of}
-use Rattle.task_outcomes.specs.Saying.{AppendsPart}
-use Rattle.task_outcomes.specs.Known.{outcome_text}
-use Rattle.task_outcomes.proofs.StatusesLaws.{silent_words, silent_memory, status_fits, unsaid_done}
+use Rattle.messages.specs.declared.rejections.Rejection.TheVariants as rejection
+use Rattle.commands.specs.declared.outcomes.TaskOutcome.{TaskOutcome}
+use Rattle.commands.specs.declared.outcomes.TaskOutcome.TheVariants.{Done, WrongWords, Refused, Faulted, CannotRead, CannotWrite, CannotReplace, NoMemory}
+use Rattle.commands.specs.Statuses.{status_of, is_unsaid, message_of}
+use Rattle.commands.specs.Saying.{AppendsPart}
+use Rattle.commands.specs.Known.{outcome_text}
+use Rattle.commands.proofs.StatusesLaws.{silent_words, silent_memory, status_fits, unsaid_done}
 use Rattle.host.specs.Stops.{noted_of}
 use Rattle.words.specs.Requests.{TaskRequest, RunFiles, Trace, Run, Verify, Prove, Recheck, Assemble, Disassemble}
 use Rattle.words.specs.Asked.{asked}
-use Rattle.task_outcomes.specs.Faults.{fault_lines}
+use Rattle.messages.specs.Faults.{fault_lines}
 use Rattle.commands.specs.Executing.{IsTold, TellsDone, TellsFault}
 use Rattle.commands.proofs.Knowing.{Knows, KnowsBy, KnowsStops}
 

@@ -11,12 +11,12 @@ use Rattle.host.specs.declared.errors.HostError.{HostError}
 use Rattle.host.specs.declared.stops.Stops.{Stops}
 use Rattle.host.specs.declared.traced.Traced.{Traced}
 use Rattle.host.specs.Stops.{noted_of}
-use Rattle.task_outcomes.specs.declared.outcomes.TaskOutcome.{TaskOutcome}
-use Rattle.task_outcomes.specs.declared.outcomes.TaskOutcome.TheVariants.{Done, WrongWords, Refused, Faulted, CannotRead, CannotWrite, CannotReplace, NoMemory}
-use Rattle.task_outcomes.specs.declared.endings.Ending.{Ending}
-use Rattle.task_outcomes.specs.Known.{TellsText}
-use Rattle.task_outcomes.specs.Flushing.{Flushes, IsFlushed, TellsFailure}
-use Rattle.task_outcomes.specs.Statuses.{is_silent}
+use Rattle.commands.specs.declared.outcomes.TaskOutcome.{TaskOutcome}
+use Rattle.commands.specs.declared.outcomes.TaskOutcome.TheVariants.{Done, WrongWords, Refused, Faulted, CannotRead, CannotWrite, CannotReplace, NoMemory}
+use Rattle.commands.specs.declared.endings.Ending.{Ending}
+use Rattle.commands.specs.Known.{TellsText}
+use Rattle.commands.specs.Flushing.{Flushes, IsFlushed, TellsFailure}
+use Rattle.commands.specs.Statuses.{is_silent}
 use Rattle.commands.specs.Known.{Tells, TellsTable}
 use Rattle.commands.specs.Commands.{Serves, ShowsNone}
 use Rattle.commands.specs.Stopped.{TellsStopsOf, at_end, stop_lines}

@@ -1,6 +1,13 @@
+mod Delivered
+mod ExecutingLaws
+pub mod FilesLaws
+pub mod FilesSilence
+mod FirstBytes
+mod Knowing
 mod Loading
 mod Refusing
-mod Knowing
-mod ExecutingLaws
-mod Silence
 mod Served
+mod SettledBytes
+mod ShownNames
+mod Silence
+pub mod StatusesLaws

@@ -11,17 +11,17 @@ use Rattle.stack_state.specs.Starts.{start}
 use Rattle.walks.specs.Accepting.{BoundsAll}
 use Rattle.walks.specs.Counts.{HasNumber}
 use Rattle.frames.specs.Sources.{Origin}
-use Rattle.task_outcomes.specs.declared.rejections.Rejection.TheVariants as rejection
-use Rattle.task_outcomes.specs.declared.forms.FileForm.{FileForm}
-use Rattle.task_outcomes.specs.declared.outcomes.TaskOutcome.{TaskOutcome}
-use Rattle.task_outcomes.specs.declared.outcomes.TaskOutcome.TheVariants.{Done, WrongWords, Refused, Faulted, CannotRead, CannotWrite, CannotReplace, NoMemory}
-use Rattle.task_outcomes.specs.declared.endings.Ending.{Ending}
-use Rattle.task_outcomes.specs.Statuses.{IsReadFailure, IsMakeFailure}
-use Rattle.task_outcomes.specs.Lines.{bound_line}
-use Rattle.task_outcomes.specs.Judging.{Accepts}
-use Rattle.task_outcomes.specs.Known.{Plainly}
-use Rattle.task_outcomes.specs.Files.{LoadsNone, RunsOn}
-use Rattle.task_outcomes.proofs.FilesLaws.{OpensNone-failed}
+use Rattle.messages.specs.declared.rejections.Rejection.TheVariants as rejection
+use Rattle.messages.specs.declared.forms.FileForm.{FileForm}
+use Rattle.commands.specs.declared.outcomes.TaskOutcome.{TaskOutcome}
+use Rattle.commands.specs.declared.outcomes.TaskOutcome.TheVariants.{Done, WrongWords, Refused, Faulted, CannotRead, CannotWrite, CannotReplace, NoMemory}
+use Rattle.commands.specs.declared.endings.Ending.{Ending}
+use Rattle.commands.specs.Statuses.{IsReadFailure, IsMakeFailure}
+use Rattle.messages.specs.Lines.{bound_line}
+use Rattle.commands.specs.Judging.{Accepts}
+use Rattle.commands.specs.Known.{Plainly}
+use Rattle.commands.specs.Files.{LoadsNone, RunsOn}
+use Rattle.commands.proofs.FilesLaws.{OpensNone-failed}
 use Rattle.words.specs.Requests.{RunFiles, TableFiles}
 use Rattle.commands.specs.Known.{IsKnownOfProgram, IsKnownOfTable, Tells}
 use Rattle.commands.specs.Judging.{IsBoundOf, RefusesProgram, RefusesTable, Verifies}

@@ -4,12 +4,12 @@ use Rattle.isa_model.specs.declared.instructions.Insn.{Insn}
 use Rattle.isa_model.specs.{Program, fetch}
 use Rattle.walks.specs.declared.refusals.Refusal.{Refusal}
 use Rattle.walks.specs.Refused.{IsRefused}
-use Rattle.task_outcomes.specs.declared.rejections.Rejection.TheVariants as rejection
-use Rattle.task_outcomes.specs.declared.outcomes.TaskOutcome.{TaskOutcome}
-use Rattle.task_outcomes.specs.declared.outcomes.TaskOutcome.TheVariants.{Refused}
-use Rattle.task_outcomes.specs.Lines.{verdict_line}
-use Rattle.task_outcomes.specs.Saying.{Says}
-use Rattle.task_outcomes.specs.Judging.{SaysRefused}
+use Rattle.messages.specs.declared.rejections.Rejection.TheVariants as rejection
+use Rattle.commands.specs.declared.outcomes.TaskOutcome.{TaskOutcome}
+use Rattle.commands.specs.declared.outcomes.TaskOutcome.TheVariants.{Refused}
+use Rattle.messages.specs.Lines.{verdict_line}
+use Rattle.commands.specs.Saying.{Says}
+use Rattle.commands.specs.Judging.{SaysRefused}
 use Rattle.commands.specs.Judging.{RefusesProgram}
 
 -- the instruction that the message shows is the one at the slot

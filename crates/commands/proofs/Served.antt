@@ -9,11 +9,11 @@ use Rattle.words.specs.declared.tasks.WordsError.{WordsError}
 use Rattle.words.specs.declared.tasks.WordsError.TheVariants.{Wrong, Memory}
 use Rattle.words.specs.Requests.{TaskRequest}
 use Rattle.words.specs.Asked.{AsksFor, asked}
-use Rattle.task_outcomes.specs.declared.outcomes.TaskOutcome.{TaskOutcome}
-use Rattle.task_outcomes.specs.declared.endings.Ending.{Ending}
-use Rattle.task_outcomes.specs.Statuses.{IsWordsEnd, is_silent}
-use Rattle.task_outcomes.proofs.StatusesLaws.{says_wrong, wrong_silent}
-use Rattle.task_outcomes.specs.Flushing.{Flushes}
+use Rattle.commands.specs.declared.outcomes.TaskOutcome.{TaskOutcome}
+use Rattle.commands.specs.declared.endings.Ending.{Ending}
+use Rattle.commands.specs.Statuses.{IsWordsEnd, is_silent}
+use Rattle.commands.proofs.StatusesLaws.{says_wrong, wrong_silent}
+use Rattle.commands.specs.Flushing.{Flushes}
 use Rattle.commands.specs.Commands.{Serves}
 use Rattle.commands.specs.Executing.{Executes}
 

@@ -15,15 +15,15 @@ use Rattle.table_entries.specs.declared.errors.WriteTableError.{WriteTableError}
 use Rattle.proof_table.specs.Writing.{GainsTable, BeginsTable}
 use Rattle.rechecking.specs.declared.errors.TableError.{TableError}
 use Rattle.rechecking.specs.declared.errors.TableError.TheVariants as table_error
-use Rattle.task_outcomes.specs.declared.outcomes.TaskOutcome.{TaskOutcome}
-use Rattle.task_outcomes.specs.declared.outcomes.TaskOutcome.TheVariants as outcome
-use Rattle.task_outcomes.specs.declared.endings.Ending.{Ending}
-use Rattle.task_outcomes.specs.Statuses.{is_silent}
-use Rattle.task_outcomes.specs.Flushing.{Flushes}
-use Rattle.task_outcomes.specs.Saying.{Says}
-use Rattle.task_outcomes.specs.Judging.{EndsUnwritten, IsStoreFailure}
-use Rattle.task_outcomes.specs.Streams.{IsBeginningOf}
-use Rattle.task_outcomes.proofs.Silence.{says_loud, stops_silent, bound_silent, loads_silent, opens_silent, on_silent, disassemble_silent, assemble_silent, silent_then, unwritten_silent}
+use Rattle.commands.specs.declared.outcomes.TaskOutcome.{TaskOutcome}
+use Rattle.commands.specs.declared.outcomes.TaskOutcome.TheVariants as outcome
+use Rattle.commands.specs.declared.endings.Ending.{Ending}
+use Rattle.commands.specs.Statuses.{is_silent}
+use Rattle.commands.specs.Flushing.{Flushes}
+use Rattle.commands.specs.Saying.{Says}
+use Rattle.commands.specs.Judging.{EndsUnwritten, IsStoreFailure}
+use Rattle.commands.specs.Streams.{IsBeginningOf}
+use Rattle.commands.proofs.FilesSilence.{says_loud, stops_silent, bound_silent, loads_silent, opens_silent, on_silent, disassemble_silent, assemble_silent, silent_then, unwritten_silent}
 use Rattle.commands.specs.Judging.{RefusesProgram, RefusesTable, SaysOfTable, Verifies}
 use Rattle.commands.specs.Proving.{StoresTable}
 use Rattle.commands.specs.Commands.{ShowsNone, TracesFile, RunsFile, RunsShown, VerifiesFile, ProvesFile, RechecksFile, Serves}

@@ -4,14 +4,14 @@ use Rattle.std.specs.declared.io.ErrorKind.{ErrorKind}
 use Rattle.isa_model.specs.{Program}
 use Rattle.bounds.specs.Bounds.{Bounded}
 use Rattle.frames.specs.Sources.{Origin}
-use Rattle.task_outcomes.specs.declared.forms.FileForm.{FileForm}
-use Rattle.task_outcomes.specs.declared.outcomes.TaskOutcome.{TaskOutcome}
-use Rattle.task_outcomes.specs.declared.endings.Ending.{Ending}
-use Rattle.task_outcomes.specs.Lines.{bound_line}
-use Rattle.task_outcomes.specs.Statuses.{IsWrongWords}
-use Rattle.task_outcomes.specs.Judging.{Accepts}
-use Rattle.task_outcomes.specs.Known.{Plainly}
-use Rattle.task_outcomes.specs.Files.{ReadsNone, MakesNone, LoadsNone, ReadsImage, OpensNone, RunsOn, DisassemblesFile, AssemblesFile}
+use Rattle.messages.specs.declared.forms.FileForm.{FileForm}
+use Rattle.commands.specs.declared.outcomes.TaskOutcome.{TaskOutcome}
+use Rattle.commands.specs.declared.endings.Ending.{Ending}
+use Rattle.messages.specs.Lines.{bound_line}
+use Rattle.commands.specs.Statuses.{IsWrongWords}
+use Rattle.commands.specs.Judging.{Accepts}
+use Rattle.commands.specs.Known.{Plainly}
+use Rattle.commands.specs.Files.{ReadsNone, MakesNone, LoadsNone, ReadsImage, OpensNone, RunsOn, DisassemblesFile, AssemblesFile}
 use Rattle.words.specs.Requests.{TaskRequest, RunFiles, TableFiles, Trace, Run, Verify, Prove, Recheck, Assemble, Disassemble}
 use Rattle.commands.specs.Known.{IsKnownOfProgram, IsKnownOfTable}
 use Rattle.commands.specs.Judging.{IsBoundOf, IsBoundShown, RefusesProgram, RefusesTable, Verifies}

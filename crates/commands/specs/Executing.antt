@@ -15,17 +15,17 @@ use Rattle.words.specs.declared.tasks.WordsError.{WordsError}
 use Rattle.words.specs.Requests.{TaskRequest, RunFiles, Trace}
 use Rattle.host.specs.Stops.{Noted}
 use Rattle.words.specs.Asked.{asked}
-use Rattle.task_outcomes.specs.declared.outcomes.TaskOutcome.{TaskOutcome}
-use Rattle.task_outcomes.specs.declared.endings.Ending.{Ending}
-use Rattle.task_outcomes.specs.declared.rejections.Rejection.{Rejection}
-use Rattle.task_outcomes.specs.declared.rejections.Rejection.TheVariants as rejection
-use Rattle.task_outcomes.specs.declared.forms.FileForm.{FileForm}
-use Rattle.task_outcomes.specs.Faults.{fault_lines}
-use Rattle.task_outcomes.specs.Messages.{rejection_text}
-use Rattle.task_outcomes.specs.Statuses.{IsWordsEnd, message_of, status_of}
-use Rattle.task_outcomes.specs.Saying.{AppendsPart, LacksMemory}
-use Rattle.task_outcomes.specs.Known.{Plainly, told_of}
-use Rattle.task_outcomes.specs.Flushing.{Flushes}
+use Rattle.commands.specs.declared.outcomes.TaskOutcome.{TaskOutcome}
+use Rattle.commands.specs.declared.endings.Ending.{Ending}
+use Rattle.messages.specs.declared.rejections.Rejection.{Rejection}
+use Rattle.messages.specs.declared.rejections.Rejection.TheVariants as rejection
+use Rattle.messages.specs.declared.forms.FileForm.{FileForm}
+use Rattle.messages.specs.Faults.{fault_lines}
+use Rattle.messages.specs.Messages.{rejection_text}
+use Rattle.commands.specs.Statuses.{IsWordsEnd, message_of, status_of}
+use Rattle.commands.specs.Saying.{AppendsPart, LacksMemory}
+use Rattle.commands.specs.Known.{Plainly, told_of}
+use Rattle.commands.specs.Flushing.{Flushes}
 use Rattle.commands.specs.Stopped.{stop_lines}
 use Rattle.commands.specs.Commands.{Serves}
 

@@ -4,11 +4,11 @@ use Rattle.std.specs.Io.KnownBytes.{Keeps}
 use Rattle.isa_model.specs.{Program}
 use Rattle.table_entries.specs.declared.errors.WriteTableError.{WriteTableError}
 use Rattle.proof_table.specs.Writing.{GainsTable, BeginsTable}
-use Rattle.task_outcomes.specs.declared.outcomes.TaskOutcome.{TaskOutcome}
-use Rattle.task_outcomes.specs.declared.outcomes.TaskOutcome.TheVariants.{Done}
-use Rattle.task_outcomes.specs.Saying.{Says}
-use Rattle.task_outcomes.specs.Judging.{EndsUnwritten, IsStoreFailure}
-use Rattle.task_outcomes.specs.Streams.{IsBeginningOf}
+use Rattle.commands.specs.declared.outcomes.TaskOutcome.{TaskOutcome}
+use Rattle.commands.specs.declared.outcomes.TaskOutcome.TheVariants.{Done}
+use Rattle.commands.specs.Saying.{Says}
+use Rattle.commands.specs.Judging.{EndsUnwritten, IsStoreFailure}
+use Rattle.commands.specs.Streams.{IsBeginningOf}
 
 -- `handed` is what was written to the buffer of the file at this path: a table of the program, or
 -- a beginning of one. Either the file got the whole table, and then standard output says the line;

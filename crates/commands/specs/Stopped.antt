@@ -15,8 +15,8 @@ use Rattle.host.specs.declared.stops.FrameStop.{FrameStop}
 use Rattle.host.specs.declared.stops.Stops.{Stops}
 use Rattle.host.specs.declared.traced.Traced.{Traced}
 use Rattle.host.specs.Stops.{Noted, noted_of}
-use Rattle.task_outcomes.specs.declared.outcomes.TaskOutcome.{TaskOutcome}
-use Rattle.task_outcomes.specs.declared.outcomes.TaskOutcome.TheVariants.{Done, Faulted}
+use Rattle.commands.specs.declared.outcomes.TaskOutcome.{TaskOutcome}
+use Rattle.commands.specs.declared.outcomes.TaskOutcome.TheVariants.{Done, Faulted}
 
 -- the instruction that begins at the slot, and the values of the registers that it reads
 abbrev pub insn_lines : Option Insn → List Value → List ℕ

@@ -3,14 +3,14 @@
 ghost use Rattle.std.specs.Prelude.{◌≡◌, ◌≢◌, ◌≤◌, map, MatchResult};
 ghost use Rattle.std.specs.String.{string_bytes};
 ghost use Rattle.exact_io.specs.Waiting.{held};
-ghost use Rattle.task_outcomes.specs.Flushing.{IsFlushed};
+ghost use Rattle.commands.specs.Flushing.{IsFlushed};
 ghost use Rattle.commands.specs.Executing.{ExecutesWords, TellsWordsError, IsTold, TellsDone, TellsFault};
 
+use super::outcomes::TaskOutcome;
 use super::requests::serve;
 use exact_io::PromptWriter;
 use std::io::Write;
 use std::rt::{Clock, Files};
-use task_outcomes::TaskOutcome;
 use words::{WordsError, read_words};
 
 /// Does what the arguments ask for, and returns the program's status: 0 done, 1 invalid arguments,

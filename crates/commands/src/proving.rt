@@ -3,12 +3,13 @@
 ghost use Rattle.exact_io.specs.Waiting.{behind, held};
 ghost use Rattle.commands.specs.Proving.{StoresTable};
 
+use super::outcomes::TaskOutcome;
+use super::verdicts::{say_line, say_unwritten};
 use bounds::Verified;
 use exact_io::PromptWriter;
 use proof_table::write_table;
 use std::alloc::Global;
 use std::io::Write;
-use task_outcomes::{TaskOutcome, say_line, say_unwritten};
 
 /// Writes a proof table through a buffer to a file that was opened by this path, and then a line to
 /// standard output.

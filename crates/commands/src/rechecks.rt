@@ -6,14 +6,17 @@ ghost use Rattle.rechecking.specs.Refusing.{ShowsBound};
 ghost use Rattle.commands.specs.Judging.{SaysTable, SaysOfTable, RefusesTable};
 ghost use Rattle.commands.specs.Known.{IsKnownOfTable, position_found, why_found, with_refusal};
 
+use super::endings::Ending;
+use super::outcomes::TaskOutcome;
+use super::verdicts::{say_made, say_refused};
 use bounds::Verified;
 use explanations::{EntryReason, entry_reason};
 use image::Image;
+use messages::{Rejection, table_line};
 use rechecking::{TableError, recheck};
 use std::alloc::Global;
 use std::io::Write;
 use table_entries::TableRefusal;
-use task_outcomes::{Ending, Rejection, TaskOutcome, say_made, say_refused, table_line};
 use walks::Refusal;
 
 // How a task ended, with what is known of the refusal, if it ended in one.

@@ -4,12 +4,13 @@ ghost use Rattle.std.specs.Prelude.{Some, option_map};
 ghost use Rattle.words.specs.Requests.{Run, files_of, request_of};
 ghost use Rattle.commands.specs.Commands.{Serves};
 
+use super::endings::Ending;
 use super::files::{run_verified, trace, verify_file};
+use super::images::{assemble_file, disassemble_file};
 use super::tables::{prove_file, recheck_file, run_shown};
 use std::alloc::Global;
 use std::io::Write;
 use std::rt::{Clock, Files};
-use task_outcomes::{Ending, assemble_file, disassemble_file};
 use words::{RunPaths, Task};
 
 // Runs a program after verifying it, or after testing its table if one is given.

@@ -7,13 +7,13 @@ ghost use Rattle.walks.specs.Accepting.{AcceptsAll, BoundsAll};
 ghost use Rattle.walks.specs.Counts.{HasNumber};
 ghost use Rattle.walks.specs.Refused.{IsRefused};
 
+use super::screens::Screen;
 use explorer::{Halt, Kept, Listener, Refusal, Verified, verify_with};
 use image::Image;
 use stack_state::State;
 use std::alloc::Global;
 use std::convert::Infallible;
 use std::rt::{Clock, Files};
-use task_outcomes::Screen;
 use transfer::Ways;
 
 /// After how many explored instructions the clock is read.

@@ -6,12 +6,12 @@ ghost use Rattle.isa_model.specs.Text.CanonicalText as canonical;
 ghost use Rattle.host.specs.Stops.{noted_of};
 ghost use Rattle.commands.specs.Stopped.{insn_lines, trap_line, end_line, stop_line, first_lines, more_line, stop_lines, TellsStopsOf, at_end};
 
+use super::outcomes::TaskOutcome;
 use disassembler::write_insn;
 use explanations::value_lines;
 use host::{FrameStop, HostError, Stops, Traced};
 use isa_model::{End, Insn, TrapReason, Value};
 use std::alloc::{AllocError, Global};
-use task_outcomes::TaskOutcome;
 
 // The text of an instruction.
 fn insn_text(alloc: Global, insn: &Insn) -> Result<String, AllocError>

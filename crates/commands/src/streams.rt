@@ -1,17 +1,70 @@
-//! A program that is traced on a frame stream.
+//! Programs that are run or traced on a frame stream, and how the task ends then.
 
-ghost use Rattle.commands.specs.Streams.{Traces};
 ghost use Rattle.exact_io.specs.Waiting.{behind, failure_of, held};
+ghost use Rattle.commands.specs.Streams.{EndsTask, RunsAccepted, Traces};
 
+use super::endings::Ending;
+use super::outcomes::{STANDARD_OUTPUT, TaskOutcome};
 use super::stopped::{at_end, lines_of_stops};
+use bounds::Verified;
 use exact_io::PromptWriter;
 use frames::Source;
-use host::{run_checked, tally_in};
+use host::{HostError, Tally, run, run_checked, tally_in};
 use image::Image;
+use messages::FileForm;
 use std::alloc::Global;
 use std::io::Write;
-use task_outcomes::{Ending, FileForm, outcome_of};
 use words::StepLimit;
+
+/// Returns how a task ended that ran a program on a frame stream, and wrote the frames out to the
+/// file at the path. The rest of the buffer is written to the file, unless the file has failed
+/// before. A failure of standard output is reported when it is flushed.
+pub fn outcome_of<'a, W: Write + Drop>(
+    path: &'a str,
+    form: FileForm,
+    ended: Result<Tally, HostError>,
+    file: &mut PromptWriter<W>,
+) -> TaskOutcome<'a>
+    ensures { EndsTask path.now (failure_of file.new) form ended
+        (held W.contents file.old) (W.contents (behind file.new)) result }
+{
+    match ended {
+        Ok(tally) => match file.flush() {
+            Ok(()) => match tally.fault {
+                None => TaskOutcome::Done,
+                Some((fault, _)) => TaskOutcome::Faulted(fault, form),
+            },
+            Err(error) => TaskOutcome::CannotWrite(path, Some(error.kind())),
+        },
+        Err(HostError::Memory) => TaskOutcome::NoMemory,
+        Err(HostError::Report) => {
+            let _ = file.flush();
+            TaskOutcome::CannotWrite(STANDARD_OUTPUT, None)
+        }
+        Err(HostError::Frames) => TaskOutcome::CannotWrite(path, file.failure()),
+    }
+}
+
+/// Runs an accepted program on a frame stream of this file form. The report is written to `out` as
+/// it is made, and the frames out through a buffer to a file that was opened by this path.
+pub fn run_stream<'a, R: Source + Drop, W1: Write, W2: Write + Drop>(
+    alloc: Global,
+    verified: Verified,
+    source: R,
+    form: FileForm,
+    path: &'a str,
+    out: &mut W1,
+    file: &mut PromptWriter<W2>,
+) -> TaskOutcome<'a>
+    ensures { RunsAccepted verified
+        record { bytes = R.remaining source; may_fail = R.may_fail } form path.now
+        (failure_of file.new)
+        record { report = W1.contents out.old; sent = held W2.contents file.old }
+        record { report = W1.contents out.new; sent = W2.contents (behind file.new) } result }
+{
+    let ended = run(alloc, verified, source, out, file);
+    outcome_of(path, form, ended, file)
+}
 
 /// Runs a program on a frame stream of this file form, with checks. The checked report is written
 /// to `out` as it is made, and the frames out through a buffer to a file that was opened by this

@@ -5,16 +5,19 @@ ghost use Rattle.bounds.specs.Bounds.{IsVerified};
 ghost use Rattle.words.specs.Requests.{files_of, table_files_of};
 ghost use Rattle.commands.specs.Commands.{ShowsNone, IsShown, RechecksFile, RunsShown, ProvesFile};
 
+use super::endings::Ending;
+use super::files::run_on;
+use super::images::load_image;
+use super::outcomes::TaskOutcome;
+use super::outputs::create_table;
 use super::proving::store_table;
+use super::reading::read_table;
 use super::rechecks::shown;
-use super::verdicts::judge;
+use super::verdicts::{accepted, bound_line, judge};
 use bounds::Verified;
 use std::alloc::Global;
 use std::io::Write;
 use std::rt::{Clock, Files};
-use task_outcomes::{
-    Ending, TaskOutcome, accepted, bound_line, create_table, load_image, read_table, run_on,
-};
 use words::{RunPaths, TablePaths};
 
 /// The program of an image with the bound that a table shows, or how the task ends without one: the

@@ -1,22 +1,120 @@
-//! The verifier's verdict on a program, as standard output says it, with what is known where it is
-//! refused.
+//! What standard output says of programs and of a table that was not written, with what is known
+//! where a program is refused.
 
-ghost use Rattle.std.specs.Prelude.{◌≡◌, IfOk, IfErr, OnOk};
+ghost use Rattle.std.specs.Prelude.{◌≡◌, OnOk, IfOk, IfErr, false, MatchResult};
+ghost use Rattle.std.specs.String.{string_bytes};
+ghost use Rattle.commands.specs.Statuses.{is_silent};
+ghost use Rattle.commands.specs.Judging.{Accepts, EndsUnwritten, RefusesProgram, SaysRefused, Verifies};
+ghost use Rattle.messages.specs.Lines.{bound_line};
+ghost use Rattle.commands.specs.Saying.{Says, LacksMemory};
 ghost use Rattle.bounds.specs.Bounds.{IsVerified};
 ghost use Rattle.stack_state.specs.Starts.{start};
 ghost use Rattle.walks.specs.Accepting.{BoundsAll};
 ghost use Rattle.walks.specs.Counts.{HasNumber};
-ghost use Rattle.commands.specs.Judging.{RefusesProgram, Verifies};
 ghost use Rattle.commands.specs.Known.{IsKnownOfProgram};
 
+use super::endings::Ending;
+use super::outcomes::{STANDARD_OUTPUT, TaskOutcome};
 use super::searches::verify_watched;
 use bounds::Verified;
+use control_flow::FlowError;
+use exact_io::write_bytes;
 use image::Image;
+use isa_model::Insn;
 use listeners::reason;
-use std::alloc::Global;
+use messages::{Rejection, verdict_line};
+use std::alloc::{AllocError, Global};
 use std::io::Write;
 use std::rt::{Clock, Files};
-use task_outcomes::{Ending, Rejection, TaskOutcome, accepted, say_refused};
+use table_entries::WriteTableError;
+use walks::Refusal;
+
+/// Writes a line, and ends the task with this outcome.
+pub fn say_line<'a, W: Write>(line: &str, ended: TaskOutcome<'a>, out: &mut W) -> TaskOutcome<'a>
+    requires { is_silent ended ≡ false }
+    ensures loud { is_silent result ≡ false }
+    ensures said { Says (W.contents out.old) (W.contents out.new) line.now ended.entry result }
+{
+    match write_bytes(out, line.as_bytes()) {
+        Ok(()) => ended,
+        Err(error) => TaskOutcome::CannotWrite(STANDARD_OUTPUT, Some(error.kind())),
+    }
+}
+
+/// Writes a line if there was memory for it, and ends the task with this outcome.
+pub fn say_made<'a, W: Write>(
+    line: Result<String, AllocError>,
+    ended: TaskOutcome<'a>,
+    out: &mut W,
+) -> TaskOutcome<'a>
+    requires { is_silent ended ≡ false }
+    ensures { MatchResult line
+        (λ text. Says (W.contents out.old) (W.contents out.new)
+        (string_bytes text) ended.entry result)
+        (λ _. LacksMemory (W.contents out.old) (W.contents out.new) result) }
+{
+    match line {
+        Ok(line) => say_line(line.as_str(), ended, out),
+        Err(_) => TaskOutcome::NoMemory,
+    }
+}
+
+/// Writes that a program is refused at a slot, at which this instruction begins.
+pub fn say_refused<'a, W: Write>(
+    alloc: Global,
+    refusal: Refusal,
+    slot: usize,
+    insn: Option<Insn>,
+    out: &mut W,
+) -> TaskOutcome<'a>
+    ensures { SaysRefused refusal slot insn (W.contents out.old) (W.contents out.new) result }
+{
+    match refusal {
+        Refusal::Memory | Refusal::Flow(FlowError::Memory) => TaskOutcome::NoMemory,
+        _ => say_made(
+            verdict_line(alloc, refusal, slot),
+            TaskOutcome::Refused(Rejection::Program(refusal, slot, insn)),
+            out,
+        ),
+    }
+}
+
+/// The line that says the most steps of a run.
+pub fn bound_line(alloc: Global, verified: &Verified) -> Result<String, AllocError>
+    ensures { IfOk result (λ line. string_bytes line ≡ bound_line verified.now.bound) }
+{
+    let bound = verified.bound();
+    format!(in alloc; "ok bound {bound}\n")
+}
+
+/// Says the most steps of a run.
+pub fn accepted<'a, W: Write>(alloc: Global, verified: &Verified, out: &mut W) -> TaskOutcome<'a>
+    ensures { Accepts verified.now (W.contents out.old) (W.contents out.new) result }
+{
+    say_made(bound_line(alloc, verified), TaskOutcome::Done, out)
+}
+
+/// Returns how the task ends if a table was not written to the file at the path: if the program
+/// could not be explored again, writes so.
+pub fn say_unwritten<'a, W: Write>(
+    path: &'a str,
+    error: WriteTableError,
+    out: &mut W,
+) -> TaskOutcome<'a>
+    ensures { EndsUnwritten path.now error (W.contents out.old) (W.contents out.new) result }
+{
+    match error {
+        WriteTableError::Memory => TaskOutcome::NoMemory,
+        WriteTableError::Explored => {
+            say_line(
+                "refused P10\n",
+                TaskOutcome::Refused(Rejection::Explored),
+                out,
+            )
+        }
+        WriteTableError::Writer(kind) => TaskOutcome::CannotWrite(path, Some(kind)),
+    }
+}
 
 // How a task that judged this program ended. If the program was refused, this looks for what is
 // known of the refusal; if memory runs out, nothing is.

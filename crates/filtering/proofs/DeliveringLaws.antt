@@ -15,10 +15,10 @@ use Rattle.host.specs.declared.traced.Counted.{Counted}
 use Rattle.host.specs.Counts.{Totals}
 use Rattle.host.specs.Writing.{Outputs}
 use Rattle.isa_model.specs.Machine.States.{KeyValues}
-use Rattle.task_outcomes.specs.declared.forms.FileForm.{FileForm}
-use Rattle.task_outcomes.specs.declared.outcomes.TaskOutcome.{TaskOutcome}
-use Rattle.task_outcomes.specs.Saying.{AppendsPart, LacksMemory, Says}
-use Rattle.task_outcomes.specs.Streams.{outcome_at}
+use Rattle.messages.specs.declared.forms.FileForm.{FileForm}
+use Rattle.commands.specs.declared.outcomes.TaskOutcome.{TaskOutcome}
+use Rattle.commands.specs.Saying.{AppendsPart, LacksMemory, Says}
+use Rattle.commands.specs.Streams.{outcome_at}
 use Rattle.std.specs.Prelude.{codes}
 use Rattle.filtering.specs.declared.ready.Ready.{Ready}
 use Rattle.filtering.specs.Counting.{counts_text}

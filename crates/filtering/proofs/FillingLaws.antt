@@ -8,7 +8,7 @@ use Rattle.maps.specs.Maps.{MapState, contents_of, rows_of, starting_map}
 use Rattle.maps.proofs.MapLaws.{contents_of-starting, rows_of-starting}
 use Rattle.map_texts.specs.Fillings.{FilledMaps, filled_by}
 use Rattle.map_texts.specs.Reading.{AreFilledFrom}
-use Rattle.task_outcomes.specs.declared.outcomes.TaskOutcome.{TaskOutcome}
+use Rattle.commands.specs.declared.outcomes.TaskOutcome.{TaskOutcome}
 use Rattle.filtering.specs.Filling.{BeginsNot, BeginsWith, RefusesMapText}
 
 pub rows-begun : (p : Program) (maps : List MapState) → maps ≡ map starting_map p.maps

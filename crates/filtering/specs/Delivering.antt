@@ -10,11 +10,11 @@ use Rattle.host.specs.declared.errors.HostError.TheVariants as failure
 use Rattle.host.specs.declared.traced.Counted.{Counted}
 use Rattle.host.specs.Writing.{Outputs}
 use Rattle.map_texts.specs.Listings.{text_of}
-use Rattle.task_outcomes.specs.declared.outcomes.TaskOutcome.{TaskOutcome}
-use Rattle.task_outcomes.specs.declared.outcomes.TaskOutcome.TheVariants.{NoMemory}
-use Rattle.task_outcomes.specs.Saying.{AppendsPart}
-use Rattle.task_outcomes.specs.Statuses.{IsWriteFailure, IsWriteFailureBy}
-use Rattle.task_outcomes.specs.Streams.{IsBeginningOf}
+use Rattle.commands.specs.declared.outcomes.TaskOutcome.{TaskOutcome}
+use Rattle.commands.specs.declared.outcomes.TaskOutcome.TheVariants.{NoMemory}
+use Rattle.commands.specs.Saying.{AppendsPart}
+use Rattle.commands.specs.Statuses.{IsWriteFailure, IsWriteFailureBy}
+use Rattle.commands.specs.Streams.{IsBeginningOf}
 use Rattle.filtering.specs.declared.delivering.Names.{Names}
 use Rattle.filtering.specs.declared.ready.Ready.{Ready}
 use Rattle.filtering.specs.Running.{RunsReady}

@@ -9,13 +9,13 @@ use Rattle.words.specs.declared.tasks.WordsError.{WordsError}
 use Rattle.words.specs.declared.tasks.WordsError.TheVariants.{Wrong, Memory}
 use Rattle.words.specs.FilterRequests.{FilterRequest}
 use Rattle.words.specs.FilterAsked.{AsksForText, filter_asked}
-use Rattle.task_outcomes.specs.declared.endings.Ending.{Ending}
-use Rattle.task_outcomes.specs.declared.outcomes.TaskOutcome.{TaskOutcome}
-use Rattle.task_outcomes.specs.declared.outcomes.TaskOutcome.TheVariants.{Done}
-use Rattle.task_outcomes.specs.Flushing.{Flushes}
-use Rattle.task_outcomes.specs.Known.{told_of}
-use Rattle.task_outcomes.specs.Saying.{AppendsPart, Says}
-use Rattle.task_outcomes.specs.Statuses.{status_of}
+use Rattle.commands.specs.declared.endings.Ending.{Ending}
+use Rattle.commands.specs.declared.outcomes.TaskOutcome.{TaskOutcome}
+use Rattle.commands.specs.declared.outcomes.TaskOutcome.TheVariants.{Done}
+use Rattle.commands.specs.Flushing.{Flushes}
+use Rattle.commands.specs.Known.{told_of}
+use Rattle.commands.specs.Saying.{AppendsPart, Says}
+use Rattle.commands.specs.Statuses.{status_of}
 use Rattle.filtering.specs.Files.{FiltersFiles}
 
 -- ---- a run

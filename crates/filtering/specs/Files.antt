@@ -7,11 +7,11 @@ use Rattle.isa_model.specs.Machine.States.{KeyValues}
 use Rattle.frames.specs.Sources.{Origin}
 use Rattle.host.specs.declared.traced.Counted.{Counted}
 use Rattle.host.specs.Writing.{Outputs}
-use Rattle.task_outcomes.specs.declared.forms.FileForm.{FileForm}
-use Rattle.task_outcomes.specs.declared.outcomes.TaskOutcome.{TaskOutcome}
-use Rattle.task_outcomes.specs.declared.endings.Ending.{Ending}
-use Rattle.task_outcomes.specs.Files.{LoadsNone, ReadsImage}
-use Rattle.task_outcomes.specs.Known.{Plainly}
+use Rattle.messages.specs.declared.forms.FileForm.{FileForm}
+use Rattle.commands.specs.declared.outcomes.TaskOutcome.{TaskOutcome}
+use Rattle.commands.specs.declared.endings.Ending.{Ending}
+use Rattle.commands.specs.Files.{LoadsNone, ReadsImage}
+use Rattle.commands.specs.Known.{Plainly}
 use Rattle.words.specs.declared.tasks.StepLimit.{StepLimit}
 use Rattle.words.specs.FilterRequests.{FilterRequest, JudgingRequest, Verified, Shown, Checked}
 use Rattle.commands.specs.Commands.{ShowsNone, ShowsSome}

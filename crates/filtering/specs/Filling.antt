@@ -10,12 +10,12 @@ use Rattle.map_texts.specs.declared.errors.MapTextErrorKind.{MapTextErrorKind}
 use Rattle.map_texts.specs.declared.errors.MapTextErrorKind.TheVariants.{ReadFailed}
 use Rattle.map_texts.specs.Fillings.{accepted, filled_by}
 use Rattle.map_texts.specs.Reading.{AreFilledFrom}
-use Rattle.task_outcomes.specs.declared.outcomes.TaskOutcome.{TaskOutcome}
-use Rattle.task_outcomes.specs.declared.outcomes.TaskOutcome.TheVariants.{Refused}
-use Rattle.task_outcomes.specs.declared.rejections.Rejection.TheVariants as rejection
-use Rattle.task_outcomes.specs.Files.{ReadsNone}
-use Rattle.task_outcomes.specs.Lines.{maps_line}
-use Rattle.task_outcomes.specs.Saying.{LacksMemory, Says}
+use Rattle.commands.specs.declared.outcomes.TaskOutcome.{TaskOutcome}
+use Rattle.commands.specs.declared.outcomes.TaskOutcome.TheVariants.{Refused}
+use Rattle.messages.specs.declared.rejections.Rejection.TheVariants as rejection
+use Rattle.commands.specs.Files.{ReadsNone}
+use Rattle.messages.specs.Lines.{maps_line}
+use Rattle.commands.specs.Saying.{LacksMemory, Says}
 
 -- the contents are those of new maps, or of new maps after the lines of a text that was read
 abbrev pub BeginsWith : Program → Option (List ℕ) → List KeyValues → Type 0

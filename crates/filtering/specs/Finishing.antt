@@ -8,11 +8,11 @@ use Rattle.host.specs.declared.tallies.Tally.{Tally}
 use Rattle.host.specs.Counts.{Totals, totals_of}
 use Rattle.maps.specs.Maps.{contents_of, rows_of}
 use Rattle.map_texts.specs.Listings.{text_of}
-use Rattle.task_outcomes.specs.declared.forms.FileForm.{FileForm}
-use Rattle.task_outcomes.specs.declared.outcomes.TaskOutcome.{TaskOutcome}
-use Rattle.task_outcomes.specs.Saying.{LacksMemory, Says}
-use Rattle.task_outcomes.specs.Statuses.{IsWriteFailure}
-use Rattle.task_outcomes.specs.Streams.{outcome_at}
+use Rattle.messages.specs.declared.forms.FileForm.{FileForm}
+use Rattle.commands.specs.declared.outcomes.TaskOutcome.{TaskOutcome}
+use Rattle.commands.specs.Saying.{LacksMemory, Says}
+use Rattle.commands.specs.Statuses.{IsWriteFailure}
+use Rattle.commands.specs.Streams.{outcome_at}
 use Rattle.filtering.specs.Counting.{counts_text}
 
 -- the lines say the counts, and the task ends as the stream did; or memory ran out

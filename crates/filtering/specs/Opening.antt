@@ -1,10 +1,10 @@
 -- The names of a run's files, and how a task ends if one cannot be opened.
 use Rattle.std.specs.Prelude.{ℕ, ◌⊎◌, Bool, true, false, List, Option, Some, None, bytes_eq, codes, if◌then◌else◌}
 use Rattle.words.specs.FilterRequests.{FilterRequest}
-use Rattle.task_outcomes.specs.declared.forms.FileForm.{FileForm}
-use Rattle.task_outcomes.specs.declared.forms.FileForm.TheVariants.{Pcap}
-use Rattle.task_outcomes.specs.declared.outcomes.TaskOutcome.{TaskOutcome}
-use Rattle.task_outcomes.specs.Statuses.{IsMakeFailure, IsReadFailure}
+use Rattle.messages.specs.declared.forms.FileForm.{FileForm}
+use Rattle.messages.specs.declared.forms.FileForm.TheVariants.{Pcap}
+use Rattle.commands.specs.declared.outcomes.TaskOutcome.{TaskOutcome}
+use Rattle.commands.specs.Statuses.{IsMakeFailure, IsReadFailure}
 
 -- where the frames are read: `-` is standard input
 abbrev pub frames_path : List ℕ → List ℕ

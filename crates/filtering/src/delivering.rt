@@ -7,6 +7,7 @@ ghost use Rattle.filtering.specs.Running.{program_of};
 ghost use Rattle.filtering.specs.Delivering.{Delivers, Filters, StoresMaps, names_of};
 
 use super::ready::{Ready, run_ready};
+use commands::{STANDARD_OUTPUT, TaskOutcome};
 use exact_io::PromptWriter;
 use frames::Source;
 use host::{Counted, HostError, NoReport};
@@ -14,7 +15,6 @@ use map_texts::write_maps;
 use maps::Maps;
 use std::alloc::Global;
 use std::io::{ErrorKind, Write};
-use task_outcomes::{STANDARD_OUTPUT, TaskOutcome};
 
 /// Says how messages name the outputs of a run.
 #[derive(Clone, Copy)]

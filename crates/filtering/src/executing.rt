@@ -8,11 +8,12 @@ ghost use Rattle.filtering.specs.Executing.{FiltersWords, FiltersWhole, SaysNoTa
 
 use super::files::filter_files;
 use super::opening::is_dash;
+use commands::{Ending, TaskOutcome, say_line};
 use exact_io::PromptWriter;
+use messages::write_texts;
 use std::alloc::Global;
 use std::io::Write;
 use std::rt::{Clock, Files};
-use task_outcomes::{Ending, TaskOutcome, say_line, write_texts};
 use words::{FilterTask, FilterWordsError, WordsError, read_filter_words};
 
 const USAGE: &str = "usage: xdpvm_filter IMAGE FRAMES OUT\n";

@@ -12,7 +12,7 @@ use super::filling::maps_begun;
 use super::finishing::finish;
 use super::opening::{Named, Opened, open_all, output_name};
 use super::ready::Ready;
-use commands::{judge, load_shown};
+use commands::{Ending, TaskOutcome, judge, load_image, load_shown};
 use exact_io::PromptWriter;
 use frames::Source;
 use host::Counted;
@@ -20,7 +20,6 @@ use maps::Maps;
 use std::alloc::Global;
 use std::io::Write;
 use std::rt::{Clock, Files};
-use task_outcomes::{Ending, TaskOutcome, load_image};
 use words::{FilterTask, Judging, StepLimit, TablePaths};
 
 // Runs a program, with a report or without.

@@ -5,14 +5,15 @@ ghost use Rattle.maps.specs.Maps.{contents_of, rows_of};
 ghost use Rattle.map_texts.specs.Reading.{AreFilledFrom};
 ghost use Rattle.filtering.specs.Filling.{BeginsWith, BeginsNot, RefusesMapText, SaysTextError};
 
+use commands::{TaskOutcome, say_made};
 use image::Image;
 use map_texts::{MapTextError, MapTextErrorKind, fill_maps};
 use maps::Maps;
+use messages::{Rejection, maps_line};
 use std::alloc::Global;
 use std::io::{ErrorKind, Read, Write};
 use std::rt::Files;
 use std::{fs, io};
-use task_outcomes::{Rejection, TaskOutcome, maps_line, say_made};
 
 // A source that keeps why a read of it failed.
 #[derive(Drop)]

@@ -2,17 +2,18 @@
 
 ghost use Rattle.std.specs.Prelude.{◌≡◌, false, option_map};
 ghost use Rattle.host.specs.Counts.{totals_of};
-ghost use Rattle.task_outcomes.specs.Statuses.{is_silent};
-ghost use Rattle.task_outcomes.specs.Streams.{outcome_at};
+ghost use Rattle.commands.specs.Statuses.{is_silent};
+ghost use Rattle.commands.specs.Streams.{outcome_at};
 ghost use Rattle.filtering.specs.Finishing.{WritesEnd, SaysCounts};
 
 use super::counting::counts_text;
 use super::delivering::store_maps;
 use super::opening::Named;
+use commands::{TaskOutcome, say_made};
 use host::{Counted, FrameCounts, Tally};
+use messages::FileForm;
 use std::alloc::Global;
 use std::io::Write;
-use task_outcomes::{FileForm, TaskOutcome, say_made};
 
 // How a task ends after a stream of this file form with this tally.
 fn outcome_at<'a>(form: FileForm, tally: &Tally) -> TaskOutcome<'a>

@@ -10,5 +10,5 @@ mod finishing;
 mod opening;
 mod ready;
 
+pub use commands::{TaskOutcome, buffered, is_pipe, is_unwatched, piped};
 pub use executing::{execute, execute_given};
-pub use task_outcomes::{TaskOutcome, buffered, is_pipe, is_unwatched, piped};

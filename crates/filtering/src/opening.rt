@@ -2,20 +2,21 @@
 
 ghost use Rattle.std.specs.Prelude.{◌≡◌, IfErr, IfOk, bytes_eq, codes, option_map};
 ghost use Rattle.captures.specs.Choices.{IsFramesOf, frames_left};
-ghost use Rattle.task_outcomes.specs.Statuses.{IsMakeFailure, IsReadFailure};
+ghost use Rattle.commands.specs.Statuses.{IsMakeFailure, IsReadFailure};
 ghost use Rattle.words.specs.FilterRequests.{filter_request_of};
 ghost use Rattle.filtering.specs.Opening.{IsOpenFailure, IsOutputConflict, is_capture, MakesNot, frames_path, output_name};
 
 use captures::{FramesOf, OpenFailure};
+use commands::{
+    STANDARD_OUTPUT, TaskOutcome, Watched, begin_frames, create_output, keep_apart, open_frames,
+    open_standard_output,
+};
 use exact_io::PromptWriter;
 use frames::{Ahead, Source};
+use messages::FileForm;
 use std::alloc::Global;
 use std::io::{ErrorKind, Write};
 use std::rt::{Clock, Files};
-use task_outcomes::{
-    FileForm, STANDARD_OUTPUT, TaskOutcome, Watched, begin_frames, create_output, keep_apart,
-    open_frames, open_standard_output,
-};
 use words::{FilterTask, Judging};
 
 /// An output, and the path that it was opened by.

@@ -59,7 +59,7 @@ impl Model for Maps {
     ghost use Rattle.std.specs.Coded.{coded_list};
     ghost use Rattle.maps.specs.Either.{places_of};
     ghost use Rattle.maps.specs.Maps.{MapState, map_code};
-    ghost use Rattle.maps.specs.StoreStates.{state_by, AreKept};
+    ghost use Rattle.maps.specs.StoreStates.{state_by, HaveRoomAndList};
 
     ghost Value = { List MapState };
 
@@ -67,7 +67,7 @@ impl Model for Maps {
 
     ghost view = { λ maps. map (state_by places_of) maps.stores.all.items };
 
-    ghost invariant = { λ maps. AreKept maps.stores.listed maps.stores.list.items
+    ghost invariant = { λ maps. HaveRoomAndList maps.stores.listed maps.stores.list.items
         (vec_capacity maps.stores.list) (vec_capacity maps.stores.all) maps.stores.all.items };
 }
 

@@ -1,9 +1,15 @@
-//! What calls of the crates' functions show and no command does: another clock, map stores, and
-//! reads and outputs that fail. Runs, maps and streams that the commands show are tested by the
-//! cases in tests/programs.
+//! What calls of the crates' functions show and no command does: tokens, facts of control flow,
+//! abstract states after some steps, instructions that are cut off, another clock, map stores, and
+//! reads and outputs that fail. What the commands show is tested by the cases in tests/programs.
 
 mod clocks;
+mod cuts;
+mod flows;
+mod lexemes;
 mod map_stores;
+mod outputs;
 mod programs;
 mod rows;
+mod steps;
 mod streams;
+mod tables;

@@ -9,6 +9,7 @@ use exact_io::write_bytes;
 use explorer::Refusal;
 use image::{Image, ImageError};
 use listeners::reason;
+use messages::{Rejection, file_form_of, image_line, verdict_line};
 use std::alloc::{AllocError, Global};
 use std::io;
 use std::io::Write;
@@ -24,33 +25,50 @@ pub enum Look {
     Graph,
 }
 
-/// Writes lines to standard output.
+fn write_through<W: Write>(text: &str, out: &mut W) -> io::Result<()> {
+    write_bytes(out, text.as_bytes())?;
+    out.flush()
+}
+
+/// Writes a line to standard output, and all that waits before it, so that what standard error gets
+/// comes after it.
 fn say<W: Write>(alloc: Global, text: &str, out: &mut W) -> Result<(), SurveyError> {
-    match write_bytes(out, text.as_bytes()) {
+    match write_through(text, out) {
         Ok(()) => Ok(()),
         Err(error) => Err(SurveyError::of_output(alloc, &error)),
     }
 }
 
-/// The lines for bytes that are not an image.
-fn malformed_text(alloc: Global, error: ImageError) -> Result<String, AllocError> {
-    let (code, why) = (error.code(), error.sentence());
-    format!(in alloc; "refused {code}\n{why}\n")
+/// Says that bytes are not an image, as `xdpvm verify` does, and returns the status.
+fn say_malformed<W1: Write, W2: Write>(
+    alloc: Global,
+    bytes: &[u8],
+    error: ImageError,
+    out: &mut W1,
+    err: &mut W2,
+) -> Result<u8, SurveyError>
+    ensures { IfOk result (λ status. status ≤ 2) }
+{
+    let line = image_line(alloc, error)?;
+    say(alloc, line.as_str(), out)?;
+    let _ = Rejection::Image(error, Some(file_form_of(bytes))).say(err);
+    Ok(2)
 }
 
-/// The lines for a program that is refused: the code and the slot, why, and what is known there.
-fn refused_text(
+/// Says on standard error why a program is refused, the instruction, and what is known there. After
+/// a failure nothing more is written.
+fn tell<W: Write>(
     alloc: Global,
     image: &Image,
     refusal: Refusal,
     slot: usize,
-) -> Result<String, AllocError> {
-    let (code, why) = (refusal.code(), refusal.sentence());
-    let mut text = format!(in alloc; "refused {code} slot {slot}\n{why}\n")?;
-    if let Some(known) = reason(alloc, image, refusal, slot) {
-        text.push_str(known.as_str())?;
+    err: &mut W,
+) -> io::Result<()> {
+    Rejection::Program(refusal, slot, image.at(slot).copied()).say(err)?;
+    match reason(alloc, image, refusal, slot) {
+        Some(known) => write_bytes(err, known.as_bytes()),
+        None => Ok(()),
     }
-    Ok(text)
 }
 
 fn write_look<W: Write>(
@@ -66,12 +84,15 @@ fn write_look<W: Write>(
     }
 }
 
-/// Shows an image, and returns the status: 2 if it is refused.
-fn look_into<W: Write>(
+/// Shows an image, and returns the status: 2 if it is refused. What `xdpvm verify` says of it is said
+/// then, as far as standard error is told.
+fn look_into<W1: Write, W2: Write>(
     alloc: Global,
     image: &Image,
     look: Look,
-    out: &mut W,
+    is_told: bool,
+    out: &mut W1,
+    err: &mut W2,
 ) -> Result<u8, SurveyError>
     ensures { IfOk result (λ status. status ≤ 2) }
 {
@@ -85,32 +106,36 @@ fn look_into<W: Write>(
             Err(SurveyError::of_output(alloc, &io::Error::from(kind)))
         }
         Err(LookError::Refused(refusal, slot)) => {
-            let text = refused_text(alloc, image, refusal, slot)?;
-            say(alloc, text.as_str(), out)?;
+            let line = verdict_line(alloc, refusal, slot)?;
+            say(alloc, line.as_str(), out)?;
+            if is_told {
+                let _ = tell(alloc, image, refusal, slot, err);
+            }
             Ok(2)
         }
     }
 }
 
-/// Says on standard error that the code has not got the slot whose log is wanted.
+/// Says on standard error that the code has not got the slot whose log is wanted. Returns whether
+/// standard error takes what is said.
 fn say_slot<W: Write>(
     alloc: Global,
     image: &Image,
     look: Look,
     err: &mut W,
-) -> Result<(), AllocError> {
+) -> Result<bool, AllocError> {
     if let Look::Log(Some(slot)) = look {
         let slots = image.slots();
         if slot >= slots {
             let line = no_slot_line(alloc, slot, slots)?;
-            let _ = write_bytes(err, line.as_bytes());
+            return Ok(write_bytes(err, line.as_bytes()).is_ok());
         }
     }
-    Ok(())
+    Ok(true)
 }
 
 /// Shows the image in a file, and returns the status. Standard error is told of a slot that the
-/// code has not got.
+/// code has not got, and why an image is refused.
 pub fn look_at<R: Files + AllocGlobal, W1: Write, W2: Write>(
     rt: &R,
     path: &str,
@@ -127,14 +152,10 @@ pub fn look_at<R: Files + AllocGlobal, W1: Write, W2: Write>(
     };
     match Image::parse(alloc, bytes.as_slice()) {
         Ok(image) => {
-            say_slot(alloc, &image, look, err)?;
-            look_into(alloc, &image, look, out)
+            let is_told = say_slot(alloc, &image, look, err)?;
+            look_into(alloc, &image, look, is_told, out, err)
         }
         Err(ImageError::Memory) => Err(SurveyError::Memory),
-        Err(error) => {
-            let text = malformed_text(alloc, error)?;
-            say(alloc, text.as_str(), out)?;
-            Ok(2)
-        }
+        Err(error) => say_malformed(alloc, bytes.as_slice(), error, out, err),
     }
 }

@@ -6,7 +6,7 @@ use crate::failures::{SurveyError, empty_line, file_line, unnamed_line};
 use crate::files::read_image;
 use crate::folders::{FolderFailure, NamedPath, add_folder, add_images, images};
 use crate::progress::SurveyProgress;
-use crate::tables::store_table;
+use crate::tables::{store_table, wanted_table};
 use crate::writing::{Sheet, sheet_of, write_head, write_row, write_waiting};
 use exact_io::write_bytes;
 use std::alloc::{AllocError, Global};
@@ -70,32 +70,38 @@ fn row_of_folder<W: Write>(
     }
 }
 
-/// Returns how an image is judged. If it is accepted and has not got the table that is wanted,
-/// memory ran out.
-fn verdict_of(judged: &Judged, wants_table: bool) -> Judgement {
-    match judged.verdict {
-        Judgement::Accepted if wants_table && judged.table.is_none() => Judgement::NoMemory,
+/// Returns how an image is judged. If it is accepted and lacks the table that is wanted, memory ran
+/// out.
+fn verdict_with(verdict: Judgement, lacks_table: bool) -> Judgement {
+    match verdict {
+        Judgement::Accepted if lacks_table => Judgement::NoMemory,
         verdict => verdict,
     }
 }
 
-/// The row of an image that was judged. Its table is stored where that is wanted.
-fn row_judged<R: Files>(
+/// The row of an image that was judged. Its table is made and stored where that is wanted.
+fn row_judged<R: Files + Clock>(
     rt: &R,
     alloc: Global,
     path: &str,
-    judged: &Judged,
+    judged: Judged,
     tables: Option<&str>,
 ) -> Result<Row, SurveyError> {
-    if let (Some(folder), Some(table)) = (tables, &judged.table) {
+    let Judged {
+        verdict,
+        mut counts,
+        verified,
+    } = judged;
+    let table = wanted_table(rt, alloc, verified, tables.is_some(), &mut counts);
+    if let (Some(folder), Some(table)) = (tables, &table) {
         store_table(rt, alloc, folder, path, table.as_slice())?;
     }
     let file = String::from_str(alloc, path)?;
     Ok(Row {
         file,
         is_in_folder: false,
-        verdict: verdict_of(judged, tables.is_some()),
-        counts: judged.counts,
+        verdict: verdict_with(verdict, tables.is_some() && table.is_none()),
+        counts,
     })
 }
 
@@ -111,8 +117,8 @@ fn row_of<R: Files + Clock + AllocGlobal, W: Write>(
         Ok(bytes) => bytes,
         Err(error) => return Ok(row_unread(alloc, path, error.kind(), err)?),
     };
-    let judged = judge(rt, alloc, bytes.as_slice(), tables.is_some());
-    row_judged(rt, alloc, path, &judged, tables)
+    let judged = judge(rt, alloc, bytes.as_slice());
+    row_judged(rt, alloc, path, judged, tables)
 }
 
 /// The row of a path.

@@ -1,9 +1,7 @@
 -- That a row says the verdict and the sizes of an image.
-use Rattle.std.proofs.Common.{◌≡◌, ◌⊎◌, ◌∙◌, ap, ℕ, false, List, length, Option, None, Some, Result, Ok, Err, IfOk, is_err, inl, inr, subst, sym}
+use Rattle.std.proofs.Common.{◌≡◌, ◌⊎◌, ◌∙◌, ap, ℕ, Option, None, Some, inl, inr, subst, sym}
 use Rattle.isa_model.specs.{Program}
 use Rattle.isa_model.specs.Running.Outcomes.{StartsEnd}
-use Rattle.bounds.specs.Bounds.{Bounded}
-use Rattle.rechecking.specs.Refusing.{ShowsBound}
 use Rattle.image.specs.declared.errors.ImageError.{ImageError}
 use Rattle.image.specs.declared.errors.ImageError.TheVariants as error
 use Rattle.stack_state.specs.Starts.{start}
@@ -11,7 +9,7 @@ use Rattle.walks.specs.Counts.{HasNumber}
 use Rattle.survey_rows.specs.declared.rows.Counts.{Counts}
 use Rattle.survey_rows.specs.declared.rows.Judgement.{Judgement}
 use Rattle.survey_rows.specs.declared.rows.Judgement.TheVariants as verdict
-use Rattle.surveys.specs.Judging.{IfBound, RefusesWith, SaysVerdict, SaysMalformed, LacksOther, HasTable}
+use Rattle.surveys.specs.Judging.{IfBound, RefusesWith, SaysVerdict, SaysMalformed}
 use Rattle.surveys.specs.Tallies.{HasSizes, SaysSizes, searched}
 
 -- if memory ran out, the row says nothing
@@ -24,33 +22,6 @@ pub says_bound : (p : Program) (n : ℕ) (c : Counts) → c.bound ≡ Some n →
     → StartsEnd p n → SaysVerdict p verdict.Accepted c
 says_bound p n c e number ends =
     subst (λ (b : Option ℕ). IfBound p b) (sym e) (record { number = number; ends = ends })
-
--- counts with the same bound and slot say the same with a verdict
-pub says_alike : (p : Program) (v : Judgement) (c d : Counts) → d.bound ≡ c.bound → d.slot ≡ c.slot
-    → SaysVerdict p v c → SaysVerdict p v d
-says_alike p verdict.Accepted c d bound slot h = subst (λ (b : Option ℕ). IfBound p b) (sym bound) h
-says_alike p (verdict.Refused code) c d bound slot h =
-    subst (λ (s : Option ℕ). RefusesWith p code.now s) (sym slot) h
-says_alike p verdict.Unreadable c d bound slot h = h
-says_alike p verdict.NoMemory c d bound slot h = tt
-
-pub says_same : (p : Program) (v w : Judgement) (c d : Counts) → w ≡ v → d.bound ≡ c.bound
-    → d.slot ≡ c.slot → SaysVerdict p v c → SaysVerdict p w d
-says_same p v w c d same bound slot h =
-    subst (λ (u : Judgement). SaysVerdict p u d) (sym same) (says_alike p v c d bound slot h)
-
--- counts with the same bound and slot lack the same with a verdict
-lacks_alike : (v : Judgement) (c d : Counts) → d.bound ≡ c.bound → d.slot ≡ c.slot → LacksOther v c
-    → LacksOther v d
-lacks_alike verdict.Accepted c d bound slot h = slot ∙ h
-lacks_alike (verdict.Refused code) c d bound slot h = bound ∙ h
-lacks_alike verdict.Unreadable c d bound slot h = bound ∙ h
-lacks_alike verdict.NoMemory c d bound slot h = bound ∙ h
-
-pub lacks_same : (v w : Judgement) (c d : Counts) → w ≡ v → d.bound ≡ c.bound → d.slot ≡ c.slot
-    → LacksOther v c → LacksOther w d
-lacks_same v w c d same bound slot h =
-    subst (λ (u : Judgement). LacksOther u d) (sym same) (lacks_alike v c d bound slot h)
 
 -- what a row says of one program it says of one that is equal
 pub says_at : (p q : Program) (v : Judgement) (c : Counts) → q ≡ p → SaysVerdict q v c
@@ -81,19 +52,6 @@ pub never_malformed : (found : Option ImageError) (wrong : ImageError) (v : Judg
     → found ≡ None → found ≡ Some wrong
     → SaysMalformed wrong v c
 never_malformed found wrong v c none some = absurd cc
-
--- a table that passes shows a bound of the program
-pub has_table : {E : Type 0} (p q : Program) (bytes table : List ℕ) (shown : Result Bounded E)
-    (c : Counts) → q ≡ p → bytes ≡ table → is_err shown ≡ false
-    → IfOk shown (λ v. ShowsBound q bytes v.bound) → c.table_bytes ≡ Some (length table)
-    → HasTable p table c
-has_table p q bytes table (Ok v) c program same passed closed size = record {
-  bound = v.bound;
-  shows = subst (λ (b : List ℕ). ShowsBound p b v.bound) same
-      (subst (λ (r : Program). ShowsBound r bytes v.bound) program closed);
-  size = size;
-}
-has_table p q bytes table (Err e) c program same passed closed size = absurd cc
 
 -- ---- what was counted
 

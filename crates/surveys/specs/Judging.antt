@@ -1,5 +1,5 @@
 -- What a row says of an image.
-use Rattle.std.specs.Prelude.{◌≡◌, ℕ, List, length, Option, Some, None}
+use Rattle.std.specs.Prelude.{◌≡◌, ℕ, List, Option, Some, None}
 use Rattle.isa_model.specs.{Program}
 use Rattle.isa_model.specs.Running.Outcomes.{StartsEnd}
 use Rattle.stack_state.specs.Starts.{start}
@@ -7,7 +7,6 @@ use Rattle.walks.specs.declared.refusals.Refusal.{Refusal}
 use Rattle.walks.specs.Counts.{HasNumber}
 use Rattle.walks.specs.Refused.{IsRefused}
 use Rattle.walks.specs.Messages.{code_of}
-use Rattle.rechecking.specs.Refusing.{ShowsBound}
 use Rattle.image.specs.declared.errors.ImageError.{ImageError}
 use Rattle.image.specs.declared.errors.ImageError.TheVariants as error
 use Rattle.image.specs.Messages.{code_of as image_code_of}
@@ -61,10 +60,3 @@ SaysMalformed wrong verdict.NoMemory counts = Unit {0}
 abbrev pub LacksOther : Judgement → Counts → Type 0
 LacksOther verdict.Accepted counts = counts.slot ≡ None
 LacksOther v counts = counts.bound ≡ None
-
--- the bytes are a proof table that shows a bound of the program, and the row says how many they
--- are
-pub record HasTable (p : Program) (table : List ℕ) (counts : Counts) : Type 0 where
-  pub bound : ℕ
-  pub shows : ShowsBound p table bound
-  pub size : counts.table_bytes ≡ Some (length table)

@@ -1,6 +1,6 @@
 //! Judges an image: its verdict, what was counted, and how long it took.
 
-ghost use Rattle.std.specs.Prelude.{◌≡◌, false, IfSome, None, Some};
+ghost use Rattle.std.specs.Prelude.{◌≡◌, IfSome, None, Some};
 ghost use Rattle.isa_model.specs.{Program};
 ghost use Rattle.isa_model.specs.Running.Outcomes.{StartsEnd};
 ghost use Rattle.image.specs.Images.{IsImage, image_bytes};
@@ -9,7 +9,7 @@ ghost use Rattle.walks.specs.Counts.{HasNumber};
 ghost use Rattle.walks.specs.Refused.{IsRefused};
 ghost use Rattle.image.specs.Refusals.{refusal_of};
 ghost use Rattle.image.specs.declared.errors.ImageError.{ImageError};
-ghost use Rattle.surveys.specs.Judging.{SaysVerdict, SaysMalformed, LacksOther, HasTable, slot_of};
+ghost use Rattle.surveys.specs.Judging.{SaysVerdict, SaysMalformed, LacksOther, slot_of};
 ghost use Rattle.surveys.specs.Tallies.{HasSizes, SaysSizes, searched, with_bound, with_tally};
 
 use crate::tallies::SearchTally;
@@ -17,7 +17,6 @@ use bounds::Verified;
 use control_flow::FlowError;
 use explorer::{Halt, Refusal, verify_with};
 use image::{Image, ImageError};
-use proof_table::{WriteTableError, recheck, write_table};
 use std::alloc::Global;
 use std::time::{Clock, Instant};
 use survey_rows::{Counts, Judgement};
@@ -27,12 +26,12 @@ use survey_rows::{Counts, Judgement};
 pub struct Judged {
     pub verdict: Judgement,
     pub counts: Counts,
-    /// The proof table, if one was wanted and made.
-    pub table: Option<Vec<u8>>,
+    /// The program, if it is accepted.
+    pub verified: Option<Verified>,
 }
 
 /// The microseconds since an instant, if the clock could be read.
-fn microseconds_since<C: Clock>(clock: &C, since: Option<Instant>) -> Option<u64> {
+pub fn microseconds_since<C: Clock>(clock: &C, since: Option<Instant>) -> Option<u64> {
     let elapsed = since?.elapsed(clock).ok()?;
     u64::try_from(elapsed.as_micros()).ok()
 }
@@ -41,12 +40,12 @@ fn microseconds_since<C: Clock>(clock: &C, since: Option<Instant>) -> Option<u64
 fn unjudged(counts: Counts) -> Judged
     ensures verdict { result.verdict ≡ Judgement.NoMemory }
     ensures counts { result.counts ≡ counts }
-    ensures no_table { result.table ≡ None }
+    ensures unverified { result.verified ≡ None }
 {
     Judged {
         verdict: Judgement::NoMemory,
         counts,
-        table: None,
+        verified: None,
     }
 }
 
@@ -66,7 +65,7 @@ fn malformed(error: ImageError) -> Judged
     ensures memory { error ≡ ImageError.Memory → result.verdict ≡ Judgement.NoMemory }
     ensures says { SaysMalformed error result.verdict result.counts }
     ensures other { LacksOther result.verdict result.counts }
-    ensures no_table { result.table ≡ None }
+    ensures unverified { result.verified ≡ None }
 {
     match error {
         ImageError::Memory => unjudged(Counts::default()),
@@ -76,7 +75,7 @@ fn malformed(error: ImageError) -> Judged
                 slot: slot_of(error),
                 ..Counts::default()
             },
-            table: None,
+            verified: None,
         },
     }
 }
@@ -113,7 +112,7 @@ fn refused(refusal: Refusal, slot: usize, counts: Counts) -> Judged
         → SaysVerdict p result.verdict result.counts }
     ensures other { counts.bound ≡ None → LacksOther result.verdict result.counts }
     ensures rest { searched result.counts ≡ searched counts }
-    ensures no_table { result.table ≡ None }
+    ensures unverified { result.verified ≡ None }
 {
     match refusal {
         Refusal::Memory | Refusal::Flow(FlowError::Memory) => unjudged(counts),
@@ -123,7 +122,7 @@ fn refused(refusal: Refusal, slot: usize, counts: Counts) -> Judged
                 slot: Some(slot as u64),
                 ..counts
             },
-            table: None,
+            verified: None,
         },
     }
 }
@@ -140,77 +139,27 @@ fn bounded(verified: &Verified, counts: Counts) -> Counts
 }
 
 /// The result for a program that is accepted.
-fn accepted(verified: &Verified, counts: Counts) -> Judged
-    ensures says { HasNumber verified.now.program start verified.now.bound
-        → SaysVerdict verified.now.program result.verdict result.counts }
-    ensures other { counts.slot ≡ None → LacksOther result.verdict result.counts }
-    ensures counts { result.counts ≡ with_bound counts verified.now.bound }
-    ensures no_table { result.table ≡ None }
-{
-    Judged {
-        verdict: Judgement::Accepted,
-        counts: bounded(verified, counts),
-        table: None,
-    }
-}
-
-/// Makes the proof table of a verified program and tests it, and adds its size and both times. They
-/// stay unknown for a table that is not made, or that is refused.
-fn prove<C: Clock>(clock: &C, alloc: Global, verified: Verified, judged: &mut Judged)
-    ensures verdict { judged.new.verdict ≡ judged.old.verdict }
-    ensures bound { judged.new.counts.bound ≡ judged.old.counts.bound }
-    ensures slot { judged.new.counts.slot ≡ judged.old.counts.slot }
-    ensures table { judged.old.table ≡ None → IfSome judged.new.table
-        (λ table. HasTable verified.program table.items judged.new.counts) }
-    ensures rest { searched judged.new.counts ≡ searched judged.old.counts }
-{
-    let since = Instant::now(clock).ok();
-    let mut table = Vec::new(alloc);
-    if write_table(alloc, &verified, &mut table).is_err() {
-        return;
-    }
-    let prove_microseconds = microseconds_since(clock, since);
-    let since = Instant::now(clock).ok();
-    if recheck(alloc, verified.into_image(), table.as_slice()).is_err() {
-        return;
-    }
-    judged.counts.prove_microseconds = prove_microseconds;
-    judged.counts.recheck_microseconds = microseconds_since(clock, since);
-    judged.counts.table_bytes = Some(table.len() as u64);
-    judged.table = Some(table);
-}
-
-/// The result for a verified program, with a proof table if one is wanted.
-fn judge_verified<C: Clock>(
-    clock: &C,
-    alloc: Global,
-    verified: Verified,
-    counts: Counts,
-    wants_table: bool,
-) -> Judged
+fn accepted(verified: Verified, counts: Counts) -> Judged
     ensures says { HasNumber verified.program start verified.bound
         → SaysVerdict verified.program result.verdict result.counts }
     ensures other { counts.slot ≡ None → LacksOther result.verdict result.counts }
-    ensures rest { searched result.counts ≡ searched counts }
-    ensures table { IfSome result.table
-        (λ table. HasTable verified.program table.items result.counts) }
-    ensures no_table { wants_table ≡ false → result.table ≡ None }
+    ensures counts { result.counts ≡ with_bound counts verified.bound }
+    ensures handed { result.verified ≡ Some verified }
 {
-    let mut judged = accepted(&verified, counts);
-    if !wants_table {
-        return judged;
+    let counts = bounded(&verified, counts);
+    Judged {
+        verdict: Judgement::Accepted,
+        counts,
+        verified: Some(verified),
     }
-    prove(clock, alloc, verified, &mut judged);
-    judged
 }
 
 /// Judges a program by `verify`.
-fn judge_image<C: Clock>(clock: &C, alloc: Global, image: Image, wants_table: bool) -> Judged
+fn judge_image<C: Clock>(clock: &C, alloc: Global, image: Image) -> Judged
     ensures says { SaysVerdict image result.verdict result.counts }
     ensures other { LacksOther result.verdict result.counts }
     ensures sizes { HasSizes image result.counts }
-    ensures table { IfSome result.table (λ table. HasTable image table.items result.counts) }
-    ensures no_table { wants_table ≡ false → result.table ≡ None }
+    ensures program { IfSome result.verified (λ verified. verified.program ≡ image) }
 {
     let sizes = sizes_of(&image);
     let mut tally = SearchTally::default();
@@ -224,16 +173,15 @@ fn judge_image<C: Clock>(clock: &C, alloc: Global, image: Image, wants_table: bo
         },
     );
     match found {
-        Ok(verified) => judge_verified(clock, alloc, verified, counts, wants_table),
+        Ok(verified) => accepted(verified, counts),
         Err(Halt::Refused(refusal, slot)) => refused(refusal, slot, counts),
         Err(Halt::Stopped(never)) => match never {},
     }
 }
 
 /// Judges the bytes of an image: accepted by `verify` with its bound, or refused with the code and
-/// the slot; and what was counted in the search. A proof table is made only if one is wanted, and
-/// is one that `recheck` accepts.
-pub fn judge<C: Clock>(clock: &C, alloc: Global, bytes: &[u8], wants_table: bool) -> Judged
+/// the slot; and what was counted in the search.
+pub fn judge<C: Clock>(clock: &C, alloc: Global, bytes: &[u8]) -> Judged
     ensures says { (p : Program) → IsImage p → bytes.now ≡ image_bytes p
         → SaysVerdict p result.verdict result.counts }
     ensures malformed { (wrong : ImageError) → refusal_of bytes.now ≡ Some wrong
@@ -241,12 +189,11 @@ pub fn judge<C: Clock>(clock: &C, alloc: Global, bytes: &[u8], wants_table: bool
     ensures other { LacksOther result.verdict result.counts }
     ensures sizes { (p : Program) → IsImage p → bytes.now ≡ image_bytes p
         → SaysSizes p result.verdict result.counts }
-    ensures table { (p : Program) → IsImage p → bytes.now ≡ image_bytes p
-        → IfSome result.table (λ table. HasTable p table.items result.counts) }
-    ensures no_table { wants_table ≡ false → result.table ≡ None }
+    ensures spelled { IfSome result.verified
+        (λ verified. bytes.now ≡ image_bytes verified.program) }
 {
     match Image::parse(alloc, bytes) {
-        Ok(image) => judge_image(clock, alloc, image, wants_table),
+        Ok(image) => judge_image(clock, alloc, image),
         Err(error) => malformed(error),
     }
 }

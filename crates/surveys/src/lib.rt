@@ -14,6 +14,6 @@ mod texts;
 
 pub use errors::LookError;
 pub use graphs::write_graph;
-pub use judging::{Judged, judge};
+pub use judging::{Judged, judge, microseconds_since};
 pub use listings::write_listing;
 pub use logs::write_log;

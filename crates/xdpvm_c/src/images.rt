@@ -1,14 +1,15 @@
 //! Exports that say what an image has, and write its text.
 
 ghost use Rattle.std.specs.Prelude.{◌≡◌, ◌≢◌};
-ghost use Rattle.verdict_calls.specs.Crossing.{IsVerdictStatus};
-ghost use Rattle.verdict_calls.specs.Verdicts.{IsNoImage};
-ghost use Rattle.command_calls.specs.Listings.{DescribesImage, FillsImageText};
+ghost use Rattle.calls.specs.Crossing.{IsVerdictStatus};
+ghost use Rattle.calls.specs.Verdicts.{IsNoImage};
+ghost use Rattle.calls.specs.Listings.{DescribesImage, FillsImageText};
 
-use command_calls::describing::{Described, MapRow, describe_image};
-use command_calls::disassembling::disassemble_image;
+use calls::buffers::TextSize;
+use calls::describing::{Described, MapRow, describe_image};
+use calls::disassembling::disassemble_image;
+use calls::statuses::{OK, REFUSED};
 use std::alloc::Global;
-use verdict_calls::filling::TextSize;
 
 /// Says what an image has; its map rows are written as far as there is room. Its program is not
 /// verified.
@@ -19,10 +20,10 @@ pub extern "C" fn xdpvm_describe(
     rows: &mut [MapRow],
     out: &mut Described,
 ) -> u32
-    ensures described { result ≡ 0 → DescribesImage image.now rows.old rows.new out.new }
-    ensures refused { result ≡ 2 → IsNoImage image.now }
-    ensures rows_kept { result ≢ 0 → rows.new ≡ rows.old }
-    ensures out_kept { result ≢ 0 → out.new ≡ out.old }
+    ensures described { result ≡ OK → DescribesImage image.now rows.old rows.new out.new }
+    ensures refused { result ≡ REFUSED → IsNoImage image.now }
+    ensures rows_kept { result ≢ OK → rows.new ≡ rows.old }
+    ensures out_kept { result ≢ OK → out.new ≡ out.old }
     ensures status { IsVerdictStatus result }
 {
     describe_image(alloc, image, rows, out)
@@ -37,10 +38,10 @@ pub extern "C" fn xdpvm_disassemble(
     text: &mut [u8],
     out: &mut TextSize,
 ) -> u32
-    ensures written { result ≡ 0 → FillsImageText image.now text.old text.new out.new.size }
-    ensures refused { result ≡ 2 → IsNoImage image.now }
-    ensures text_kept { result ≢ 0 → text.new ≡ text.old }
-    ensures out_kept { result ≢ 0 → out.new ≡ out.old }
+    ensures written { result ≡ OK → FillsImageText image.now text.old text.new out.new.size }
+    ensures refused { result ≡ REFUSED → IsNoImage image.now }
+    ensures text_kept { result ≢ OK → text.new ≡ text.old }
+    ensures out_kept { result ≢ OK → out.new ≡ out.old }
     ensures status { IsVerdictStatus result }
 {
     disassemble_image(alloc, image, text, out)

@@ -1,5 +1,4 @@
-//! The calls of `verdict_calls`, `table_calls`, `run_calls`, `session_calls`, `held_machines` and
-//! `command_calls`, exported for C and Rust.
+//! The calls of `calls`, exported for C and Rust.
 //!
 //! An export has no `requires`, since nothing makes a caller meet it. It is one call, and has that
 //! call's clauses. `examples/embed/xdpvm.h` declares the same for C.

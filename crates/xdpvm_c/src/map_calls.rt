@@ -4,11 +4,12 @@ ghost use Rattle.std.specs.Prelude.{◌≡◌, ◌≢◌, ◌↔◌, length, Non
 ghost use Rattle.std.specs.List.{slice_get};
 ghost use Rattle.isa_model.specs.Machine.MapContents.{at_key};
 ghost use Rattle.machine.specs.BetweenRuns.{content_at, AnswersUpdate, AnswersDelete, ordered_at};
-ghost use Rattle.verdict_calls.specs.Crossing.{IsLookUp, IsChange};
-ghost use Rattle.held_machines.specs.OpenSessions.{HoldsOpen, FitsMap, StaysOpen, FitsKey};
+ghost use Rattle.calls.specs.Crossing.{IsLookUp, IsChange};
+ghost use Rattle.calls.specs.OpenSessions.{HoldsOpen, FitsMap, StaysOpen, FitsKey};
 
-use held_machines::Session;
-use held_machines::map_calls::{Changed, delete_key, key_at_rank, look_up_key, update_key};
+use calls::Session;
+use calls::map_calls::{Changed, delete_key, key_at_rank, look_up_key, update_key};
+use calls::statuses::{ABSENT, OK, WRONG};
 use std::alloc::Global;
 
 /// Looks a key up in a map of an open program. Key and value have the sizes of the map's row.
@@ -20,14 +21,14 @@ pub extern "C" fn xdpvm_lookup(
     key: &[u8],
     value: &mut [u8],
 ) -> u32
-    ensures found { result ≡ 0 → HoldsOpen session.old.held
+    ensures found { result ≡ OK → HoldsOpen session.old.held
         (λ m. at_key key.now (content_at m map) ≡ Some value.new) }
-    ensures absent { result ≡ 7 → HoldsOpen session.old.held
+    ensures absent { result ≡ ABSENT → HoldsOpen session.old.held
         (λ m. at_key key.now (content_at m map) ≡ None) }
-    ensures fits { (result ≢ 1) ↔ HoldsOpen session.old.held
+    ensures fits { (result ≢ WRONG) ↔ HoldsOpen session.old.held
         (λ m. FitsMap m map (length key.now) (length value.old)) }
     ensures session_kept { session.new.held ≡ session.old.held }
-    ensures kept { result ≢ 0 → value.new ≡ value.old }
+    ensures kept { result ≢ OK → value.new ≡ value.old }
     ensures status { IsLookUp result }
 {
     look_up_key(alloc, session, map, key, value)
@@ -45,12 +46,12 @@ pub extern "C" fn xdpvm_update(
     flags: u64,
     out: &mut Changed,
 ) -> u32
-    ensures updated { result ≡ 0 → StaysOpen session.old.held session.new.held
+    ensures updated { result ≡ OK → StaysOpen session.old.held session.new.held
         (AnswersUpdate map key.now value.now flags out.new.answer) }
-    ensures fits { (result ≢ 1) ↔ HoldsOpen session.old.held
+    ensures fits { (result ≢ WRONG) ↔ HoldsOpen session.old.held
         (λ m. FitsMap m map (length key.now) (length value.now)) }
-    ensures session_kept { result ≢ 0 → session.new.held ≡ session.old.held }
-    ensures kept { result ≢ 0 → out.new ≡ out.old }
+    ensures session_kept { result ≢ OK → session.new.held ≡ session.old.held }
+    ensures kept { result ≢ OK → out.new ≡ out.old }
     ensures status { IsChange result }
 {
     update_key(alloc, session, map, key, value, flags, out)
@@ -66,11 +67,12 @@ pub extern "C" fn xdpvm_delete(
     key: &[u8],
     out: &mut Changed,
 ) -> u32
-    ensures deleted { result ≡ 0 → StaysOpen session.old.held session.new.held
+    ensures deleted { result ≡ OK → StaysOpen session.old.held session.new.held
         (AnswersDelete map key.now out.new.answer) }
-    ensures fits { (result ≢ 1) ↔ HoldsOpen session.old.held (λ m. FitsKey m map (length key.now)) }
-    ensures session_kept { result ≢ 0 → session.new.held ≡ session.old.held }
-    ensures kept { result ≢ 0 → out.new ≡ out.old }
+    ensures fits { (result ≢ WRONG)
+        ↔ HoldsOpen session.old.held (λ m. FitsKey m map (length key.now)) }
+    ensures session_kept { result ≢ OK → session.new.held ≡ session.old.held }
+    ensures kept { result ≢ OK → out.new ≡ out.old }
     ensures status { IsChange result }
 {
     delete_key(alloc, session, map, key, out)
@@ -87,15 +89,15 @@ pub extern "C" fn xdpvm_next(
     key: &mut [u8],
     value: &mut [u8],
 ) -> u32
-    ensures copied { result ≡ 0 → HoldsOpen session.old.held
+    ensures copied { result ≡ OK → HoldsOpen session.old.held
         (λ m. slice_get (ordered_at m map) rank ≡ Some (key.new, value.new)) }
-    ensures absent { result ≡ 7 → HoldsOpen session.old.held
+    ensures absent { result ≡ ABSENT → HoldsOpen session.old.held
         (λ m. slice_get (ordered_at m map) rank ≡ None) }
-    ensures fits { (result ≢ 1) ↔ HoldsOpen session.old.held
+    ensures fits { (result ≢ WRONG) ↔ HoldsOpen session.old.held
         (λ m. FitsMap m map (length key.old) (length value.old)) }
     ensures session_kept { session.new.held ≡ session.old.held }
-    ensures key_kept { result ≢ 0 → key.new ≡ key.old }
-    ensures value_kept { result ≢ 0 → value.new ≡ value.old }
+    ensures key_kept { result ≢ OK → key.new ≡ key.old }
+    ensures value_kept { result ≢ OK → value.new ≡ value.old }
     ensures status { IsLookUp result }
 {
     key_at_rank(alloc, session, map, rank, key, value)

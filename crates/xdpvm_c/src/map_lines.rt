@@ -2,14 +2,15 @@
 
 ghost use Rattle.std.specs.Prelude.{◌≡◌, ◌≢◌, ◌↔◌, None};
 ghost use Rattle.machine.specs.Texts.{FillsMaps};
-ghost use Rattle.held_machines.specs.OpenSessions.{HoldsOpen, StaysOpen};
-ghost use Rattle.session_calls.specs.MapTexts.{IsFilling, IsListing, ListsMaps, ReadsBackMaps, RefusesMaps, no_map_refusal};
+ghost use Rattle.calls.specs.OpenSessions.{HoldsOpen, StaysOpen};
+ghost use Rattle.calls.specs.MapTexts.{IsFilling, IsListing, ListsMaps, ReadsBackMaps, RefusesMaps, no_map_refusal};
 
-use held_machines::Session;
-use session_calls::filling::{MapRefusal, fill_session};
-use session_calls::listing::list_session;
+use calls::Session;
+use calls::buffers::TextSize;
+use calls::filling::{MapRefusal, fill_session};
+use calls::listing::list_session;
+use calls::statuses::{OK, REFUSED, WRONG};
 use std::alloc::Global;
-use verdict_calls::filling::TextSize;
 
 /// Fills the maps of an open program by the lines of a text, each an update with the flag ANY, up
 /// to the first line that is refused. What the lines before it did stays.
@@ -20,14 +21,14 @@ pub extern "C" fn xdpvm_fill(
     text: &[u8],
     out: &mut MapRefusal,
 ) -> u32
-    ensures filled { result ≡ 0 → StaysOpen session.old.held session.new.held
+    ensures filled { result ≡ OK → StaysOpen session.old.held session.new.held
         (FillsMaps text.now None) }
-    ensures alone { result ≡ 0 → out.new ≡ no_map_refusal }
-    ensures wrong { (result ≡ 1) ↔ (session.old.held ≡ None) }
-    ensures refused { result ≡ 2 → StaysOpen session.old.held session.new.held
+    ensures alone { result ≡ OK → out.new ≡ no_map_refusal }
+    ensures wrong { (result ≡ WRONG) ↔ (session.old.held ≡ None) }
+    ensures refused { result ≡ REFUSED → StaysOpen session.old.held session.new.held
         (RefusesMaps text.now out.new) }
-    ensures session_kept { result ≡ 1 → session.new.held ≡ session.old.held }
-    ensures out_kept { result ≡ 1 → out.new ≡ out.old }
+    ensures session_kept { result ≡ WRONG → session.new.held ≡ session.old.held }
+    ensures out_kept { result ≡ WRONG → out.new ≡ out.old }
     ensures status { IsFilling result }
 {
     fill_session(alloc, session, text, out)
@@ -42,13 +43,13 @@ pub extern "C" fn xdpvm_list(
     buffer: &mut [u8],
     out: &mut TextSize,
 ) -> u32
-    ensures listed { result ≡ 0 → HoldsOpen session.old.held
+    ensures listed { result ≡ OK → HoldsOpen session.old.held
         (ListsMaps buffer.old buffer.new out.new.size) }
-    ensures read_back { result ≡ 0 → HoldsOpen session.old.held ReadsBackMaps }
-    ensures wrong { (result ≡ 1) ↔ (session.old.held ≡ None) }
+    ensures read_back { result ≡ OK → HoldsOpen session.old.held ReadsBackMaps }
+    ensures wrong { (result ≡ WRONG) ↔ (session.old.held ≡ None) }
     ensures session_kept { session.new.held ≡ session.old.held }
-    ensures buffer_kept { result ≢ 0 → buffer.new ≡ buffer.old }
-    ensures out_kept { result ≢ 0 → out.new ≡ out.old }
+    ensures buffer_kept { result ≢ OK → buffer.new ≡ buffer.old }
+    ensures out_kept { result ≢ OK → out.new ≡ out.old }
     ensures status { IsListing result }
 {
     list_session(alloc, session, buffer, out)

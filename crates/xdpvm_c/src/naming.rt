@@ -2,10 +2,10 @@
 
 ghost use Rattle.std.specs.Prelude.{◌≡◌, length};
 ghost use Rattle.isa_model.specs.Reporting.Frames.{action_of};
-ghost use Rattle.verdict_calls.specs.Crossing.{filled};
-ghost use Rattle.command_calls.specs.Naming.{version, action_number};
+ghost use Rattle.calls.specs.Crossing.{filled};
+ghost use Rattle.calls.specs.Naming.{version, action_number};
 
-use command_calls::naming::{number_of_action, write_version};
+use calls::naming::{number_of_action, write_version};
 
 /// Writes the version, such as `0.1.0`, and returns how many bytes it has.
 #[unsafe(no_mangle)]

@@ -3,15 +3,16 @@
 ghost use Rattle.std.specs.Prelude.{◌≡◌, ◌≢◌, ◌<◌, ◌↔◌, length, ◌⊎◌};
 ghost use Rattle.isa_model.specs.Code.Limits.{max_steps};
 ghost use Rattle.isa_model.specs.{max_packet};
-ghost use Rattle.verdict_calls.specs.Crossing.{IsStatus, IsVerdictStatus};
-ghost use Rattle.verdict_calls.specs.Verdicts.{IsRefusedImage, IsNoImage};
-ghost use Rattle.run_calls.specs.Runs.{RunsProgram};
-ghost use Rattle.command_calls.specs.Streams.{RunsStream};
-ghost use Rattle.command_calls.specs.Traces.{ReturnsTrace};
+ghost use Rattle.calls.specs.Crossing.{IsStatus, IsVerdictStatus};
+ghost use Rattle.calls.specs.Verdicts.{IsRefusedImage, IsNoImage};
+ghost use Rattle.calls.specs.Runs.{RunsProgram};
+ghost use Rattle.calls.specs.Streams.{RunsStream};
+ghost use Rattle.calls.specs.Traces.{ReturnsTrace};
 
-use command_calls::streaming::{Streamed, run_stream};
-use command_calls::tracing::{TracedEnd, trace_once};
-use run_calls::running::{Ended, Head, run_once};
+use calls::running::{Ended, Head, run_once};
+use calls::statuses::{OK, REFUSED, WRONG};
+use calls::streaming::{Streamed, run_stream};
+use calls::tracing::{TracedEnd, trace_once};
 use std::alloc::Global;
 
 /// Verifies an image, and runs its program on a packet, on starting maps. `xdpvm_verify` says
@@ -24,15 +25,15 @@ pub extern "C" fn xdpvm_run_once(
     packet: &mut [u8],
     out: &mut Ended,
 ) -> u32
-    ensures ran { result ≡ 0 → RunsProgram image.now (record {
+    ensures ran { result ≡ OK → RunsProgram image.now (record {
       time = head.now.time;
       interface = head.now.interface;
       queue = head.now.queue;
     }) packet.old (record { r0 = out.new.r0; steps = out.new.steps }) packet.new }
-    ensures wrong { (result ≡ 1) ↔ (max_packet < length packet.old) }
-    ensures refused { result ≡ 2 → IsRefusedImage image.now }
-    ensures out_kept { result ≢ 0 → out.new ≡ out.old }
-    ensures packet_kept { result ≢ 0 → packet.new ≡ packet.old }
+    ensures wrong { (result ≡ WRONG) ↔ (max_packet < length packet.old) }
+    ensures refused { result ≡ REFUSED → IsRefusedImage image.now }
+    ensures out_kept { result ≢ OK → out.new ≡ out.old }
+    ensures packet_kept { result ≢ OK → packet.new ≡ packet.old }
     ensures status { IsStatus result }
 {
     run_once(alloc, image, head, packet, out)
@@ -49,16 +50,16 @@ pub extern "C" fn xdpvm_trace_once(
     limit: u32,
     out: &mut TracedEnd,
 ) -> u32
-    ensures traced { result ≡ 0 → ReturnsTrace image.now (record {
+    ensures traced { result ≡ OK → ReturnsTrace image.now (record {
       time = head.now.time;
       interface = head.now.interface;
       queue = head.now.queue;
     }) packet.old limit out.new packet.new }
-    ensures wrong { (result ≡ 1)
+    ensures wrong { (result ≡ WRONG)
         ↔ ((max_packet < length packet.old) ⊎ ((limit ≡ 0) ⊎ (max_steps < limit))) }
-    ensures refused { result ≡ 2 → IsNoImage image.now }
-    ensures out_kept { result ≢ 0 → out.new ≡ out.old }
-    ensures packet_kept { result ≢ 0 → packet.new ≡ packet.old }
+    ensures refused { result ≡ REFUSED → IsNoImage image.now }
+    ensures out_kept { result ≢ OK → out.new ≡ out.old }
+    ensures packet_kept { result ≢ OK → packet.new ≡ packet.old }
     ensures status { IsStatus result }
 {
     trace_once(alloc, image, head, packet, limit, out)
@@ -76,13 +77,13 @@ pub extern "C" fn xdpvm_run_stream(
     sent: &mut [u8],
     out: &mut Streamed,
 ) -> u32
-    ensures ran { result ≡ 0 → RunsStream image.now stream.now
+    ensures ran { result ≡ OK → RunsStream image.now stream.now
         report.old sent.old report.new sent.new out.new }
-    ensures read { result ≡ 0 → out.new.fault ≢ 5 }
-    ensures refused { result ≡ 2 → IsRefusedImage image.now }
-    ensures report_kept { result ≢ 0 → report.new ≡ report.old }
-    ensures sent_kept { result ≢ 0 → sent.new ≡ sent.old }
-    ensures out_kept { result ≢ 0 → out.new ≡ out.old }
+    ensures read { result ≡ OK → out.new.fault ≢ 5 }
+    ensures refused { result ≡ REFUSED → IsRefusedImage image.now }
+    ensures report_kept { result ≢ OK → report.new ≡ report.old }
+    ensures sent_kept { result ≢ OK → sent.new ≡ sent.old }
+    ensures out_kept { result ≢ OK → out.new ≡ out.old }
     ensures status { IsVerdictStatus result }
 {
     run_stream(alloc, image, stream, report, sent, out)

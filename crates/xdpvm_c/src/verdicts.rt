@@ -2,15 +2,16 @@
 
 ghost use Rattle.std.specs.Prelude.{◌≡◌, ◌≢◌, ◌<◌, ◌↔◌, ◌⊎◌};
 ghost use Rattle.isa_model.specs.Code.Limits.{max_explored};
-ghost use Rattle.verdict_calls.specs.Crossing.{IsVerdictStatus, IsDecision};
-ghost use Rattle.verdict_calls.specs.Verdicts.{ReturnsBound, FillsImageRefusal, IsUndecided};
-ghost use Rattle.table_calls.specs.Tables.{ReturnsShownBound, FillsTableRefusal};
-ghost use Rattle.command_calls.specs.Texts.{FillsAssembledImage, only_size, FillsTextRefusal};
+ghost use Rattle.calls.specs.Crossing.{IsVerdictStatus, IsDecision};
+ghost use Rattle.calls.specs.Verdicts.{ReturnsBound, FillsImageRefusal, IsUndecided};
+ghost use Rattle.calls.specs.Tables.{ReturnsShownBound, FillsTableRefusal};
+ghost use Rattle.calls.specs.Texts.{FillsAssembledImage, only_size, FillsTextRefusal};
 
-use command_calls::assembling::{Assembled, assemble_text};
+use calls::assembling::{Assembled, assemble_text};
+use calls::judging::{Verdict, verify_image};
+use calls::rechecks::{Rechecked, recheck_table};
+use calls::statuses::{MEMORY, OK, REFUSED, UNDECIDED, WRONG};
 use std::alloc::Global;
-use table_calls::rechecks::{Rechecked, recheck_table};
-use verdict_calls::judging::{Verdict, verify_image};
 
 /// Assembles a text. The image is written to `image`, and why the text is refused to `why`, as far
 /// as there is room.
@@ -22,13 +23,14 @@ pub extern "C" fn xdpvm_assemble(
     why: &mut [u8],
     out: &mut Assembled,
 ) -> u32
-    ensures assembled { result ≡ 0 → FillsAssembledImage text.now image.old image.new out.new.size }
-    ensures alone { result ≡ 0 → out.new ≡ only_size out.new.size }
-    ensures refused { result ≡ 2 → FillsTextRefusal text.now why.old why.new out.new.size
+    ensures assembled { result ≡ OK
+        → FillsAssembledImage text.now image.old image.new out.new.size }
+    ensures alone { result ≡ OK → out.new ≡ only_size out.new.size }
+    ensures refused { result ≡ REFUSED → FillsTextRefusal text.now why.old why.new out.new.size
         out.new.line out.new.column }
-    ensures image_kept { result ≢ 0 → image.new ≡ image.old }
-    ensures why_kept { result ≢ 2 → why.new ≡ why.old }
-    ensures memory { result ≡ 5 → out.new ≡ out.old }
+    ensures image_kept { result ≢ OK → image.new ≡ image.old }
+    ensures why_kept { result ≢ REFUSED → why.new ≡ why.old }
+    ensures memory { result ≡ MEMORY → out.new ≡ out.old }
     ensures status { IsVerdictStatus result }
 {
     assemble_text(alloc, text, image, why, out)
@@ -45,13 +47,13 @@ pub extern "C" fn xdpvm_verify(
     why: &mut [u8],
     out: &mut Verdict,
 ) -> u32
-    ensures accepted { result ≡ 0 → ReturnsBound image.now out.new }
-    ensures wrong { (result ≡ 1) ↔ ((limit ≡ 0) ⊎ (max_explored < limit)) }
-    ensures refused { result ≡ 2 → FillsImageRefusal image.now why.old why.new out.new }
-    ensures undecided { result ≡ 6 → IsUndecided image.now limit }
-    ensures why_kept { result ≢ 2 → why.new ≡ why.old }
-    ensures out_kept { result ≢ 0 → result ≢ 2 → out.new ≡ out.old }
-    ensures status { (result ≡ 1) ⊎ IsDecision result }
+    ensures accepted { result ≡ OK → ReturnsBound image.now out.new }
+    ensures wrong { (result ≡ WRONG) ↔ ((limit ≡ 0) ⊎ (max_explored < limit)) }
+    ensures refused { result ≡ REFUSED → FillsImageRefusal image.now why.old why.new out.new }
+    ensures undecided { result ≡ UNDECIDED → IsUndecided image.now limit }
+    ensures why_kept { result ≢ REFUSED → why.new ≡ why.old }
+    ensures out_kept { result ≢ OK → result ≢ REFUSED → out.new ≡ out.old }
+    ensures status { (result ≡ WRONG) ⊎ IsDecision result }
 {
     verify_image(alloc, image, limit, why, out)
 }
@@ -68,11 +70,11 @@ pub extern "C" fn xdpvm_recheck(
     why: &mut [u8],
     out: &mut Rechecked,
 ) -> u32
-    ensures accepted { result ≡ 0 → ReturnsShownBound image.now table.now out.new }
-    ensures refused { result ≡ 2
+    ensures accepted { result ≡ OK → ReturnsShownBound image.now table.now out.new }
+    ensures refused { result ≡ REFUSED
         → FillsTableRefusal image.now table.now why.old why.new out.new }
-    ensures why_kept { result ≢ 2 → why.new ≡ why.old }
-    ensures memory { result ≡ 5 → out.new ≡ out.old }
+    ensures why_kept { result ≢ REFUSED → why.new ≡ why.old }
+    ensures memory { result ≡ MEMORY → out.new ≡ out.old }
     ensures status { IsVerdictStatus result }
 {
     recheck_table(alloc, image, table, why, out)

@@ -3,13 +3,13 @@
 //! One function, `execute_given`, does what is asked for and returns the status.
 #![tactic(auto)]
 
+use commands::{buffered, is_unwatched};
 use exact_io::write_bytes;
 use std::fs;
 use std::os::unix::fs::FileTypeExt;
 use std::process::ExitCode;
 use std::rt::Files;
 use survey_commands::execute_given;
-use task_outcomes::{buffered, is_unwatched};
 use words::given_words;
 
 // Whether standard error is a terminal, or another device that takes characters.

@@ -3,10 +3,10 @@
 use super::buffers::holds;
 use super::images::{MAPS, OTHER, PASS};
 use super::rows::{Holds, hold_all};
-use command_calls::describing::{Described, MapRow, describe_image};
-use command_calls::disassembling::disassemble_image;
+use calls::buffers::TextSize;
+use calls::describing::{Described, MapRow, describe_image};
+use calls::disassembling::disassemble_image;
 use std::alloc::Global;
-use verdict_calls::filling::TextSize;
 
 /// The status, the slots, the map rows and the version.
 type Has = (u32, usize, usize, u32);

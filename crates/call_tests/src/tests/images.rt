@@ -1,7 +1,7 @@
 //! The images of the tests, of which docs/FORMATS.md shows the first, and the head of a packet
 //! frame.
 
-use run_calls::running::Head;
+use calls::running::Head;
 
 /// `r0 = 2; exit`.
 pub const PASS: [u8; 24] = *b"XBP1\0\0\x02\0\xb7\0\0\0\x02\0\0\0\x95\0\0\0\0\0\0\0";

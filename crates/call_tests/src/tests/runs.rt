@@ -3,9 +3,9 @@
 use super::buffers::holds;
 use super::images::{ENDLESS, HEAD, INTERFACE, ONE_FRAME, OTHER, PASS, UNGUARDED};
 use super::rows::{Holds, hold_all};
-use command_calls::streaming::{Streamed, run_stream};
-use command_calls::tracing::{TracedEnd, trace_once};
-use run_calls::running::{Ended, run_once};
+use calls::running::{Ended, run_once};
+use calls::streaming::{Streamed, run_stream};
+use calls::tracing::{TracedEnd, trace_once};
 use std::alloc::Global;
 
 /// The status, and r0 and the steps of a run on a packet of that many bytes.

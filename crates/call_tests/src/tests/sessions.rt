@@ -1,11 +1,11 @@
 //! Sessions: opened, run, looked into and closed.
 
 use super::images::{ENDLESS, HEAD, INTERFACE, MAPS, OTHER, PASS, UNGUARDED};
-use held_machines::Session;
-use held_machines::map_calls::{Changed, delete_key, key_at_rank, look_up_key, update_key};
-use held_machines::opening::{close_session, open_image, open_with_table};
-use run_calls::running::Ended;
-use session_calls::running::run_session;
+use calls::Session;
+use calls::map_calls::{Changed, delete_key, key_at_rank, look_up_key, update_key};
+use calls::opening::{close_session, open_image, open_with_table};
+use calls::running::Ended;
+use calls::session_runs::run_session;
 use std::alloc::Global;
 use std::process::Abort;
 

@@ -3,8 +3,8 @@
 use super::buffers::holds;
 use super::images::{ENDLESS, OTHER, PASS};
 use super::rows::{Holds, hold_all};
+use calls::rechecks::{Rechecked, recheck_table};
 use std::alloc::Global;
-use table_calls::rechecks::{Rechecked, recheck_table};
 
 /// The successors of the first entry, and the second entry up to its r1: all bytes after that are
 /// 0. In the second entry r0 is the number 2: value and mask, then the limits at 64 and at 32 bits.

@@ -2,15 +2,15 @@
 
 use super::buffers::holds;
 use super::images::{MAPS, ONE_FRAME};
-use command_calls::streaming::Streamed;
-use held_machines::Session;
-use held_machines::opening::{close_session, open_image};
-use session_calls::filling::{MapRefusal, fill_session};
-use session_calls::listing::list_session;
-use session_calls::streaming::stream_session;
+use calls::Session;
+use calls::buffers::TextSize;
+use calls::filling::{MapRefusal, fill_session};
+use calls::listing::list_session;
+use calls::opening::{close_session, open_image};
+use calls::session_streams::stream_session;
+use calls::streaming::Streamed;
 use std::alloc::Global;
 use std::process::Abort;
-use verdict_calls::filling::TextSize;
 
 /// A call on a session.
 enum Call {

@@ -3,10 +3,10 @@
 use super::buffers::holds;
 use super::images::{ENDLESS, OTHER, PASS, UNGUARDED};
 use super::rows::{Holds, hold_all};
-use command_calls::assembling::{Assembled, assemble_text};
-use command_calls::naming::{number_of_action, write_version};
+use calls::assembling::{Assembled, assemble_text};
+use calls::judging::{Verdict, verify_image};
+use calls::naming::{number_of_action, write_version};
 use std::alloc::Global;
-use verdict_calls::judging::{Verdict, verify_image};
 
 /// The status, the size of the image, or of the message if there is none, the line and the column.
 type Made = (u32, usize, usize, usize);

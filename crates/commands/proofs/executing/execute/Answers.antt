@@ -1,8 +1,8 @@
 use Rattle.std.proofs.Common.{◌∙◌, ◌≤◌, None, subst, sym}
 use Rattle.words.specs.Requests.{request_of}
-use Rattle.task_outcomes.specs.declared.endings.Ending.{Ending}
-use Rattle.task_outcomes.proofs.StatusesLaws.{silent_words, silent_memory, unasked_status}
-use Rattle.task_outcomes.proofs.Silence.{whole_handed_on}
+use Rattle.commands.specs.declared.endings.Ending.{Ending}
+use Rattle.commands.proofs.StatusesLaws.{silent_words, silent_memory, unasked_status}
+use Rattle.commands.proofs.FilesSilence.{whole_handed_on}
 use Rattle.commands.proofs.Knowing.{whole_knows}
 use Rattle.commands.proofs.ExecutingLaws.{done_by, done_plain, faulted_by, refused_by}
 use Rattle.commands.proofs.Silence.{whole_silent}

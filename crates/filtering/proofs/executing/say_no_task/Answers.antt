@@ -1,11 +1,11 @@
 use Rattle.std.proofs.Common.{◌≡◌, ℕ, List, Option, None, String, ap₂, refl, subst}
 use Rattle.std.specs.declared.alloc.Global.{Global}
 use Rattle.exact_io.specs.Waiting.{held}
-use Rattle.task_outcomes.specs.declared.endings.Ending.{Ending}
-use Rattle.task_outcomes.specs.declared.outcomes.TaskOutcome.{TaskOutcome}
-use Rattle.task_outcomes.specs.declared.outcomes.TaskOutcome.TheVariants.{Done}
-use Rattle.task_outcomes.specs.Flushing.{Flushes}
-use Rattle.task_outcomes.specs.Saying.{Says}
+use Rattle.commands.specs.declared.endings.Ending.{Ending}
+use Rattle.commands.specs.declared.outcomes.TaskOutcome.{TaskOutcome}
+use Rattle.commands.specs.declared.outcomes.TaskOutcome.TheVariants.{Done}
+use Rattle.commands.specs.Flushing.{Flushes}
+use Rattle.commands.specs.Saying.{Says}
 use Rattle.filtering.specs.Executing.{usage}
 use Rattle.filtering.proofs.DeliveringLaws.{said-wrong}
 use Rattle.filtering.proofs.executing.say_no_task.Goals as goal

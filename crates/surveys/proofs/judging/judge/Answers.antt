@@ -1,6 +1,3 @@
-use Rattle.std.proofs.Common.{IfSome, subst}
-use Rattle.isa_model.specs.{Program}
-use Rattle.surveys.specs.Judging.{HasTable}
 use Rattle.surveys.proofs.Verdicts.{never_malformed, says_at, says_malformed, says_nothing, says_sizes, says_no_sizes}
 use Rattle.surveys.proofs.judging.judge.Goals as goal
 
@@ -18,13 +15,6 @@ pub returns-in-Ok-clause-sizes : goal.returns-in-Ok-clause-sizes
 returns-in-Ok-clause-sizes g c =
     λ p fits bytes. says_sizes p _ c.judge_image.result.verdict c.judge_image.result.counts
     (c.in-Ok.ensures.only p fits bytes) c.judge_image.ensures.sizes
-
-pub returns-in-Ok-clause-table : goal.returns-in-Ok-clause-table
-returns-in-Ok-clause-table g c =
-    λ p fits bytes. subst
-    (λ (r : Program).
-    IfSome c.judge_image.result.table (λ t. HasTable r t.items c.judge_image.result.counts))
-    (c.in-Ok.ensures.only p fits bytes) c.judge_image.ensures.table
 
 pub returns-in-Err-clause-says : goal.returns-in-Err-clause-says
 returns-in-Err-clause-says g c =

@@ -1,8 +1,7 @@
-use Rattle.std.proofs.Common.{◌∙◌, ap, IfSome, subst}
-use Rattle.isa_model.specs.{Program}
+use Rattle.std.proofs.Common.{◌∙◌, ap}
 use Rattle.stack_state.specs.Starts.{start}
 use Rattle.survey_rows.specs.declared.rows.Counts.{Counts}
-use Rattle.surveys.specs.Judging.{HasTable}
+use Rattle.surveys.specs.Tallies.{searched}
 use Rattle.surveys.proofs.Verdicts.{says_of, sizes_kept}
 use Rattle.surveys.proofs.judging.judge_image.Goals as goal
 
@@ -11,12 +10,12 @@ verify_with-found-requires g c = record { untold = (start, tt) }
 
 pub returns-in-Ok-clause-says : goal.returns-in-Ok-clause-says
 returns-in-Ok-clause-says g c =
-    says_of _ _ _ c.judge_verified.result.verdict c.judge_verified.result.counts
-    c.in-Ok.ensures.program c.in-Ok.ensures.number c.judge_verified.ensures.says
+    says_of _ _ _ c.accepted.result.verdict c.accepted.result.counts
+    c.in-Ok.ensures.program c.in-Ok.ensures.number c.accepted.ensures.says
 
 pub returns-in-Ok-clause-other : goal.returns-in-Ok-clause-other
 returns-in-Ok-clause-other g c =
-    c.judge_verified.ensures.other
+    c.accepted.ensures.other
     (ap (λ (k : Counts). k.slot) c.counted-counts.ensures ∙ c.sizes_of-sizes.ensures.no_slot)
 
 pub returns-in-Ok-clause-sizes : goal.returns-in-Ok-clause-sizes
@@ -24,12 +23,4 @@ returns-in-Ok-clause-sizes g c =
     sizes_kept _ c.sizes_of-sizes.result c.counted-counts.result _ c.sizes_of-sizes.ensures.sizes
     (ap (λ (k : Counts). k.slots) c.counted-counts.ensures)
     (ap (λ (k : Counts). k.maps) c.counted-counts.ensures)
-    c.judge_verified.ensures.rest
-
-pub returns-in-Ok-clause-table : goal.returns-in-Ok-clause-table
-returns-in-Ok-clause-table g c =
-    subst
-    (λ (r : Program).
-    IfSome c.judge_verified.result.table
-    (λ t. HasTable r t.items c.judge_verified.result.counts))
-    c.in-Ok.ensures.program c.judge_verified.ensures.table
+    (ap (λ (k : Counts). searched k) c.accepted.ensures.counts)

@@ -19,9 +19,16 @@ returns c =
     (c.index.ensures ∙ ap (λ (all : List EitherStore). slice_index_or all at x) same) in
     let kept = subst (λ (all : List EitherStore). IsListOf (Some at) made.list.items all) (sym same)
     c.list_places.ensures.list in (
-      (refl, λ _. tt, (c.list_places.ensures.all, c.list_places.ensures.capacity,
-      subst (λ (o : Option ℕ). IsListOf o made.list.items made.all.items)
-      (sym c.list_places.ensures.listed) kept)),
+      (
+        refl,
+        λ _. tt,
+        (
+          c.list_places.ensures.all,
+          c.list_places.ensures.capacity,
+          subst (λ (o : Option ℕ). IsListOf o made.list.items made.all.items)
+              (sym c.list_places.ensures.listed) kept,
+        ),
+      ),
       record {
         pairs = c.new.ensures ∙ ap (λ (m : MapState). ordered_in m) (sym here);
         stay = tt;

@@ -1,0 +1,4 @@
+pub mod RowLaws
+pub mod SessionStreamLaws
+pub mod StreamLaws
+pub mod Values

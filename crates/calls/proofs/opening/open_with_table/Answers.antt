@@ -1,0 +1,17 @@
+use Rattle.calls.proofs.opening.open_with_table.Goals as goal
+
+pub returns-in-Ok-clause-opened : goal.returns-in-Ok-clause-opened
+returns-in-Ok-clause-opened c = λ ok. record {
+  bound = c.in-Ok.verified.bound;
+  holds =
+      record {
+        accepts =
+            record {
+              program = c.in-Ok.verified.program;
+              spelled = c.in-Ok.ensures.spelled;
+              verified = c.in-Ok.ensures.verified;
+            };
+        is = c.open.ensures.opened ok;
+      };
+  shows = c.in-Ok.ensures.shows;
+}

@@ -1,0 +1,15 @@
+pub mod Crossing
+pub mod Listings
+pub mod MapTexts
+pub mod Naming
+pub mod Numbers
+pub mod OpenSessions
+pub mod Ownership
+pub mod Runs
+pub mod SessionStreams
+pub mod Sessions
+pub mod Streams
+pub mod Tables
+pub mod Texts
+pub mod Traces
+pub mod Verdicts

@@ -1,5 +1,0 @@
-pub mod Texts
-pub mod Naming
-pub mod Traces
-pub mod Streams
-pub mod Listings

@@ -1,0 +1,97 @@
+//! How a task ended, with the lines at the end of its message.
+
+ghost use Rattle.std.specs.Prelude.{◌≡◌, None, true, OnOk, OnErr};
+ghost use Rattle.std.specs.Io.KnownBytes.{Appends};
+ghost use Rattle.exact_io.specs.Transfers.{AppendsBeginning};
+ghost use Rattle.commands.specs.Statuses.{status_of, is_unsaid};
+ghost use Rattle.commands.specs.Saying.{AppendsPart};
+ghost use Rattle.commands.specs.Known.{IsKnownOfText, told_of};
+ghost use Rattle.commands.specs.Flushing.{Flushes};
+
+use super::outcomes::{STANDARD_OUTPUT, TaskOutcome};
+use assembler::shown;
+use exact_io::{PromptWriter, write_bytes};
+use messages::Rejection;
+use std::alloc::Global;
+use std::io;
+use std::io::Write;
+
+/// Says how a task ended, and the lines at the end of its message, if there are any.
+#[derive(Drop)]
+pub struct Ending<'a> {
+    pub outcome: TaskOutcome<'a>,
+    /// Of a refused program, the registers and stack slots that concern the instruction, and
+    /// the last jumps on the path to it; of a refused entry of a proof table, what is known of its
+    /// step; of a refused text, its line and a hint; of a trace, where the runs stopped that ended
+    /// without an action.
+    pub why: Option<String>,
+}
+
+impl<'a> Ending<'a> {
+    /// A task that ended with this outcome, about which nothing more is known.
+    pub fn plain(outcome: TaskOutcome<'a>) -> Self
+        ensures outcome { result.outcome ≡ outcome.entry }
+        ensures why { result.why ≡ None }
+    {
+        Ending { outcome, why: None }
+    }
+
+    /// Returns how a task that read this text ended. If the text was refused, its line is shown
+    /// with a hint; if memory runs out, nothing is shown.
+    pub fn of_text(alloc: Global, text: &[u8], outcome: TaskOutcome<'a>) -> Self
+        ensures outcome { result.outcome ≡ outcome.entry }
+        ensures known { IsKnownOfText text.now result }
+    {
+        let why = match outcome {
+            TaskOutcome::Refused(Rejection::Text(error)) => shown(alloc, text, error).ok(),
+            _ => None,
+        };
+        Ending { outcome, why }
+    }
+
+    /// Flushes standard output after a task. If the flush fails, that failure becomes the task's
+    /// outcome: it says why standard output failed, even if an earlier write had failed too. If the
+    /// task wrote nothing to standard output, it is left unchanged.
+    pub fn flushed<W: Write + Drop>(self, out: &mut PromptWriter<W>) -> Self
+        ensures { Flushes W.contents out.old out.new self.entry result }
+    {
+        if self.outcome.is_silent() {
+            return self;
+        }
+        match out.flush() {
+            Ok(()) => self,
+            Err(error) => {
+                Ending::plain(TaskOutcome::CannotWrite(STANDARD_OUTPUT, Some(error.kind())))
+            }
+        }
+    }
+
+    // Says what went wrong, and then what is known.
+    fn say<W: Write>(&self, err: &mut W) -> io::Result<()>
+        ensures ok { OnOk result
+            (Appends (W.contents err.old) (W.contents err.new) (told_of self.now)) }
+        ensures err { OnErr result
+            (AppendsBeginning (W.contents err.old) (W.contents err.new) (told_of self.now)) }
+        ensures unsaid { is_unsaid self.now.outcome ≡ true → self.now.why ≡ None
+            → W.contents err.new ≡ W.contents err.old }
+    {
+        self.outcome.say(err)?;
+        match &self.why {
+            Some(why) => write_bytes(err, why.as_bytes()),
+            None => Ok(()),
+        }
+    }
+
+    /// Says on standard error what went wrong and what is known, and returns the program's status.
+    /// A failure of standard error is not reported.
+    pub fn tell<W: Write>(self, err: &mut W) -> u8
+        ensures status { result ≡ status_of self.entry.outcome }
+        ensures said { AppendsPart (W.contents err.old) (W.contents err.new)
+            (told_of self.entry) }
+        ensures unsaid { is_unsaid self.entry.outcome ≡ true → self.entry.why ≡ None
+            → W.contents err.new ≡ W.contents err.old }
+    {
+        let _ = self.say(err);
+        self.outcome.status()
+    }
+}

@@ -1,2 +1,0 @@
-pub mod OpenSessions
-pub mod Ownership

@@ -1,0 +1,2 @@
+pub mod MessagesLaws
+pub mod Written

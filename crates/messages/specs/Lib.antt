@@ -1,0 +1,5 @@
+pub mod Faults
+pub mod Forms
+pub mod Lines
+pub mod Messages
+pub mod Texts

@@ -1,0 +1,20 @@
+//! What is said of a refused text, image, program or proof table, and of a frame stream's fault: for
+//! the command line a line on standard output, and a sentence with its position and a hint on
+//! standard error; for a caller's buffer the same as one message.
+#![tactic(auto)]
+
+mod faults;
+mod forms;
+mod lines;
+mod rejections;
+mod table_texts;
+mod texts;
+mod whole_texts;
+
+pub use faults::say_fault;
+pub use forms::{FileForm, file_form_of};
+pub use lines::{image_line, maps_line, table_line, text_line, verdict_line};
+pub use rejections::Rejection;
+pub use table_texts::table_text;
+pub use texts::write_texts;
+pub use whole_texts::{image_text, program_text, source_text};

@@ -1,4 +1,0 @@
-use Rattle.refusal_texts.proofs.texts.known_of.Goals as goal
-
-pub returns-then-asked-clause-known : goal.returns-then-asked-clause-known
-returns-then-asked-clause-known c = c.reason.ensures

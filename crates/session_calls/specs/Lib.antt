@@ -1,3 +1,0 @@
-pub mod Sessions
-pub mod MapTexts
-pub mod SessionStreams

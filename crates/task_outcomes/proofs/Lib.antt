@@ -1,9 +1,0 @@
-mod Written
-mod Delivered
-mod FirstBytes
-pub mod StatusesLaws
-pub mod MessagesLaws
-pub mod FilesLaws
-pub mod Silence
-mod SettledBytes
-mod ShownNames

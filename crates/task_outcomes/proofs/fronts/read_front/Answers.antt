@@ -1,8 +1,0 @@
-use Rattle.std.proofs.Common.{rules, refl}
-use Rattle.task_outcomes.proofs.FirstBytes.{file_form_whole}
-use Rattle.task_outcomes.proofs.fronts.read_front.Goals as goal
-
-pub returns-in-Whole-clause-form : goal.returns-in-Whole-clause-form
-returns-in-Whole-clause-form g c =
-    file_form_whole _ _ _ c.fill.new.buffer c.file_form_of.result c.file_form_of.ensures refl
-    (search rules) c.in-Whole.ensures.fills

@@ -1,5 +1,0 @@
-use Rattle.task_outcomes.proofs.SettledBytes.{settled_front}
-use Rattle.task_outcomes.proofs.reading.is_refused.Goals as goal
-
-pub returns-in-Ok : goal.returns-in-Ok
-returns-in-Ok c = λ yes. settled_front _ _ c.whole_lines.ensures (c.in-Ok.ensures.settled yes)

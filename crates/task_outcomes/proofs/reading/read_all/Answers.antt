@@ -1,5 +1,0 @@
-use Rattle.std.proofs.Common.{rules}
-use Rattle.task_outcomes.proofs.reading.read_all.Goals as goal
-
-pub returns : goal.returns
-returns g c = search rules

@@ -1,3 +1,0 @@
-pub mod Crossing
-pub mod Numbers
-pub mod Verdicts
