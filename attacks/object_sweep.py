@@ -57,13 +57,13 @@ def of_cases(program: str, every: int = 1) -> Iterator[Tuple[str, bytes]]:
             yield f"{where}{names or ''}", made
 
 
-def case_image(program: str, kind: str, value: str, bytes_of: Callable[[str], bytes]) -> Optional[bytes]:
+def case_image(program: str, kind: str, value: str, spelled: Callable[[str], bytes]) -> Optional[bytes]:
     """The image of a case, if it has one."""
     if kind == "image":
-        return bytes_of(value)
+        return spelled(value)
     with tempfile.TemporaryDirectory() as folder:
         with open(f"{folder}/text", "wb") as file:
-            file.write(value.encode() if kind == "text" else bytes_of(value))
+            file.write(value.encode() if kind == "text" else spelled(value))
         ran = subprocess.run([program, "asm", f"{folder}/text", f"{folder}/image"], capture_output=True, check=False)
         return bytes_of(f"{folder}/image") if ran.returncode == 0 else None
 
