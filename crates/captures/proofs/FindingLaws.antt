@@ -1,105 +1,186 @@
 -- What a step finds, by the bytes that were taken to the front of the block.
-use Rattle.std.proofs.Common.{◌≡◌, ℕ, suc, ◌≤◌, List, [], ◌∷◌, ◌++◌, length, take, drop, Option, Some, None, IfSome, refl, sym, ap, ◌∙◌, subst, arith, length-append, length-drop}
-use Rattle.std.proofs.lemmas.List.{drop_at, take-append-le, drop-append-le}
-use Rattle.std.specs.Io.KnownBytes.{prepend_known}
-use Rattle.captures.specs.declared.forms.PcapForm.{PcapForm}
+use Rattle.std.proofs.Common.{◌≡◌, ℕ, suc, ◌≤◌, List, [], ◌∷◌, ◌++◌, length, max, Option, Some, None, Result, Ok, Err, IfSome, IfOk, sym, ap, ◌∙◌, subst, arith, length-append}
+use Rattle.std.proofs.lemmas.List.{drop_at, take_at}
+use Rattle.std.specs.Io.KnownBytes.{Keeps, prepend_known}
+use Rattle.captures.specs.declared.forms.CaptureFormat.{CaptureFormat}
+use Rattle.captures.specs.declared.forms.CaptureFormat.TheVariants as formats
+use Rattle.captures.specs.declared.interfaces.Interface.{Interface}
+use Rattle.captures.specs.declared.packets.PacketFault.{PacketFault}
 use Rattle.captures.specs.declared.packets.PacketEnd.{PacketEnd}
+use Rattle.captures.specs.declared.packets.PacketEnd.TheVariants as ending
+use Rattle.captures.specs.declared.records.TakenRecord.TheVariants as taken
+use Rattle.captures.specs.declared.gathering.Gathered.{Gathered}
+use Rattle.captures.specs.declared.gathering.Gathered.TheVariants as gathered
 use Rattle.captures.specs.Collecting.{Collects}
-use Rattle.captures.specs.Pcap.{CapturedPacket, field, max_captured, captured_length, packet_size, packet_bytes, packet_of, stop_at, moved, packets_from}
-use Rattle.captures.specs.declared.reader.Gathered.{Gathered}
-use Rattle.captures.specs.declared.reader.Gathered.TheVariants as gathered
+use Rattle.captures.specs.Pcap.{CapturedPacket, packet_of}
+use Rattle.captures.specs.Pcapng.{SaidBlock, block_said}
+use Rattle.captures.specs.Captured.{head_size, max_record, record_size, SaidRecord, said_of_block, record_said, found_said, first_record, moved, packets_from}
+use Rattle.captures.specs.Packets.{said_with}
 use Rattle.captures.specs.Steps.{IsGathered}
-use Rattle.captures.specs.Reading.{Before, Past, FindsPacket, FoundPacket, FoundEnd, Unread}
-use Rattle.captures.proofs.PcapLaws.{field-append, stop_at-none, packets_from-stops, packets_from-goes_on, packets_from-fuel}
+use Rattle.captures.specs.Reading.{CapturePosition, Before, Past, CaptureFinding, FoundEnd, Unread, FindsPacket, then_packets, IsPartOf}
+use Rattle.captures.proofs.CapturedLaws.{head_size-some, record_size-append, record_size-least, first_record-whole, packets_from-stops, packets_from-goes_on, packets_behind, with_packets, packets_from-fuel}
 
--- the packets end there
-pub finds_end : (form : PcapForm) (offset : ℕ) (old new : Option (List ℕ)) (held front : List ℕ)
-    (stop : PacketEnd) → Collects old new held front
-    → IfSome new (λ bytes. stop_at form offset (front ++ bytes) ≡ Some stop)
-    → FindsPacket (Before form offset) (prepend_known held old) (Past stop)
-    (prepend_known front new) (FoundEnd stop)
-finds_end form offset None new held front stop moved ends = tt
-finds_end form offset (Some bytes) None held front stop moved ends = absurd moved.kept
-finds_end form offset (Some bytes) (Some rest) held front stop moved ends =
-    ap (λ l. packets_from (suc (length l)) form offset l) (sym moved.kept)
-    ∙ packets_from-stops (length (front ++ rest)) form offset (front ++ rest) stop ends
+-- no bytes are a part of any record
+pub part_none : (format : CaptureFormat) → IsPartOf format []
+part_none format = go (record_size format [])
+  where
+    go : (r : Result ℕ PacketFault) → IfOk r (λ size. 0 ≤ max (head_size format) size)
+    go (Err fault) = tt
+    go (Ok size) = omega arith
 
--- nothing is found yet
-pub finds_none : (form : PcapForm) (offset : ℕ) (old new : Option (List ℕ)) (held front : List ℕ)
-    → Collects old new held front
-    → FindsPacket (Before form offset) (prepend_known held old) (Before form offset)
-    (prepend_known front new) Unread
-finds_none form offset None new held front moved = tt
-finds_none form offset (Some bytes) None held front moved = absurd moved.kept
-finds_none form offset (Some bytes) (Some rest) held front moved =
-    ap (λ l. packets_from (suc (length l)) form offset l) (sym moved.kept)
+abbrev packets_in : Result SaidRecord PacketFault → List CapturedPacket
+packets_in (Ok said) = said.packets
+packets_in (Err fault) = []
 
--- a packet is known by its record's numbers and its bytes
-packet_of-same : (form : PcapForm) (xs ys : List ℕ)
-    → field form.order 0 xs ≡ field form.order 0 ys → field form.order 4 xs ≡ field form.order 4 ys
-    → field form.order 12 xs ≡ field form.order 12 ys → packet_bytes form xs ≡ packet_bytes form ys
-    → packet_of form xs ≡ packet_of form ys
-packet_of-same form xs ys a b c d = rw (a, b, c, d) refl
+abbrev format_in : CaptureFormat → Result SaidRecord PacketFault → CaptureFormat
+format_in other (Ok said) = said.format
+format_in other (Err fault) = other
 
--- the packet of a record depends on no byte after it
-packet_of-append : (form : PcapForm) (front rest : List ℕ) → length front ≡ packet_size form front
-    → packet_of form (front ++ rest) ≡ packet_of form front
-packet_of-append form front rest size =
-    let n = captured_length form front in
-    let seconds = field-append form.order 0 front rest (omega arith) in
-    let fraction = field-append form.order 4 front rest (omega arith) in
-    let told = field-append form.order 8 front rest (omega arith) in
-    let original = field-append form.order 12 front rest (omega arith) in
-    let bytes : packet_bytes form (front ++ rest) ≡ packet_bytes form front =
-    ap (λ m. take m (drop 16 (front ++ rest))) told
-    ∙ ap (take n) (drop-append-le 16 front rest (omega arith))
-    ∙ take-append-le n (drop 16 front) rest (omega (arith, length-drop 16 front)) in
-    packet_of-same form (front ++ rest) front seconds fraction original bytes
+-- a record without a packet leaves the format, and so the room that records take
+pub passed_room : (format after : CaptureFormat) (old new : List Interface)
+    (block bytes : List ℕ)
+    → said_with format new block (Ok (taken.Passed after)) ≡ record_said format old bytes
+    → max_record after ≡ max_record format
+passed_room (formats.Pcap form) after old new block bytes h =
+    let none : [] ≡ packet_of form bytes ∷ [] = ap packets_in h in absurd cc
+passed_room (formats.Pcapng order) after old new block bytes h =
+    go (block_said (record { order = order; interfaces = old }) bytes) h
+  where
+    go : (r : Result SaidBlock PacketFault)
+        → said_with (formats.Pcapng order) new block (Ok (taken.Passed after)) ≡ said_of_block r
+        → max_record after ≡ max_record (formats.Pcapng order)
+    go (Err fault) h = absurd cc
+    go (Ok said) h = ap max_record (ap (format_in after) h)
 
--- the packet at the front of the block is the next one
-pub finds_packet : (form : PcapForm) (offset size : ℕ) (old new : Option (List ℕ))
-    (held front : List ℕ) (packet : CapturedPacket) → Collects old new held front
-    → size ≡ packet_size form front → captured_length form front ≤ max_captured
-    → length front ≡ size → packet ≡ packet_of form front
-    → FindsPacket (Before form offset) (prepend_known held old) (Before form (moved offset size))
-    (prepend_known [] new) (FoundPacket packet)
-finds_packet form offset size None new held front packet moved is fits long same = tt
-finds_packet form offset size (Some bytes) None held front packet moved is fits long same =
-    absurd moved.kept
-finds_packet form offset size (Some bytes) (Some rest) held front packet taken is fits long same =
-    let all = front ++ rest in
-    let told : captured_length form all ≡ captured_length form front =
-    field-append form.order 8 front rest (omega arith) in
-    let whole : packet_size form all ≡ size = omega arith in
-    let left : drop (packet_size form all) all ≡ rest =
-    ap (λ n. drop n all) whole ∙ drop_at front rest size long in
-    let behind : packets_from (length all) form (moved offset (packet_size form all))
-    (drop (packet_size form all) all)
-    ≡ packets_from (suc (length rest)) form (moved offset size) rest =
-    ap (λ n. packets_from (length all) form (moved offset n) (drop (packet_size form all) all))
-    whole
-    ∙ ap (packets_from (length all) form (moved offset size)) left
-    ∙ packets_from-fuel (length all) (suc (length rest)) form (moved offset size) rest
-    (omega (arith, length-append front rest)) (omega arith) in
-    ap (λ l. packets_from (suc (length l)) form offset l) (sym taken.kept)
-    ∙ packets_from-goes_on (length all) form offset all
-    (stop_at-none form offset all (omega arith) (omega (arith, length-append front rest)))
-    ∙ ap (λ (t : List CapturedPacket × PacketEnd). (packet_of form all ∷ t.0, t.1)) behind
-    ∙ ap (λ (p : CapturedPacket). (
-      p ∷ (packets_from (suc (length rest)) form (moved offset size)
-          rest).0,
-      (packets_from (suc (length rest)) form (moved offset size) rest).1,
-    ))
-    (packet_of-append form front rest (omega arith) ∙ sym same)
+module _ (format : CaptureFormat) (interfaces : List Interface) (offset : ℕ)
+    (old new : Option (List ℕ)) (held front : List ℕ) (moves : Collects old new held front) where
+  -- nothing is found yet
+  pub finds_none :
+      FindsPacket (Before format interfaces offset) (prepend_known held old)
+      (Before format interfaces offset) (prepend_known front new) Unread
+  finds_none = go old new moves.kept
+    where
+      go : (old new : Option (List ℕ))
+          → Keeps (prepend_known held old) (prepend_known front new)
+          → FindsPacket (Before format interfaces offset) (prepend_known held old)
+          (Before format interfaces offset) (prepend_known front new) Unread
+      go None new h = tt
+      go (Some bytes) None h = absurd h
+      go (Some bytes) (Some rest) h =
+          ap (λ l. packets_from (suc (length l)) format interfaces offset l) (sym h)
+
+  -- the packets end there
+  pub finds_end : (later : List ℕ) (stop : PacketEnd)
+      → IfSome new (λ bytes. first_record format interfaces offset (front ++ bytes) ≡ Err stop)
+      → FindsPacket (Before format interfaces offset) (prepend_known held old) (Past stop)
+      (prepend_known later new) (FoundEnd stop)
+  finds_end later stop ends = go old new moves.kept ends
+    where
+      go : (old new : Option (List ℕ))
+          → Keeps (prepend_known held old) (prepend_known front new)
+          → IfSome new
+          (λ bytes. first_record format interfaces offset (front ++ bytes) ≡ Err stop)
+          → FindsPacket (Before format interfaces offset) (prepend_known held old) (Past stop)
+          (prepend_known later new) (FoundEnd stop)
+      go None new h ends = tt
+      go (Some bytes) None h ends = absurd h
+      go (Some bytes) (Some rest) h ends =
+          ap (λ l. packets_from (suc (length l)) format interfaces offset l) (sym h)
+          ∙ packets_from-stops (length (front ++ rest)) format interfaces offset (front ++ rest)
+          stop ends
+
+  -- a whole record is at the front, whatever the rest of the source's bytes is
+  record_there : (size : ℕ) (bytes : List ℕ) → record_size format front ≡ Ok size
+      → length front ≡ size
+      → first_record format interfaces offset (front ++ bytes)
+      ≡ found_said offset size (record_said format interfaces front)
+  record_there size bytes is long =
+      let least = record_size-least format front size is in
+      first_record-whole format interfaces offset (front ++ bytes) size
+      (record_size-append format front bytes (omega arith) ∙ is)
+      (omega (arith, length-append front bytes))
+      ∙ ap (λ l. found_said offset size (record_said format interfaces l))
+      (take_at front bytes size long)
+
+  -- a record that is none
+  pub finds_fault : (later : List ℕ) (size : ℕ) (fault : PacketFault)
+      → record_size format front ≡ Ok size → length front ≡ size
+      → record_said format interfaces front ≡ Err fault
+      → FindsPacket (Before format interfaces offset) (prepend_known held old)
+      (Past (ending.Fault fault offset)) (prepend_known later new)
+      (FoundEnd (ending.Fault fault offset))
+  finds_fault later size fault is long says =
+      finds_end later (ending.Fault fault offset) (always new)
+    where
+      always : (rest : Option (List ℕ)) → IfSome rest (λ bytes.
+          first_record format interfaces offset (front ++ bytes)
+          ≡ Err (ending.Fault fault offset))
+      always None = tt
+      always (Some bytes) =
+          record_there size bytes is long ∙ ap (found_said offset size) says
+
+  -- the record at the front of the block is the next one
+  pub finds_said : (size : ℕ) (said : SaidRecord) (finding : CaptureFinding)
+      → record_size format front ≡ Ok size → length front ≡ size
+      → record_said format interfaces front ≡ Ok said
+      → ((later : List CapturedPacket × PacketEnd)
+      → (said.packets ++ later.0, later.1) ≡ then_packets finding later)
+      → FindsPacket (Before format interfaces offset) (prepend_known held old)
+      (Before said.format said.interfaces (moved offset size)) (prepend_known [] new) finding
+  finds_said size said finding is long says agree = go old new moves.kept
+    where
+      behind : (rest : List ℕ)
+          → packets_behind (length (front ++ rest)) (record { size = size; said = said }) offset
+          (front ++ rest)
+          ≡ packets_from (suc (length rest)) said.format said.interfaces (moved offset size) rest
+      behind rest =
+          let all = front ++ rest in
+          let least = record_size-least format front size is in
+          ap (packets_from (length all) said.format said.interfaces (moved offset size))
+          (drop_at front rest size long)
+          ∙ packets_from-fuel (length all) (suc (length rest)) said.format said.interfaces
+          (moved offset size) rest
+          (omega (arith, length-append front rest, head_size-some format)) (omega arith)
+
+      go : (old new : Option (List ℕ))
+          → Keeps (prepend_known held old) (prepend_known front new)
+          → FindsPacket (Before format interfaces offset) (prepend_known held old)
+          (Before said.format said.interfaces (moved offset size)) (prepend_known [] new)
+          finding
+      go None new h = tt
+      go (Some bytes) None h = absurd h
+      go (Some bytes) (Some rest) h =
+          let all = front ++ rest in
+          ap (λ l. packets_from (suc (length l)) format interfaces offset l) (sym h)
+          ∙ packets_from-goes_on (length all) format interfaces offset all
+          (record { size = size; said = said })
+          (record_there size rest is long ∙ ap (found_said offset size) says)
+          ∙ ap (with_packets (record { size = size; said = said })) (behind rest)
+          ∙ agree (packets_from (suc (length rest)) said.format said.interfaces
+          (moved offset size) rest)
 
 -- ---- what was gathered
 
-module _ (form : PcapForm) (offset : ℕ) (rest : Option (List ℕ)) (front : List ℕ) (how : Gathered)
-    (h : IsGathered form offset rest front how) where
+module _ (format : CaptureFormat) (interfaces : List Interface) (offset : ℕ)
+    (rest : Option (List ℕ)) (front : List ℕ) (how : Gathered)
+    (h : IsGathered format interfaces offset rest front how) where
   pub was_record : (size : ℕ) → how ≡ gathered.Record size
-      → IsGathered form offset rest front (gathered.Record size)
-  was_record size is = subst (IsGathered form offset rest front) is h
+      → (record_size format front ≡ Ok size) × (length front ≡ size)
+  was_record size is = subst (IsGathered format interfaces offset rest front) is h
 
   pub was_stopped : (stop : PacketEnd) → how ≡ gathered.Stopped stop
-      → IfSome rest (λ bytes. stop_at form offset (front ++ bytes) ≡ Some stop)
-  was_stopped stop is = subst (IsGathered form offset rest front) is h
+      → IfSome rest (λ bytes. first_record format interfaces offset (front ++ bytes) ≡ Err stop)
+  was_stopped stop is = subst (IsGathered format interfaces offset rest front) is h
+
+  pub was_unread : how ≡ gathered.Failed → IsPartOf format front
+  was_unread is = subst (IsGathered format interfaces offset rest front) is h
+
+-- ---- one step after another
+
+-- nothing yet, and then what is found
+pub then_finds : (a b c : CapturePosition) (x y z : Option (List ℕ)) (finding : CaptureFinding)
+    → FindsPacket a x b y Unread → FindsPacket b y c z finding → FindsPacket a x c z finding
+then_finds a b c None y z finding first second = tt
+then_finds a b c (Some xs) None z finding first second = absurd first
+then_finds a b c (Some xs) (Some ys) None finding first second = absurd second
+then_finds a b c (Some xs) (Some ys) (Some zs) finding first second = first ∙ second

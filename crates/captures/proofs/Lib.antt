@@ -1,8 +1,11 @@
 pub mod PcapLaws
+pub mod PcapngLaws
+pub mod CapturedLaws
 pub mod Collection
+pub mod GatheringLaws
 pub mod LinkLaws
-pub mod PacketLaws
-pub mod Gathering
-pub mod FindingLaws
 pub mod StreamLaws
+pub mod TimeLaws
+pub mod PacketLaws
+pub mod FindingLaws
 pub mod OpeningLaws

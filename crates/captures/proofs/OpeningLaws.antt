@@ -1,26 +1,49 @@
 -- Laws of the head of a capture that was read.
-use Rattle.std.proofs.Common.{◌≡◌, ℕ, suc, ◌<◌, List, [], ◌++◌, length, take, Option, Some, None, Ok, Err, ap, ◌∙◌, arith, length-append, append-nil}
-use Rattle.std.proofs.lemmas.List.{drop_at, length-take-le}
+use Rattle.std.proofs.Common.{◌≡◌, ℕ, suc, ◌+◌, ◌*◌, ◌<◌, ◌≤◌, List, [], ◌++◌, length, take, drop, max, get_or, Bool, true, false, Option, Some, None, Result, Ok, Err, IfOk, refl, sym, ap, subst, ◌∙◌, arith, le-ltb, length-append, append-nil, length-drop}
+use Rattle.std.specs.Prelude.{nat_lt}
+use Rattle.std.proofs.lemmas.Bool.Decides.{nat_tests}
+use Rattle.std.proofs.lemmas.List.{drop-append-le, length-take-le}
 use Rattle.std.specs.Io.KnownBytes.{Consumes, IsAtEnd, prepend_known}
+use Rattle.captures.specs.declared.forms.NumberOrder.{NumberOrder}
+use Rattle.captures.specs.declared.forms.NumberOrder.TheVariants.{HighFirst, LowFirst}
 use Rattle.captures.specs.declared.forms.PcapForm.{PcapForm}
+use Rattle.captures.specs.declared.forms.CaptureFormat.{CaptureFormat}
+use Rattle.captures.specs.declared.forms.CaptureFormat.TheVariants as formats
 use Rattle.captures.specs.declared.forms.CaptureRefusal.{CaptureRefusal}
 use Rattle.captures.specs.declared.forms.CaptureRefusal.TheVariants.{TruncatedFileHead}
 use Rattle.captures.specs.declared.packets.PacketEnd.{PacketEnd}
+use Rattle.captures.specs.declared.packets.PacketFault.{PacketFault}
 use Rattle.captures.specs.declared.reader.OpenFailure.TheVariants as failure
-use Rattle.captures.specs.Pcap.{CapturedPacket, opened, captured, captured_by, packets_from}
-use Rattle.captures.specs.Reading.{Before, IsOpened, OpensCapture}
-use Rattle.captures.proofs.PcapLaws.{opened-append, opened-short, packets_from-fuel}
+use Rattle.captures.specs.Pcap.{CapturedPacket, field, opened}
+use Rattle.captures.specs.Pcapng.{is_section, block_size, least_size}
+use Rattle.captures.specs.Captured.{begun, begun_by, first_offset, captured, captured_by, packets_from}
+use Rattle.captures.specs.Reading.{Before, CaptureState, IsOpened, OpensCapture, IsPartOf, packets_left}
+use Rattle.captures.specs.Steps.{BeginsAfter}
+use Rattle.captures.proofs.PcapLaws.{opened-append}
+use Rattle.captures.proofs.PcapngLaws.{is_section-append, block_size-is}
+use Rattle.captures.proofs.CapturedLaws.{begun-short, packets_from-fuel}
+
+-- the format of a capture depends on no byte after its head
+begun-append : (xs ys : List ℕ) → 24 ≤ length xs → begun (xs ++ ys) ≡ begun xs
+unfolding begun
+begun-append xs ys h =
+    let long : nat_lt (length xs) 24 ≡ false = le-ltb _ _ h in
+    let longer : nat_lt (length (xs ++ ys)) 24 ≡ false =
+    le-ltb _ _ (omega (arith, length-append xs ys)) in
+    let section = is_section-append xs ys (omega arith) in
+    let form = opened-append xs ys h in
+    rw (long, longer, section, form) refl
 
 -- a head that says why the capture is not read
 pub opens_refused : {R : Type 0} (remaining : R → Option (List ℕ)) (old new : Option (List ℕ))
     (head : List ℕ) (refusal : CaptureRefusal) → length head ≡ 24 → Consumes old new head
-    → opened head ≡ Err refusal
+    → begun head ≡ Err refusal
     → OpensCapture remaining old (Err (failure.Refused refusal))
 opens_refused remaining None new head refusal size h is = tt
 opens_refused remaining (Some bytes) None head refusal size h is = absurd h
 opens_refused remaining (Some bytes) (Some rest) head refusal size h is =
     ap captured h
-    ∙ ap (captured_by (head ++ rest)) (opened-append head rest (omega arith) ∙ is)
+    ∙ ap (captured_by (head ++ rest)) (begun-append head rest (omega arith) ∙ is)
 
 -- fewer bytes than a head has
 pub opens_short : {R : Type 0} (remaining : R → Option (List ℕ)) (old new : Option (List ℕ))
@@ -34,29 +57,88 @@ opens_short remaining (Some bytes) (Some rest) n head size less h end =
     h ∙ ap (λ l. take n head ++ l) end ∙ append-nil (take n head) in
     let long = length-take-le n head (omega arith) in
     ap captured all
-    ∙ ap (captured_by (take n head)) (opened-short (take n head) (omega arith))
+    ∙ ap (captured_by (take n head)) (begun-short (take n head) (omega arith))
 
--- a head that says the form
+first_offset-few : (format : CaptureFormat) → first_offset format ≤ 24
+first_offset-few (formats.Pcap form) = omega arith
+first_offset-few (formats.Pcapng order) = omega arith
+
+-- a head that says the format
+opened_at : (bytes head rest : List ℕ) (format : CaptureFormat) → length head ≡ 24
+    → bytes ≡ head ++ rest → begun head ≡ Ok format
+    → captured bytes ≡ Ok (packets_left (Before format [] (first_offset format))
+    (drop (first_offset format) head ++ rest))
+opened_at bytes head rest format size h is =
+    let all = head ++ rest in
+    let at = first_offset format in
+    let few = first_offset-few format in
+    let left : drop at all ≡ drop at head ++ rest = drop-append-le at head rest (omega arith) in
+    let less = length-drop at all in
+    ap captured h
+    ∙ ap (captured_by all) (begun-append head rest (omega arith) ∙ is)
+    ∙ ap (λ (t : List CapturedPacket × PacketEnd). Ok t)
+    (packets_from-fuel (suc (length all)) (suc (length (drop at all))) format [] at (drop at all)
+    (omega arith) (omega arith)
+    ∙ ap (λ l. packets_from (suc (length l)) format [] at l) left)
+
 pub opens_read : {R : Type 0} (remaining : R → Option (List ℕ)) (old : Option (List ℕ))
-    (head frame : List ℕ) (source : R) (form : PcapForm) → length head ≡ 24
-    → Consumes old (remaining source) head → opened head ≡ Ok form
-    → OpensCapture remaining old (Ok (record {
-      source = source;
-      front = [];
-      position = Before form 24;
-      frame = frame;
-    }))
-opens_read remaining None head frame source form size h is = tt
-opens_read remaining (Some bytes) head frame source form size h is = go (remaining source) h
+    (head : List ℕ) (source : R) (format : CaptureFormat) (reader : CaptureState R)
+    → length head ≡ 24 → Consumes old (remaining source) head → begun head ≡ Ok format
+    → BeginsAfter head format source reader → OpensCapture remaining old (Ok reader)
+opens_read remaining None head source format reader size h is begins = tt
+opens_read remaining (Some bytes) head source format reader size h is begins =
+    rw (begins.is_before, begins.is_front, begins.is_source) (go (remaining source) h)
   where
     go : (new : Option (List ℕ)) → Consumes (Some bytes) new head
-        → IsOpened bytes (Before form 24) (prepend_known [] new)
+        → IsOpened bytes (Before format [] (first_offset format))
+        (prepend_known (drop (first_offset format) head) new)
     go None h = absurd h
-    go (Some rest) h =
-        let all = head ++ rest in
-        ap captured h
-        ∙ ap (captured_by all) (opened-append head rest (omega arith) ∙ is)
-        ∙ ap (λ (t : List CapturedPacket × PacketEnd). Ok t)
-        (ap (packets_from (suc (length all)) form 24) (drop_at head rest 24 size)
-        ∙ packets_from-fuel (suc (length all)) (suc (length rest)) form 24 rest
-        (omega (arith, length-append head rest)) (omega arith))
+    go (Some rest) h = opened_at bytes head rest format size h is
+
+-- ---- the head of a section
+
+section_kind : (own : NumberOrder) (head : List ℕ) → ((i : ℕ) → get_or head i 0 < 256)
+    → is_section head ≡ true → field own 0 head ≡ 0x0a0d0d0a
+section_kind HighFirst head fits h = grind (arith, nat_tests)
+section_kind LowFirst head fits h =
+    let a = fits 0 in
+    let b = fits 1 in
+    let c = fits 2 in
+    let d = fits 3 in
+    let says : get_or head 0 0 * 16777216 + (get_or head 1 0 * 65536 + (get_or head 2 0 * 256
+    + get_or head 3 0)) ≡ 0x0a0d0d0a = grind (arith, nat_tests) in
+    omega arith
+
+begun_section : (head : List ℕ) (order : NumberOrder) → 24 ≤ length head
+    → begun head ≡ Ok (formats.Pcapng order) → is_section head ≡ true
+unfolding begun
+begun_section head order long h = go (is_section head) refl
+  where
+    not_pcapng : (r : Result PcapForm CaptureRefusal)
+        → begun_by r ≡ Ok (formats.Pcapng order) → ⊥
+    not_pcapng (Ok form) h = absurd cc
+    not_pcapng (Err refusal) h = absurd cc
+
+    go : (b : Bool) → is_section head ≡ b → is_section head ≡ true
+    go true is = is
+    go false is =
+        let whole : nat_lt (length head) 24 ≡ false = le-ltb _ _ long in
+        absurd (not_pcapng (opened head)
+        (sym (rw (whole, is) refl) ∙ h))
+
+-- the 24 bytes that were read are a part of the first block
+pub begun_part : (head : List ℕ) (order : NumberOrder) → length head ≡ 24
+    → ((i : ℕ) → get_or head i 0 < 256) → begun head ≡ Ok (formats.Pcapng order)
+    → IsPartOf (formats.Pcapng order) head
+begun_part head order size fits h = go (block_size order head) refl
+  where
+    go : (r : Result ℕ PacketFault) → block_size order head ≡ r
+        → IfOk r (λ n. length head ≤ max 12 n)
+    go (Err fault) is = tt
+    go (Ok n) is =
+        let sized = block_size-is order head n is in
+        let least = sized.2.least in
+        let kind = section_kind sized.0 head fits (begun_section head order (omega arith) h) in
+        let many : 28 ≤ n =
+        subst (λ k. least_size k ≤ n) kind least in
+        omega arith

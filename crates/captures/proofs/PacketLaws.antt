@@ -1,53 +1,54 @@
--- Laws of a packet that is taken from the front of a block.
-use Rattle.std.proofs.Common.{◌≡◌, ℕ, ◌+◌, ◌-◌, ◌*◌, ◌≤◌, List, ◌++◌, length, take, drop, slice_range, sym, ap, ◌∙◌, refl, arith, length-drop, le_refl}
-use Rattle.std.proofs.lemmas.List.{drop_at, take_at, length-take-le, drop-drop, drop-append-le, drop-take, take-take, take-append-drop}
+-- Laws of a packet whose Ethernet frame is made in a block.
+use Rattle.std.proofs.Common.{◌≡◌, ℕ, ◌+◌, ◌-◌, ◌*◌, ◌<◌, ◌≤◌, List, ◌++◌, length, take, drop, slice_range, Some, Ok, Err, sym, ap, ◌∙◌, refl, arith, le-ltb, lt-ltb, length-drop}
+use Rattle.std.proofs.lemmas.List.{drop_at, take_at, length-take-le, drop-drop, drop-append-le, drop-take}
 use borrow.Rule.Slice.PartMut.{put_mid, post_of}
 use Rattle.captures.specs.declared.forms.NumberOrder.{NumberOrder}
+use Rattle.captures.specs.declared.forms.LinkType.{LinkType}
 use Rattle.captures.specs.declared.forms.PcapForm.{PcapForm}
-use Rattle.captures.specs.Pcap.{field, nanoseconds, interface_of, ethernet_frame, captured_length, packet_size, packet_bytes, packet_of}
+use Rattle.captures.specs.declared.interfaces.Interface.{Interface}
+use Rattle.captures.specs.declared.interfaces.TimeScale.{TimeScale}
+use Rattle.captures.specs.declared.packets.PacketFault.TheVariants.{BadBlock}
+use Rattle.captures.specs.Pcap.{field, link_of, nanoseconds, interface_of, ethernet_frame, captured_length, packet_size, packet_bytes, packet_of}
+use Rattle.captures.specs.Pcapng.{short_field, option_value, interface_options, interface_in, scale_by, offset_by, time_at, packet_by}
 use Rattle.captures.specs.Packets.{packet_with}
-use Rattle.captures.proofs.PcapLaws.{field-append}
 
--- a number of a record's head is in the front of the block
-pub field-take : (order : NumberOrder) (at size : ℕ) (block : List ℕ) → at + 4 ≤ size
-    → size ≤ length block → field order at block ≡ field order at (take size block)
-field-take order at size block inside room =
-    ap (λ l. field order at l) (sym (take-append-drop size block))
-    ∙ field-append order at (take size block) (drop size block)
-    (omega (arith, length-take-le size block room))
+pub length-range : (start end : ℕ) (block : List ℕ) → start ≤ end → end ≤ length block
+    → length (slice_range block start end) ≡ end - start
+length-range start end block head room =
+    length-take-le (end - start) (drop start block) (omega (arith, length-drop start block))
+
+-- the frame, after the packet's bytes in a block were written over
+pub frame_settled : (start end from : ℕ) (block packet : List ℕ) → start ≤ end
+    → end ≤ length block → length packet ≡ end - start → from ≤ length packet
+    → slice_range (put_mid start (end - start) block packet) (start + from) end
+    ≡ drop from packet
+frame_settled start end from block packet head room whole inside =
+    let after = put_mid start (end - start) block packet in
+    let rest = post_of start (end - start) block in
+    let long = length-take-le start block (omega arith) in
+    ap (take (end - (start + from)))
+    (sym (drop-drop from start after)
+    ∙ ap (drop from) (drop_at (take start block) (packet ++ rest) start long)
+    ∙ drop-append-le from packet rest inside)
+    ∙ take_at (drop from packet) rest (end - (start + from))
+    (omega (arith, length-drop from packet))
+
+-- ---- pcap
 
 -- the bytes of the packet are those after the record's head
-pub packet_bytes-take : (form : PcapForm) (size : ℕ) (block : List ℕ)
-    → size ≡ packet_size form (take size block)
-    → packet_bytes form (take size block) ≡ slice_range block 16 size
-packet_bytes-take form size block is =
-    let n = captured_length form (take size block) in
-    let less : size - 16 ≡ n = omega arith in
-    ap (λ m. take n (drop 16 (take m block))) is
-    ∙ ap (take n) (drop-take 16 n block)
-    ∙ take-take n n (drop 16 block) (le_refl n)
-    ∙ ap (λ m. take m (drop 16 block)) (sym less)
-
--- the frame, after the packet's bytes were written over
-pub frame_settled : (size from : ℕ) (block packet : List ℕ) → 16 ≤ size → size ≤ length block
-    → length packet ≡ size - 16 → from ≤ length packet
-    → slice_range (put_mid 16 (size - 16) block packet) (16 + from) size ≡ drop from packet
-frame_settled size from block packet head room whole inside =
-    let after = put_mid 16 (size - 16) block packet in
-    let rest = post_of 16 (size - 16) block in
-    let long = length-take-le 16 block (omega arith) in
-    ap (take (size - (16 + from)))
-    (sym (drop-drop from 16 after)
-    ∙ ap (drop from) (drop_at (take 16 block) (packet ++ rest) 16 long)
-    ∙ drop-append-le from packet rest inside)
-    ∙ take_at (drop from packet) rest (size - (16 + from))
-    (omega (arith, length-drop from packet))
+pub packet_bytes-whole : (form : PcapForm) (bytes : List ℕ)
+    → length bytes ≡ packet_size form bytes
+    → packet_bytes form bytes ≡ slice_range bytes 16 (length bytes)
+packet_bytes-whole form bytes is =
+    let less : captured_length form bytes ≡ length bytes - 16 = omega arith in
+    ap (λ n. take n (drop 16 bytes)) less
 
 -- a packet has its parts
 pub packet_of-parts : (form : PcapForm) (bytes frame : List ℕ)
     (seconds fraction scale interface original : ℕ)
     → seconds ≡ field form.order 0 bytes → fraction ≡ field form.order 4 bytes
-    → scale ≡ nanoseconds form.unit → interface ≡ interface_of form.link (packet_bytes form bytes)
+    → scale ≡ nanoseconds form.unit
+    → interface ≡ interface_of form.link 0 (packet_bytes form bytes)
     → original ≡ field form.order 12 bytes
     → frame ≡ ethernet_frame form.link (packet_bytes form bytes)
     → packet_with (record {
@@ -61,3 +62,42 @@ pub packet_of-parts : (form : PcapForm) (bytes frame : List ℕ)
     }) frame ≡ packet_of form bytes
 packet_of-parts form bytes frame seconds fraction scale interface original a b c d e f =
     rw (a, b, c, d, e, f) refl
+
+-- ---- pcapng
+
+-- what is between the head and the last length of a block
+pub interface_options-is : (block : List ℕ) → 20 ≤ length block
+    → slice_range block 16 (length block - 4) ≡ interface_options block
+interface_options-is block h =
+    let whole : length block - 4 ≡ 16 + (length block - 4 - 16) = omega arith in
+    sym (ap (λ n. drop 16 (take n block)) whole ∙ drop-take 16 (length block - 4 - 16) block)
+
+-- an interface has its parts
+pub interface_in-parts : (order : NumberOrder) (block : List ℕ) (link : ℕ) (scale : TimeScale)
+    (offset snap : ℕ) → link ≡ short_field order 8 block
+    → scale ≡ scale_by (option_value order 9 (interface_options block))
+    → offset ≡ offset_by order (option_value order 14 (interface_options block))
+    → snap ≡ field order 12 block
+    → ◌≡◌ {A = Interface} (record { link = link; scale = scale; offset = offset; snap = snap })
+    (interface_in order block)
+interface_in-parts order block link scale offset snap a b c d = rw (a, b, c, d) refl
+
+module _ (interface : Interface) (number units start captured original : ℕ) (block : List ℕ)
+    (link : LinkType) (is : link_of interface.link ≡ Some link) where
+  pub packet_by-short : length block < start + captured + 4
+      → packet_by interface number units start captured original block (link_of interface.link)
+      ≡ Err BadBlock
+  packet_by-short h = let short = lt-ltb _ _ h in rw (is, short) refl
+
+  -- a packet has its parts
+  pub packet_by-parts : (frame : List ℕ) (time at : ℕ) → start + captured + 4 ≤ length block
+      → time ≡ time_at interface units
+      → at ≡ interface_of link number (take captured (drop start block))
+      → frame ≡ ethernet_frame link (take captured (drop start block))
+      → Ok (packet_with (record {
+        head = record { time = time; interface = at; queue = 0 };
+        original = original;
+      }) frame)
+      ≡ packet_by interface number units start captured original block (link_of interface.link)
+  packet_by-parts frame time at h a b c =
+      let whole = le-ltb _ _ h in rw (is, whole, a, b, c) refl

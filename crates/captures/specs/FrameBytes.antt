@@ -10,10 +10,11 @@ use Rattle.isa_model.specs.Code.Versions.{stream_magic}
 use Rattle.isa_model.specs.Code.Limits.{max_packet}
 use Rattle.isa_model.specs.Reporting.Streams.{PacketFrame, head_bytes, record_bytes}
 use Rattle.captures.specs.declared.forms.CaptureRefusal.{CaptureRefusal}
-use Rattle.captures.specs.declared.packets.PacketFault.TheVariants.{TruncatedRecord, TooLong, TruncatedPacket}
+use Rattle.captures.specs.declared.packets.PacketFault.TheVariants.{TruncatedRecord, TruncatedPacket}
 use Rattle.captures.specs.declared.packets.PacketEnd.{PacketEnd}
 use Rattle.captures.specs.declared.packets.PacketEnd.TheVariants as ending
-use Rattle.captures.specs.Pcap.{CapturedPacket, captured}
+use Rattle.captures.specs.Pcap.{CapturedPacket}
+use Rattle.captures.specs.Captured.{captured}
 use Rattle.captures.specs.Reading.{CapturePosition, packets_left}
 
 -- the reason of a frame that a stream does not take
@@ -38,13 +39,13 @@ abbrev pub no_head : FrameHead
 no_head = record { time = 0; interface = 0; queue = 0 }
 
 -- what stands where the packets end: nothing at their end; a part of a head where one was cut, a
--- head with a length that no frame has where a packet is too long, and a head without its frame
--- where a packet was cut
+-- head without its frame where a packet was cut, and a head with a length that no frame has where
+-- a record is none
 abbrev pub end_bytes : PacketEnd → List ℕ
 end_bytes ending.End = []
 end_bytes (ending.Fault TruncatedRecord offset) = 0 ∷ []
-end_bytes (ending.Fault TooLong offset) = head_bytes Two no_head (2 ^ 32 - 1) 0
 end_bytes (ending.Fault TruncatedPacket offset) = head_bytes Two no_head 1 0
+end_bytes (ending.Fault fault offset) = head_bytes Two no_head (2 ^ 32 - 1) 0
 
 -- the records of packets, and what stands where they end
 abbrev pub packets_spelled : List CapturedPacket × PacketEnd → List ℕ

@@ -1,4 +1,6 @@
 pub mod Pcap
+pub mod Pcapng
+pub mod Captured
 pub mod Packets
 pub mod Collecting
 pub mod Reading

@@ -4,7 +4,7 @@
 -- reserved, u32 snap length, u32 link type, whose upper 16 bits say other things. A record's head
 -- is: u32 seconds, u32 microseconds or nanoseconds, u32 captured packet length, u32 original packet
 -- length. The magic number says in which order the bytes of all numbers are.
-use Rattle.std.specs.Prelude.{ℕ, zero, suc, ◌+◌, ◌*◌, ◌^◌, ◌-◌, ◌%◌, ◌==◌, List, [], ◌∷◌, ◌++◌, length, take, drop, min, replicate, nat_lt, if◌then◌else◌, Option, Some, None, Result, Ok, Err}
+use Rattle.std.specs.Prelude.{ℕ, ◌+◌, ◌*◌, ◌^◌, ◌%◌, ◌==◌, List, ◌++◌, length, take, drop, replicate, nat_lt, if◌then◌else◌, Option, Some, None, Result, Ok, Err}
 use Rattle.byteorder.specs.Endian.{big_number, little_number}
 use Rattle.isa_model.specs.declared.frames.FrameHead.{FrameHead}
 use Rattle.captures.specs.declared.forms.NumberOrder.{NumberOrder}
@@ -15,10 +15,7 @@ use Rattle.captures.specs.declared.forms.LinkType.{LinkType}
 use Rattle.captures.specs.declared.forms.LinkType.TheVariants.{Ethernet, Cooked, Cooked2}
 use Rattle.captures.specs.declared.forms.PcapForm.{PcapForm}
 use Rattle.captures.specs.declared.forms.CaptureRefusal.{CaptureRefusal}
-use Rattle.captures.specs.declared.forms.CaptureRefusal.TheVariants.{TruncatedFileHead, NoPcap, UnknownLink}
-use Rattle.captures.specs.declared.packets.PacketFault.TheVariants.{TruncatedRecord, TooLong, TruncatedPacket}
-use Rattle.captures.specs.declared.packets.PacketEnd.{PacketEnd}
-use Rattle.captures.specs.declared.packets.PacketEnd.TheVariants as ending
+use Rattle.captures.specs.declared.forms.CaptureRefusal.TheVariants.{TruncatedFileHead, NoCapture, UnknownLink}
 
 -- ---- numbers
 
@@ -59,9 +56,9 @@ abbrev pub with_start : List ℕ → Option (NumberOrder × TimeUnit) → Result
 with_start bytes (Some start) =
     let number = field start.0 20 bytes % 2 ^ 16 in
     with_link start.0 start.1 number (link_of number)
-with_start bytes None = Err NoPcap
+with_start bytes None = Err NoCapture
 
--- the form of a capture, or why it is not read
+-- the form of a pcap file, or why it is not read
 unfoldable pub opened : List ℕ → Result PcapForm CaptureRefusal
 opened bytes =
     if nat_lt (length bytes) 24 then Err TruncatedFileHead
@@ -80,12 +77,12 @@ ethernet_frame Cooked2 bytes =
     if nat_lt (length bytes) 20 then bytes
     else replicate 6 0 ++ (take 6 (drop 12 bytes) ++ (take 2 bytes ++ drop 20 bytes))
 
--- the interface that a packet came in by, 0 where its link type does not say it
-abbrev pub interface_of : LinkType → List ℕ → ℕ
-interface_of Ethernet bytes = 0
-interface_of Cooked bytes = 0
-interface_of Cooked2 bytes =
-    if nat_lt (length bytes) 20 then 0 else field HighFirst 4 bytes
+-- the interface that a packet came in by, another one where its link type does not say it
+abbrev pub interface_of : LinkType → ℕ → List ℕ → ℕ
+interface_of Ethernet other bytes = other
+interface_of Cooked other bytes = other
+interface_of Cooked2 other bytes =
+    if nat_lt (length bytes) 20 then other else field HighFirst 4 bytes
 
 -- ---- packet records
 
@@ -123,49 +120,9 @@ packet_of form bytes = record {
         time =
             field form.order 0 bytes * 10 ^ 9
             + field form.order 4 bytes * nanoseconds form.unit;
-        interface = interface_of form.link (packet_bytes form bytes);
+        interface = interface_of form.link 0 (packet_bytes form bytes);
         queue = 0;
       };
   body = ethernet_frame form.link (packet_bytes form bytes);
   original = field form.order 12 bytes;
 }
-
--- ---- reading
-
--- why no packet record begins with these bytes at the offset, if none does
-unfoldable pub stop_at : PcapForm → ℕ → List ℕ → Option PacketEnd
-stop_at form offset bytes =
-    if length bytes == 0 then Some ending.End
-    else if nat_lt (length bytes) 16 then Some (ending.Fault TruncatedRecord offset)
-    else if nat_lt max_captured (captured_length form bytes)
-    then Some (ending.Fault TooLong offset)
-    else if nat_lt (length bytes) (packet_size form bytes)
-    then Some (ending.Fault TruncatedPacket offset)
-    else None
-
--- the offset after so many bytes more; a number of 64 bits says it, or the largest one
-abbrev pub moved : ℕ → ℕ → ℕ
-moved offset size = min (offset + size) (2 ^ 64 - 1)
-
--- the packets whose records the bytes begin with, at the offset, and how these end; `fuel` is more
--- than the number of bytes
-unfoldable pub packets_from : ℕ → PcapForm → ℕ → List ℕ → List CapturedPacket × PacketEnd
-packets_from zero form offset bytes = ([], ending.End)
-packets_from (suc fuel) form offset bytes =
-    elim (stop_at form offset bytes) [
-      | Some stop ↦ ([], stop)
-      | None ↦
-          let size = packet_size form bytes in
-          let more = packets_from fuel form (moved offset size) (drop size bytes) in
-          (packet_of form bytes ∷ more.0, more.1)
-    ]
-
--- the packets after a head that says this form, or why the capture is not read
-abbrev pub captured_by : List ℕ → Result PcapForm CaptureRefusal
-    → Result (List CapturedPacket × PacketEnd) CaptureRefusal
-captured_by bytes (Ok form) = Ok (packets_from (suc (length bytes)) form 24 (drop 24 bytes))
-captured_by bytes (Err refusal) = Err refusal
-
--- the packets of a capture's bytes and how they end, or why it is not read
-abbrev pub captured : List ℕ → Result (List CapturedPacket × PacketEnd) CaptureRefusal
-captured bytes = captured_by bytes (opened bytes)

@@ -1,16 +1,18 @@
 -- What the calls of a capture reader find, and what they do to the bytes that its source has left.
-use Rattle.std.specs.Prelude.{◌≡◌, ℕ, suc, ◌+◌, ◌≤◌, List, [], ◌∷◌, length, Option, Some, None, Result, Ok, Err}
+use Rattle.std.specs.Prelude.{◌≡◌, ℕ, suc, ◌≤◌, List, [], ◌∷◌, length, max, Option, Some, None, Result, Ok, Err, IfOk}
 use Rattle.std.specs.Io.KnownBytes.{prepend_known}
-use Rattle.captures.specs.declared.forms.PcapForm.{PcapForm}
+use Rattle.captures.specs.declared.forms.CaptureFormat.{CaptureFormat}
+use Rattle.captures.specs.declared.interfaces.Interface.{Interface}
 use Rattle.captures.specs.declared.packets.PacketEnd.{PacketEnd}
 use Rattle.captures.specs.declared.reader.OpenFailure.{OpenFailure}
 use Rattle.captures.specs.declared.reader.OpenFailure.TheVariants as failure
-use Rattle.captures.specs.Pcap.{CapturedPacket, captured, captured_length, packets_from}
+use Rattle.captures.specs.Pcap.{CapturedPacket}
+use Rattle.captures.specs.Captured.{captured, head_size, record_size, packets_from}
 
--- where a reader is: before a packet record of this form at this offset, or after all that it will
--- find
+-- where a reader is: before a record of this format, with the interfaces that are described so far,
+-- at this offset, or after all that it will find
 pub data CapturePosition : Type 0 where
-  Before : PcapForm → ℕ → CapturePosition
+  Before : CaptureFormat → List Interface → ℕ → CapturePosition
   Past : PacketEnd → CapturePosition
 
 -- a reader: its source, the bytes that it took from it for the next record, its position, and the
@@ -27,10 +29,11 @@ bytes_left remaining state = prepend_known state.front (remaining state.source)
 
 -- the packets that a reader with these bytes left will find, and how they end
 abbrev pub packets_left : CapturePosition → List ℕ → List CapturedPacket × PacketEnd
-packets_left (Before form offset) bytes = packets_from (suc (length bytes)) form offset bytes
+packets_left (Before format interfaces offset) bytes =
+    packets_from (suc (length bytes)) format interfaces offset bytes
 packets_left (Past stop) bytes = ([], stop)
 
--- what a call finds: a packet, how the packets end, or nothing yet, since the source failed
+-- what a call finds: a packet, how the packets end, or nothing yet
 pub data CaptureFinding : Type 0 where
   FoundPacket : CapturedPacket → CaptureFinding
   FoundEnd : PacketEnd → CaptureFinding
@@ -52,9 +55,13 @@ FindsPacket before (Some bytes) after None finding = ⊥
 FindsPacket before (Some bytes) after (Some rest) finding =
     packets_left before bytes ≡ then_packets finding (packets_left after rest)
 
--- the bytes that were taken for the next record are of no other one
+-- the bytes that were taken for a record are of no other one
+abbrev pub IsPartOf : CaptureFormat → List ℕ → Type 0
+IsPartOf format front =
+    IfOk (record_size format front) (λ size. length front ≤ max (head_size format) size)
+
 abbrev pub IsPartOfRecord : CapturePosition → List ℕ → Type 0
-IsPartOfRecord (Before form offset) front = length front ≤ 16 + captured_length form front
+IsPartOfRecord (Before format interfaces offset) front = IsPartOf format front
 IsPartOfRecord (Past stop) front = Unit {0}
 
 -- ---- opening

@@ -4,7 +4,7 @@ use Rattle.std.specs.Io.KnownBytes.{prepend_known}
 use Rattle.captures.specs.declared.reader.OpenFailure.{OpenFailure}
 use Rattle.captures.specs.declared.reader.OpenFailure.TheVariants as failure
 use Rattle.captures.specs.declared.streams.CaptureStream.{CaptureStream}
-use Rattle.captures.specs.Pcap.{captured}
+use Rattle.captures.specs.Captured.{captured}
 use Rattle.captures.specs.Reading.{bytes_left}
 use Rattle.captures.specs.FrameBytes.{stream_of_capture, stream_rest}
 

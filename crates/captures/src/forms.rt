@@ -1,8 +1,10 @@
-//! The head of a pcap file: the order of the bytes of its numbers, the unit of its times and its
-//! link type.
+//! How a capture begins: the format, and of a pcap file the order of the bytes of its numbers, the
+//! unit of its times and its link type.
 
 ghost use Rattle.std.specs.Prelude.{◌≡◌, ◌+◌, ◌≤◌, length};
+ghost use Rattle.captures.specs.Captured.{begun, head_size, max_record};
 ghost use Rattle.captures.specs.Pcap.{field, link_of, nanoseconds, opened, pcap_start};
+ghost use Rattle.captures.specs.Pcapng.{is_section, long_field, short_field};
 
 use byteorder::{BigEndian, ByteOrder, LittleEndian};
 
@@ -52,16 +54,55 @@ pub struct PcapForm {
     pub link: LinkType,
 }
 
-/// Says why a file is not read as a pcap file.
+/// Says how the records of a capture are written.
+#[derive(Clone, Copy, PartialEq, Eq, Debug)]
+pub enum CaptureFormat {
+    /// A pcap file.
+    Pcap(PcapForm),
+    /// A pcapng file, with the order of the numbers in this section.
+    Pcapng(NumberOrder),
+}
+
+impl CaptureFormat {
+    /// Returns how many bytes say how long a record is.
+    #[inline(always)]
+    pub fn head_size(self) -> usize
+        ensures size { result ≡ head_size self }
+        ensures few { result ≤ 16 }
+    {
+        match self {
+            CaptureFormat::Pcap(_) => 16,
+            CaptureFormat::Pcapng(_) => 12,
+        }
+    }
+
+    /// Returns how many bytes the longest record has.
+    pub fn max_record(self) -> usize
+        ensures { result ≡ max_record self }
+    {
+        match self {
+            CaptureFormat::Pcap(_) => 16 + MAX_CAPTURED,
+            CaptureFormat::Pcapng(_) => MAX_BLOCK,
+        }
+    }
+}
+
+/// Says why a file is not read as a capture.
 #[derive(Clone, Copy, PartialEq, Eq, Debug)]
 pub enum CaptureRefusal {
     /// Fewer than 24 bytes.
     TruncatedFileHead,
-    /// Another magic than that of a pcap file.
-    NoPcap,
-    /// Packets of a link type that is not read.
+    /// Another magic than those of captures.
+    NoCapture,
+    /// A pcap file with packets of a link type that is not read.
     UnknownLink(u32),
 }
+
+/// The most bytes of a packet in a pcap file. libpcap, `MAXIMUM_SNAPLEN`.
+pub const MAX_CAPTURED: usize = 262_144;
+
+/// The most bytes of a block in a pcapng file.
+pub const MAX_BLOCK: usize = 4_194_304;
 
 /// The number in the four bytes at an offset.
 #[inline(always)]
@@ -73,6 +114,38 @@ pub fn number_at(order: NumberOrder, bytes: &[u8], at: usize) -> u32
         NumberOrder::HighFirst => BigEndian::read_u32(&bytes[at..]),
         NumberOrder::LowFirst => LittleEndian::read_u32(&bytes[at..]),
     }
+}
+
+/// The number in the two bytes at an offset.
+#[inline(always)]
+pub fn short_at(order: NumberOrder, bytes: &[u8], at: usize) -> u16
+    requires { at + 2 ≤ length bytes.now }
+    ensures { result ≡ short_field order at bytes.now }
+{
+    match order {
+        NumberOrder::HighFirst => BigEndian::read_u16(&bytes[at..]),
+        NumberOrder::LowFirst => LittleEndian::read_u16(&bytes[at..]),
+    }
+}
+
+/// The number in the eight bytes at an offset.
+pub fn long_at(order: NumberOrder, bytes: &[u8], at: usize) -> u64
+    requires { at + 8 ≤ length bytes.now }
+    ensures { result ≡ long_field order at bytes.now }
+{
+    match order {
+        NumberOrder::HighFirst => BigEndian::read_u64(&bytes[at..]),
+        NumberOrder::LowFirst => LittleEndian::read_u64(&bytes[at..]),
+    }
+}
+
+/// Returns whether a block begins a section of a pcapng file.
+#[inline(always)]
+pub fn is_section(block: &[u8]) -> bool
+    requires { 4 ≤ length block.now }
+    ensures { result ≡ is_section block.now }
+{
+    BigEndian::read_u32(block) == 0x0a0d_0d0a
 }
 
 impl LinkType {
@@ -109,8 +182,8 @@ fn pcap_start(head: &[u8]) -> Option<(NumberOrder, TimeUnit)>
     }
 }
 
-/// The form of a pcap file whose first bytes these are, or why it is not read.
-pub fn pcap_form(head: &[u8]) -> Result<PcapForm, CaptureRefusal>
+// The form of a pcap file whose first bytes these are, or why it is not read.
+fn pcap_form(head: &[u8]) -> Result<PcapForm, CaptureRefusal>
     ensures { result ≡ opened head.now }
 {
     if head.len() < 24 {
@@ -124,6 +197,22 @@ pub fn pcap_form(head: &[u8]) -> Result<PcapForm, CaptureRefusal>
                 None => Err(CaptureRefusal::UnknownLink(number)),
             }
         }
-        None => Err(CaptureRefusal::NoPcap),
+        None => Err(CaptureRefusal::NoCapture),
+    }
+}
+
+/// The format of a capture whose first bytes these are, or why it is not read.
+pub fn capture_format(head: &[u8]) -> Result<CaptureFormat, CaptureRefusal>
+    ensures { result ≡ begun head.now }
+{
+    if head.len() < 24 {
+        return Err(CaptureRefusal::TruncatedFileHead);
+    }
+    if is_section(head) {
+        return Ok(CaptureFormat::Pcapng(NumberOrder::HighFirst));
+    }
+    match pcap_form(head) {
+        Ok(form) => Ok(CaptureFormat::Pcap(form)),
+        Err(refusal) => Err(refusal),
     }
 }

@@ -1,20 +1,30 @@
-//! Reads captures in the pcap format: packet by packet, and as the frame stream that they become.
+//! Reads captures in the pcap and pcapng formats: packet by packet, and as the frame stream that
+//! they become.
 //!
-//! `specs/Pcap.antt` defines which packets the bytes of a capture have and how they end, and
-//! `specs/FrameBytes.antt` the frame stream. Memory is taken once, for the longest packet.
+//! `specs/Captured.antt` defines which packets the bytes of a capture have and how they end, by the
+//! records of `specs/Pcap.antt` and `specs/Pcapng.antt`, and `specs/FrameBytes.antt` the frame
+//! stream. Memory is taken once, for the longest record.
 #![tactic(auto)]
 
+mod blocks;
 mod choices;
 mod collecting;
 mod forms;
+mod gathering;
+mod interfaces;
 mod links;
+mod options;
 mod packets;
 mod reader;
+mod records;
 mod spelling;
 mod streams;
 
 pub use choices::FramesOf;
-pub use forms::{CaptureRefusal, LinkType, NumberOrder, PcapForm, TimeUnit, pcap_form};
+pub use forms::{
+    CaptureFormat, CaptureRefusal, LinkType, MAX_BLOCK, MAX_CAPTURED, NumberOrder, PcapForm,
+    TimeUnit, capture_format,
+};
 pub use packets::{CapturedHead, PacketEnd, PacketFault};
-pub use reader::{CaptureReader, Captured, MAX_CAPTURED, OpenFailure};
+pub use reader::{CaptureReader, Captured, OpenFailure};
 pub use streams::CaptureStream;

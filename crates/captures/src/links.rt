@@ -5,16 +5,17 @@ ghost use Rattle.captures.specs.Pcap.{ethernet_frame, interface_of};
 
 use super::forms::{LinkType, NumberOrder, number_at};
 
-/// Returns the interface that a packet with these bytes came in by.
+/// Returns the interface that a packet with these bytes came in by, or another one where its link
+/// type does not say it.
 #[inline(always)]
-pub fn interface_of(link: LinkType, packet: &[u8]) -> u32
-    ensures { result ≡ interface_of link packet.now }
+pub fn interface_of(link: LinkType, other: u32, packet: &[u8]) -> u32
+    ensures { result ≡ interface_of link other packet.now }
 {
     match link {
-        LinkType::Ethernet | LinkType::Cooked => 0,
+        LinkType::Ethernet | LinkType::Cooked => other,
         LinkType::Cooked2 => {
             if packet.len() < 20 {
-                0
+                other
             } else {
                 number_at(NumberOrder::HighFirst, packet, 4)
             }

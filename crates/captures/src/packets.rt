@@ -1,8 +1,8 @@
 //! The head of a packet record, and how a capture's packets end.
 
-ghost use Rattle.std.specs.Prelude.{◌≡◌, ◌+◌, ◌≤◌, length, slice_range, take, true};
+ghost use Rattle.std.specs.Prelude.{◌≡◌, ◌≤◌, length};
 ghost use Rattle.captures.specs.Pcap.{packet_of, packet_size};
-ghost use Rattle.captures.specs.Packets.{packet_with};
+ghost use Rattle.captures.specs.Packets.{framed_packet};
 
 use super::forms::{PcapForm, number_at};
 use super::links::{interface_of, settle};
@@ -17,15 +17,31 @@ pub struct CapturedHead {
     pub original: u32,
 }
 
-/// Says what is wrong with the packet records of a capture.
+/// Says what a record says of its packet, and where in a block its Ethernet frame begins and ends.
+#[derive(Clone, Copy, PartialEq, Eq, Debug)]
+pub struct FramedPacket {
+    pub head: CapturedHead,
+    pub from: usize,
+    pub to: usize,
+}
+
+/// Says what is wrong with the records of a capture.
 #[derive(Clone, Copy, PartialEq, Eq, Debug)]
 pub enum PacketFault {
-    /// 1 to 15 bytes of a record's head.
+    /// Fewer bytes than the head of a record has.
     TruncatedRecord,
-    /// A captured packet length over 262,144.
+    /// A packet of over 262,144 bytes in a pcap file, or a block of over 4,194,304.
     TooLong,
-    /// Fewer bytes of a packet than its length.
+    /// Fewer bytes than the record has by its head.
     TruncatedPacket,
+    /// A block that is not one by its lengths or its byte-order magic.
+    BadBlock,
+    /// A packet of an interface that its section has not described.
+    UnknownInterface,
+    /// A packet of an interface with a link type that is not read.
+    UnknownInterfaceLink,
+    /// A section with more than 4,096 interfaces.
+    TooManyInterfaces,
 }
 
 /// Says how a capture's packets end: at its end, or by a fault in the record that begins at an
@@ -36,41 +52,32 @@ pub enum PacketEnd {
     Fault(PacketFault, u64),
 }
 
-/// Returns what the record says of the packet whose bytes are at the front of the block, and where
-/// in the block the Ethernet frame begins that is made of them. The record has this size.
+/// Returns what a record of a pcap file says of its packet, and where the Ethernet frame is that is
+/// made of the bytes.
 #[inline(always)]
-pub fn take_packet(form: PcapForm, block: &mut [u8], size: usize) -> (CapturedHead, usize)
-    requires head { 16 ≤ size }
-    requires room { size ≤ length block.old }
-    requires size { size ≡ packet_size form (take size block.old) }
-    ensures inside { result.1 ≤ size }
-    ensures packet { packet_with result.0 (slice_range block.new result.1 size)
-        ≡ packet_of form (take size block.old) }
+pub fn take_packet(form: PcapForm, bytes: &mut [u8]) -> FramedPacket
+    requires head { 16 ≤ length bytes.old }
+    requires size { length bytes.old ≡ packet_size form bytes.old }
+    ensures ordered { result.from ≤ result.to }
+    ensures inside { result.to ≤ length bytes.new }
+    ensures packet { framed_packet bytes.new result ≡ packet_of form bytes.old }
 {
-    let seconds = number_at(form.order, block, 0) as u64;
-    let fraction = number_at(form.order, block, 4) as u64;
-    let original = number_at(form.order, block, 12);
-    let packet = &mut block[16..size];
-    let interface = interface_of(form.link, packet);
+    let seconds = number_at(form.order, bytes, 0) as u64;
+    let fraction = number_at(form.order, bytes, 4) as u64;
+    let original = number_at(form.order, bytes, 12);
+    let to = bytes.len();
+    let packet = &mut bytes[16..to];
+    let interface = interface_of(form.link, 0, packet);
     let time = seconds * 1_000_000_000 + fraction * form.unit.nanoseconds();
     let head = FrameHead {
         time,
         interface,
         queue: 0,
     };
-    (
-        CapturedHead { head, original },
-        16 + settle(form.link, packet),
-    )
-}
-
-/// Returns whether these bytes begin with all bytes of a packet record, by the length in its head.
-pub fn holds_packet(form: PcapForm, bytes: &[u8]) -> bool
-    ensures { result ≡ true → packet_size form bytes.now ≤ length bytes.now }
-{
-    if bytes.len() < 16 {
-        return false;
+    let from = 16 + settle(form.link, packet);
+    FramedPacket {
+        head: CapturedHead { head, original },
+        from,
+        to,
     }
-    let length = number_at(form.order, bytes, 8) as usize;
-    length <= bytes.len() - 16
 }

@@ -1,25 +1,20 @@
 //! Reads the packets of a capture one by one.
 
-ghost use Rattle.std.specs.Prelude.{◌≡◌, ◌+◌, ◌≤◌, length, take, vec_len};
+ghost use Rattle.std.specs.Prelude.{◌≡◌, ◌+◌, ◌≤◌, length, drop, take, vec_len, IfOk, Ok};
 ghost use Rattle.std.specs.Io.KnownBytes.{prepend_known};
-ghost use Rattle.captures.specs.Collecting.{Collects};
-ghost use Rattle.captures.specs.Pcap.{max_captured};
-ghost use Rattle.captures.specs.Reading.{Before, FindsPacket, IsPartOfRecord, OpensCapture, bytes_left};
-ghost use Rattle.captures.specs.Steps.{IsGathered, IsInBlock, StaysPast, finding_at, finding_of, position_after};
+ghost use Rattle.captures.specs.Captured.{begun, first_offset, max_record};
+ghost use Rattle.captures.specs.Reading.{Before, FindsPacket, IsPartOf, IsPartOfRecord, OpensCapture, bytes_left};
+ghost use Rattle.captures.specs.Steps.{BeginsAfter, IsInBlock, StaysPast, finding_at, finding_if, finding_of, position_after};
 
-use super::collecting::{Collected, collect};
-use super::forms::{CaptureRefusal, PcapForm, number_at, pcap_form};
-use super::packets::{CapturedHead, PacketEnd, PacketFault, holds_packet, take_packet};
+use super::forms::{CaptureFormat, CaptureRefusal, capture_format};
+use super::gathering::{Gathered, gather, holds_record};
+use super::interfaces::Interfaces;
+use super::packets::{CapturedHead, FramedPacket, PacketEnd};
+use super::records::{TakenRecord, take_record};
 use exact_io::Filled;
 use frames::{Source, fill};
-use std::alloc::Global;
+use std::alloc::{AllocError, Global};
 use std::marker::Model;
-
-/// The most bytes of a packet. libpcap, `MAXIMUM_SNAPLEN`.
-pub const MAX_CAPTURED: usize = 262_144;
-
-// The most bytes of a packet record.
-const BLOCK: usize = 16 + MAX_CAPTURED;
 
 /// Says why a capture cannot be opened.
 #[derive(Clone, Copy, PartialEq, Eq, Debug)]
@@ -28,7 +23,7 @@ pub enum OpenFailure {
     Refused(CaptureRefusal),
     /// The source failed.
     Unread,
-    /// There is no memory for a packet.
+    /// There is no memory for a record.
     NoMemory,
 }
 
@@ -43,134 +38,119 @@ pub enum Captured {
     Failed,
 }
 
-// Where a reader is: before a record of this form at this offset, or after all that it will find.
+// Where a reader is: before a record of this format at this offset, or after all that it will find.
 #[derive(Clone, Copy)]
 enum CaptureStage {
-    Before(PcapForm, u64),
+    Before(CaptureFormat, u64),
     Past(PacketEnd),
 }
 
-// What was taken to the front of a block: a record of this size, or why there is none.
-#[derive(Clone, Copy)]
-enum Gathered {
-    Record(usize),
-    Stopped(PacketEnd),
-    Failed,
-}
-
-// What one call finds; of a packet also where the frame begins and ends in the block.
+// What one record is: a packet, or none and the format of the next record, with the record's size;
+// or why there is no record.
 #[derive(Clone, Copy)]
 enum CaptureStep {
-    Packet(CapturedHead, usize, usize),
+    Packet(FramedPacket, usize),
+    Passed(CaptureFormat, usize),
     Stopped(PacketEnd),
     Failed,
 }
 
-// Takes the next record to the front of the block, which has the first `count` bytes of it.
+// Takes the next record.
 #[inline(always)]
-fn gather<R: Source>(
+fn find_record<R: Source>(
     source: &mut R,
     block: &mut [u8],
     count: usize,
-    form: PcapForm,
-    offset: u64,
-) -> (Gathered, usize)
-    requires room { 16 + max_captured ≤ length block.old }
-    requires inside { count ≤ length block.old }
-    requires part { IsPartOfRecord (Before form offset) (take count block.old) }
-    ensures bytes { Collects (R.remaining source.old) (R.remaining source.new)
-        (take count block.old) (take result.1 block.new) }
-    ensures gathered { IsGathered form offset (R.remaining source.new) (take result.1 block.new)
-        result.0 }
-    ensures inside { result.1 ≤ length block.new }
-{
-    let (collected, count) = collect(source, block, count, 16);
-    match collected {
-        Collected::Whole => {}
-        Collected::Ended => {
-            let end = if count == 0 {
-                PacketEnd::End
-            } else {
-                PacketEnd::Fault(PacketFault::TruncatedRecord, offset)
-            };
-            return (Gathered::Stopped(end), count);
-        }
-        Collected::Failed => return (Gathered::Failed, count),
-    }
-    let length = number_at(form.order, block, 8) as usize;
-    if length > MAX_CAPTURED {
-        return (
-            Gathered::Stopped(PacketEnd::Fault(PacketFault::TooLong, offset)),
-            count,
-        );
-    }
-    let (collected, count) = collect(source, block, count, 16 + length);
-    match collected {
-        Collected::Whole => (Gathered::Record(16 + length), count),
-        Collected::Ended => {
-            let end = PacketEnd::Fault(PacketFault::TruncatedPacket, offset);
-            (Gathered::Stopped(end), count)
-        }
-        Collected::Failed => (Gathered::Failed, count),
-    }
-}
-
-// Finds the next packet.
-#[inline(always)]
-fn find_packet<R: Source>(
-    source: &mut R,
-    block: &mut [u8],
-    count: usize,
-    form: PcapForm,
+    interfaces: &mut Interfaces,
+    format: CaptureFormat,
     offset: u64,
 ) -> (CaptureStep, usize)
-    requires room { 16 + max_captured ≤ length block.old }
+    requires room { max_record format ≤ length block.old }
     requires inside { count ≤ length block.old }
-    requires part { IsPartOfRecord (Before form offset) (take count block.old) }
-    ensures finds { FindsPacket (Before form offset)
+    requires part { IsPartOf format (take count block.old) }
+    ensures finds { FindsPacket (Before format interfaces.old offset)
         (prepend_known (take count block.old) (R.remaining source.old))
-        (position_after form offset result.0)
+        (position_after format interfaces.new offset result.0)
         (prepend_known (take result.1 block.new) (R.remaining source.new))
         (finding_at block.new result.0) }
-    ensures part { IsPartOfRecord (position_after form offset result.0) (take result.1 block.new) }
+    ensures part { IsPartOfRecord (position_after format interfaces.new offset result.0)
+        (take result.1 block.new) }
     ensures inside { result.1 ≤ length block.new }
     ensures frame { IsInBlock (length block.new) result.0 }
 {
-    let (gathered, count) = gather(source, block, count, form, offset);
+    let (gathered, count) = gather(source, block, count, format, offset);
     match gathered {
-        Gathered::Record(size) => {
-            let (head, from) = take_packet(form, block, size);
-            (CaptureStep::Packet(head, from, size), 0)
-        }
+        Gathered::Record(size) => match take_record(format, interfaces, block, size) {
+            Ok(TakenRecord::Packet(packet)) => (CaptureStep::Packet(packet, size), 0),
+            Ok(TakenRecord::Passed(after)) => (CaptureStep::Passed(after, size), 0),
+            Err(fault) => (CaptureStep::Stopped(PacketEnd::Fault(fault, offset)), count),
+        },
         Gathered::Stopped(end) => (CaptureStep::Stopped(end), count),
         Gathered::Failed => (CaptureStep::Failed, count),
     }
 }
 
-// Finds the next packet in a block that is owned.
+// Takes the next record in a block that is owned.
 #[inline(always)]
 fn find_in<R: Source>(
     source: &mut R,
     block: &mut Vec<u8>,
     count: usize,
-    form: PcapForm,
+    interfaces: &mut Interfaces,
+    format: CaptureFormat,
     offset: u64,
 ) -> (CaptureStep, usize)
-    requires room { 16 + max_captured ≤ vec_len block.old }
+    requires room { max_record format ≤ vec_len block.old }
     requires inside { count ≤ vec_len block.old }
-    requires part { IsPartOfRecord (Before form offset) (take count block.old.items) }
-    ensures finds { FindsPacket (Before form offset)
+    requires part { IsPartOf format (take count block.old.items) }
+    ensures finds { FindsPacket (Before format interfaces.old offset)
         (prepend_known (take count block.old.items) (R.remaining source.old))
-        (position_after form offset result.0)
+        (position_after format interfaces.new offset result.0)
         (prepend_known (take result.1 block.new.items) (R.remaining source.new))
         (finding_at block.new.items result.0) }
-    ensures part { IsPartOfRecord (position_after form offset result.0)
+    ensures part { IsPartOfRecord (position_after format interfaces.new offset result.0)
         (take result.1 block.new.items) }
     ensures room { vec_len block.new ≡ vec_len block.old }
     ensures inside { result.1 ≤ vec_len block.new }
     ensures frame { IsInBlock (vec_len block.new) result.0 }
 {
-    find_packet(source, block.as_mut_slice(), count, form, offset)
+    find_record(
+        source,
+        block.as_mut_slice(),
+        count,
+        interfaces,
+        format,
+        offset,
+    )
+}
+
+// Takes what a head has of the first record to the front of the block.
+fn take_first(format: CaptureFormat, head: &[u8; 24], block: &mut [u8]) -> usize
+    requires room { 24 ≤ length block.old }
+    requires head { begun head.now ≡ Ok format }
+    ensures front { take result block.new ≡ drop (first_offset format) head.now }
+    ensures count { first_offset format + result ≡ 24 }
+    ensures part { IsPartOf format (take result block.new) }
+{
+    match format {
+        CaptureFormat::Pcap(_) => 0,
+        CaptureFormat::Pcapng(_) => {
+            block[..24].copy_from_slice(head);
+            24
+        }
+    }
+}
+
+// Takes what a head has of the first record to the front of a block that is owned.
+fn take_first_in(format: CaptureFormat, head: &[u8; 24], block: &mut Vec<u8>) -> usize
+    requires room { 24 ≤ vec_len block.old }
+    requires head { begun head.now ≡ Ok format }
+    ensures front { take result block.new.items ≡ drop (first_offset format) head.now }
+    ensures count { first_offset format + result ≡ 24 }
+    ensures part { IsPartOf format (take result block.new.items) }
+    ensures room { vec_len block.new ≡ vec_len block.old }
+{
+    take_first(format, head, block.as_mut_slice())
 }
 
 /// Reads the packets of a capture one by one.
@@ -181,6 +161,7 @@ fn find_in<R: Source>(
 pub struct CaptureReader<R> {
     source: R,
     block: Vec<u8>,
+    interfaces: Interfaces,
     count: usize,
     from: usize,
     to: usize,
@@ -197,11 +178,11 @@ impl<R> Model for CaptureReader<R> {
     ghost view = { λ r. record {
       source = r.source;
       front = take r.count r.block.items;
-      position = position_of r.stage;
+      position = position_of r.interfaces r.stage;
       frame = slice_range r.block.items r.from r.to;
     } };
 
-    ghost invariant = { λ r. HoldsPart r.block r.count r.from r.to r.stage };
+    ghost invariant = { λ r. HoldsPart r.block r.interfaces r.count r.from r.to r.stage };
 }
 
 impl<R: Source> CaptureReader<R> {
@@ -219,20 +200,78 @@ impl<R: Source> CaptureReader<R> {
             }
             Filled::Failed(_) => return Err(OpenFailure::Unread),
         }
-        let form = match pcap_form(&head) {
-            Ok(form) => form,
+        let format = match capture_format(&head) {
+            Ok(format) => format,
             Err(refusal) => return Err(OpenFailure::Refused(refusal)),
         };
-        match Vec::from_elem(alloc, 0, BLOCK) {
-            Ok(block) => Ok(CaptureReader {
-                source,
-                block,
-                count: 0,
-                from: 0,
-                to: 0,
-                stage: CaptureStage::Before(form, 24),
-            }),
+        match CaptureReader::begun(alloc, source, &head, format) {
+            Ok(reader) => Ok(reader),
             Err(_) => Err(OpenFailure::NoMemory),
+        }
+    }
+
+    // A reader of this format after the head was read: a part of it may be of the first record.
+    fn begun(
+        alloc: Global,
+        source: R,
+        head: &[u8; 24],
+        format: CaptureFormat,
+    ) -> Result<Self, AllocError>
+    where
+        R: Drop,
+        requires { begun head.now ≡ Ok format }
+        ensures { IfOk result (BeginsAfter head.now format source) }
+    {
+        let mut block = Vec::from_elem(alloc, 0, format.max_record())?;
+        let interfaces = Interfaces::new(alloc)?;
+        let count = take_first_in(format, head, &mut block);
+        Ok(CaptureReader {
+            source,
+            block,
+            interfaces,
+            count,
+            from: 0,
+            to: 0,
+            stage: CaptureStage::Before(format, 24 - count as u64),
+        })
+    }
+
+    // Takes one record: nothing is found yet where it has no packet.
+    #[inline(always)]
+    fn step(&mut self) -> Option<Captured>
+        ensures finds { FindsPacket self.old.position (bytes_left R.remaining self.old)
+            self.new.position (bytes_left R.remaining self.new)
+            (finding_if self.new.frame result) }
+    {
+        let (format, offset) = match self.stage {
+            CaptureStage::Past(end) => return Some(Captured::Stopped(end)),
+            CaptureStage::Before(format, offset) => (format, offset),
+        };
+        let (step, count) = find_in(
+            &mut self.source,
+            &mut self.block,
+            self.count,
+            &mut self.interfaces,
+            format,
+            offset,
+        );
+        self.count = count;
+        match step {
+            CaptureStep::Packet(packet, size) => {
+                self.from = packet.from;
+                self.to = packet.to;
+                self.stage = CaptureStage::Before(format, offset.saturating_add(size as u64));
+                Some(Captured::Packet(packet.head))
+            }
+            CaptureStep::Passed(after, size) => {
+                self.stage = CaptureStage::Before(after, offset.saturating_add(size as u64));
+                None
+            }
+            CaptureStep::Stopped(end) => {
+                self.stage = CaptureStage::Past(end);
+                Some(Captured::Stopped(end))
+            }
+            CaptureStep::Failed => Some(Captured::Failed),
         }
     }
 
@@ -245,32 +284,15 @@ impl<R: Source> CaptureReader<R> {
             (finding_of self.new.frame result) }
         ensures done { StaysPast self.old self.new result }
     {
-        match self.stage {
-            CaptureStage::Past(end) => Captured::Stopped(end),
-            CaptureStage::Before(form, offset) => {
-                let (step, count) = find_in(
-                    &mut self.source,
-                    &mut self.block,
-                    self.count,
-                    form,
-                    offset,
-                );
-                self.count = count;
-                match step {
-                    CaptureStep::Packet(head, from, to) => {
-                        self.from = from;
-                        self.to = to;
-                        self.stage = CaptureStage::Before(form, offset.saturating_add(to as u64));
-                        Captured::Packet(head)
-                    }
-                    CaptureStep::Stopped(end) => {
-                        self.stage = CaptureStage::Past(end);
-                        Captured::Stopped(end)
-                    }
-                    CaptureStep::Failed => Captured::Failed,
-                }
+        if let CaptureStage::Past(end) = self.stage {
+            return Captured::Stopped(end);
+        }
+        for _ in 0..u64::MAX {
+            if let Some(found) = self.step() {
+                return found;
             }
         }
+        Captured::Failed
     }
 
     /// Returns whether the next packet may have to be waited for, since the bytes that its source
@@ -278,7 +300,7 @@ impl<R: Source> CaptureReader<R> {
     #[inline(always)]
     pub fn may_wait(&self) -> bool {
         match (self.stage, self.source.held()) {
-            (CaptureStage::Before(form, _), Some(bytes)) => !holds_packet(form, bytes),
+            (CaptureStage::Before(format, _), Some(bytes)) => !holds_record(format, bytes),
             _ => false,
         }
     }

@@ -83,12 +83,19 @@ pub fn put_end(held: &mut [u8; RECORD], end: PacketEnd) -> usize
             held[..1].copy_from_slice(&[0]);
             1
         }
-        PacketEnd::Fault(PacketFault::TooLong, _) => {
-            put_parts(held, &record_head(&NO_HEAD, u32::MAX, 0), &[]);
-            24
-        }
         PacketEnd::Fault(PacketFault::TruncatedPacket, _) => {
             put_parts(held, &record_head(&NO_HEAD, 1, 0), &[]);
+            24
+        }
+        PacketEnd::Fault(
+            PacketFault::TooLong
+            | PacketFault::BadBlock
+            | PacketFault::UnknownInterface
+            | PacketFault::UnknownInterfaceLink
+            | PacketFault::TooManyInterfaces,
+            _,
+        ) => {
+            put_parts(held, &record_head(&NO_HEAD, u32::MAX, 0), &[]);
             24
         }
     }

@@ -10,9 +10,10 @@ returns-in-Ended g c =
 pub returns-in-Err : goal.returns-in-Err
 returns-in-Err g c =
     opens_refused g.R.Source.remaining _ _ c.fill.new.buffer c.in-Err.refusal c.fill.auto.buffer
-    c.in-Whole.ensures.fills (sym c.pcap_form.ensures ∙ c.in-Err.is)
+    c.in-Whole.ensures.fills (sym c.capture_format.ensures ∙ c.in-Err.is)
 
-pub returns-in-Ok-from_elem : goal.returns-in-Ok-from_elem
-returns-in-Ok-from_elem g c =
-    opens_read g.R.Source.remaining _ c.fill.new.buffer _ c.fill.new.source c.in-Ok.form
-    c.fill.auto.buffer c.in-Whole.ensures.fills (sym c.pcap_form.ensures ∙ c.in-Ok.is)
+pub returns-in-Ok-begun : goal.returns-in-Ok-begun
+returns-in-Ok-begun g c =
+    opens_read g.R.Source.remaining _ c.fill.new.buffer c.fill.new.source c.in-Ok.format _
+    c.fill.auto.buffer c.in-Whole.ensures.fills (sym c.capture_format.ensures ∙ c.in-Ok.is)
+    c.in-Ok-begun.ensures

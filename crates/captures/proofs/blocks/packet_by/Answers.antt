@@ -1,0 +1,24 @@
+use Rattle.std.proofs.Common.{◌≡◌, ◌+◌, ◌-◌, take, drop, slice_range, sym, ap, ◌∙◌, arith}
+use Rattle.captures.specs.Pcap.{link_of, interface_of, ethernet_frame}
+use Rattle.captures.proofs.PacketLaws.{length-range, frame_settled, packet_by-parts}
+use Rattle.captures.proofs.blocks.packet_by.Goals as goal
+
+pub returns-clause-packet : goal.returns-clause-packet
+returns-clause-packet c =
+    let start = c.args.place.start in
+    let captured = c.args.place.captured in
+    let block = c.args.block.now in
+    let same : (start + captured) - start ≡ captured = omega arith in
+    let bytes : slice_range block start (start + captured) ≡ take captured (drop start block) =
+    ap (λ n. take n (drop start block)) same in
+    packet_by-parts c.args.interface.now c.args.number c.args.units start captured
+    c.args.place.original block c.in-Some.link
+    (ap link_of (sym c.from.ensures) ∙ sym c.of.ensures ∙ c.in-Some.is) _ _ _ (omega arith)
+    c.time_at.ensures
+    (c.interface_of.ensures ∙ ap (interface_of c.in-Some.link c.args.number) bytes)
+    (frame_settled start (start + captured) c.settle.result block c.settle.new.packet (omega arith)
+    (omega arith)
+    (c.settle.auto.packet
+    ∙ length-range start (start + captured) block (omega arith) (omega arith))
+    c.settle.ensures.inside
+    ∙ c.settle.ensures.frame ∙ ap (ethernet_frame c.in-Some.link) bytes)
