@@ -2,7 +2,7 @@
 use Rattle.std.specs.Prelude.{ℕ, ◌⊎◌, Bool, true, false, List, Option, Some, None, bytes_eq, codes, if◌then◌else◌}
 use Rattle.words.specs.FilterRequests.{FilterRequest}
 use Rattle.messages.specs.declared.forms.FileForm.{FileForm}
-use Rattle.messages.specs.declared.forms.FileForm.TheVariants.{Pcap}
+use Rattle.messages.specs.declared.forms.FileForm.TheVariants.{Pcap, Pcapng}
 use Rattle.commands.specs.declared.outcomes.TaskOutcome.{TaskOutcome}
 use Rattle.commands.specs.Statuses.{IsMakeFailure, IsReadFailure}
 
@@ -17,6 +17,7 @@ output_name path = if bytes_eq path (codes "-") then codes "standard output" els
 -- a file with these first bytes is a capture that is read
 abbrev pub is_capture : FileForm → Bool
 is_capture Pcap = true
+is_capture Pcapng = true
 is_capture form = false
 
 -- an output that is wanted cannot be made, or must not be overwritten

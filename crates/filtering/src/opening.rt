@@ -146,7 +146,8 @@ fn frames_of<'a, S: Source + Drop>(
         (frames_left S.remaining frames)) }
     ensures failed { IfErr result (IsReadFailure path.now) }
 {
-    match FramesOf::open(alloc, source, matches!(form, FileForm::Pcap)) {
+    let is_capture = matches!(form, FileForm::Pcap | FileForm::Pcapng);
+    match FramesOf::open(alloc, source, is_capture) {
         Ok(frames) => Ok(frames),
         Err(OpenFailure::NoMemory) => Err(TaskOutcome::NoMemory),
         Err(_) => Err(TaskOutcome::CannotRead(path, ErrorKind::Other)),
