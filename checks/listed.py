@@ -91,6 +91,9 @@ CHECKS = (
     Check("damage", "python3 attacks/damage_tools.py --each 20", "damaged objects, captures and texts", 10),
     Check("manual", "python3 checks/manual.py --check", "the man pages and completions against what --help says", 2),
     Check("pictures", "python3 checks/pictures.py --check", "the pictures of the pages against what they show", 1),
+    Check(
+        "captures", "python3 tests/captures.py", "generated captures against the stored packets of editcap, and against editcap", 4
+    ),
     Check("expressions", "python3 tests/tcpdump.py", "filters of tcpdump's expressions against stored results of tcpdump", 12),
     Check(
         "terminal",

@@ -9,7 +9,7 @@ use Rattle.captures.specs.declared.interfaces.Interface.{Interface}
 use Rattle.captures.specs.declared.interfaces.TimeScale.{TimeScale}
 use Rattle.captures.specs.declared.packets.PacketFault.TheVariants.{BadBlock}
 use Rattle.captures.specs.Pcap.{field, link_of, nanoseconds, interface_of, ethernet_frame, captured_length, packet_size, packet_bytes, packet_of}
-use Rattle.captures.specs.Pcapng.{short_field, option_value, interface_options, interface_in, scale_by, offset_by, time_at, packet_by}
+use Rattle.captures.specs.Pcapng.{short_field, option_value, interface_options, interface_in, scale_by, offset_by, packet_by}
 use Rattle.captures.specs.Packets.{packet_with}
 
 pub length-range : (start end : ℕ) (block : List ℕ) → start ≤ end → end ≤ length block
@@ -82,22 +82,21 @@ pub interface_in-parts : (order : NumberOrder) (block : List ℕ) (link : ℕ) (
     (interface_in order block)
 interface_in-parts order block link scale offset snap a b c d = rw (a, b, c, d) refl
 
-module _ (interface : Interface) (number units start captured original : ℕ) (block : List ℕ)
+module _ (interface : Interface) (number time start captured original : ℕ) (block : List ℕ)
     (link : LinkType) (is : link_of interface.link ≡ Some link) where
   pub packet_by-short : length block < start + captured + 4
-      → packet_by interface number units start captured original block (link_of interface.link)
+      → packet_by interface number time start captured original block (link_of interface.link)
       ≡ Err BadBlock
   packet_by-short h = let short = lt-ltb _ _ h in rw (is, short) refl
 
   -- a packet has its parts
-  pub packet_by-parts : (frame : List ℕ) (time at : ℕ) → start + captured + 4 ≤ length block
-      → time ≡ time_at interface units
+  pub packet_by-parts : (frame : List ℕ) (at : ℕ) → start + captured + 4 ≤ length block
       → at ≡ interface_of link number (take captured (drop start block))
       → frame ≡ ethernet_frame link (take captured (drop start block))
       → Ok (packet_with (record {
         head = record { time = time; interface = at; queue = 0 };
         original = original;
       }) frame)
-      ≡ packet_by interface number units start captured original block (link_of interface.link)
-  packet_by-parts frame time at h a b c =
-      let whole = le-ltb _ _ h in rw (is, whole, a, b, c) refl
+      ≡ packet_by interface number time start captured original block (link_of interface.link)
+  packet_by-parts frame at h b c =
+      let whole = le-ltb _ _ h in rw (is, whole, b, c) refl

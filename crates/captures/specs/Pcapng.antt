@@ -138,15 +138,15 @@ block_size order bytes = sized_by bytes (block_order order bytes)
 -- ---- packets
 
 -- a packet whose bytes begin at a place of the block, or why it is none
-abbrev pub packet_by : Interface → (number units start captured original : ℕ) → List ℕ
+abbrev pub packet_by : Interface → (number time start captured original : ℕ) → List ℕ
     → Option LinkType → Result CapturedPacket PacketFault
-packet_by interface number units start captured original block None = Err UnknownInterfaceLink
-packet_by interface number units start captured original block (Some link) =
+packet_by interface number time start captured original block None = Err UnknownInterfaceLink
+packet_by interface number time start captured original block (Some link) =
     if nat_lt (length block) (start + captured + 4) then Err BadBlock
     else Ok (record {
       head =
           record {
-            time = time_at interface units;
+            time = time;
             interface = interface_of link number (take captured (drop start block));
             queue = 0;
           };
@@ -159,7 +159,8 @@ abbrev pub timed_packet : NumberOrder → ℕ → Option Interface → List ℕ
     → Result CapturedPacket PacketFault
 timed_packet order number None block = Err UnknownInterface
 timed_packet order number (Some interface) block =
-    packet_by interface number (field order 12 block * 2 ^ 32 + field order 16 block) 28
+    packet_by interface number
+    (time_at interface (field order 12 block * 2 ^ 32 + field order 16 block)) 28
     (field order 20 block) (field order 24 block) block (link_of interface.link)
 
 -- how many bytes of a packet a simple block has, by the original packet length

@@ -113,14 +113,14 @@ struct PacketPlace {
 fn packet_by(
     interface: &Interface,
     number: u32,
-    units: u64,
+    time: u64,
     place: PacketPlace,
     block: &mut [u8],
 ) -> Result<FramedPacket, PacketFault>
     requires start { place.start ≤ 28 }
     requires captured { place.captured < 2 ^ 32 }
     ensures packet { packet_framed block.new result
-        ≡ packet_by interface.now number units place.start place.captured place.original block.old
+        ≡ packet_by interface.now number time place.start place.captured place.original block.old
         (link_of interface.now.link) }
     ensures inside { IsFramed (length block.new) result }
 {
@@ -133,7 +133,7 @@ fn packet_by(
     }
     let packet = &mut block[place.start..end];
     let head = FrameHead {
-        time: interface.time_at(units),
+        time,
         interface: interface_of(link, number, packet),
         queue: 0,
     };
@@ -171,7 +171,8 @@ fn timed_packet(
         captured: number_at(order, block, 20) as usize,
         original: number_at(order, block, 24),
     };
-    packet_by(&interface, number, high * 0x1_0000_0000 + low, place, block)
+    let time = interface.time_at(high * 0x1_0000_0000 + low);
+    packet_by(&interface, number, time, place, block)
 }
 
 // How many bytes of a packet a simple block has.

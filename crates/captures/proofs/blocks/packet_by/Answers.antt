@@ -11,10 +11,9 @@ returns-clause-packet c =
     let same : (start + captured) - start ≡ captured = omega arith in
     let bytes : slice_range block start (start + captured) ≡ take captured (drop start block) =
     ap (λ n. take n (drop start block)) same in
-    packet_by-parts c.args.interface.now c.args.number c.args.units start captured
+    packet_by-parts c.args.interface.now c.args.number c.args.time start captured
     c.args.place.original block c.in-Some.link
-    (ap link_of (sym c.from.ensures) ∙ sym c.of.ensures ∙ c.in-Some.is) _ _ _ (omega arith)
-    c.time_at.ensures
+    (ap link_of (sym c.from.ensures) ∙ sym c.of.ensures ∙ c.in-Some.is) _ _ (omega arith)
     (c.interface_of.ensures ∙ ap (interface_of c.in-Some.link c.args.number) bytes)
     (frame_settled start (start + captured) c.settle.result block c.settle.new.packet (omega arith)
     (omega arith)
