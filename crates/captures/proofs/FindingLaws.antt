@@ -1,56 +1,20 @@
 -- What a step finds, by the bytes that were taken to the front of the block.
-use Rattle.std.proofs.Common.{◌≡◌, ℕ, suc, ◌≤◌, List, [], ◌∷◌, ◌++◌, length, max, Option, Some, None, Result, Ok, Err, IfSome, IfOk, sym, ap, ◌∙◌, subst, arith, length-append}
+use Rattle.std.proofs.Common.{◌≡◌, ℕ, suc, List, [], ◌++◌, length, Option, Some, None, Ok, Err, IfSome, sym, ap, ◌∙◌, subst, arith, length-append}
 use Rattle.std.proofs.lemmas.List.{drop_at, take_at}
 use Rattle.std.specs.Io.KnownBytes.{Keeps, prepend_known}
 use Rattle.captures.specs.declared.forms.CaptureFormat.{CaptureFormat}
-use Rattle.captures.specs.declared.forms.CaptureFormat.TheVariants as formats
 use Rattle.captures.specs.declared.interfaces.Interface.{Interface}
 use Rattle.captures.specs.declared.packets.PacketFault.{PacketFault}
 use Rattle.captures.specs.declared.packets.PacketEnd.{PacketEnd}
 use Rattle.captures.specs.declared.packets.PacketEnd.TheVariants as ending
-use Rattle.captures.specs.declared.records.TakenRecord.TheVariants as taken
 use Rattle.captures.specs.declared.gathering.Gathered.{Gathered}
 use Rattle.captures.specs.declared.gathering.Gathered.TheVariants as gathered
 use Rattle.captures.specs.Collecting.{Collects}
-use Rattle.captures.specs.Pcap.{CapturedPacket, packet_of}
-use Rattle.captures.specs.Pcapng.{SaidBlock, block_said}
-use Rattle.captures.specs.Captured.{head_size, max_record, record_size, SaidRecord, said_of_block, record_said, found_said, first_record, moved, packets_from}
-use Rattle.captures.specs.Packets.{said_with}
+use Rattle.captures.specs.Pcap.{CapturedPacket}
+use Rattle.captures.specs.Captured.{record_size, SaidRecord, record_said, found_said, first_record, moved, packets_from}
 use Rattle.captures.specs.Steps.{IsGathered}
-use Rattle.captures.specs.Reading.{CapturePosition, Before, Past, CaptureFinding, FoundEnd, Unread, FindsPacket, then_packets, IsPartOf}
+use Rattle.captures.specs.Reading.{Before, Past, CaptureFinding, FoundEnd, Unread, FindsPacket, then_packets, IsRecordPart}
 use Rattle.captures.proofs.CapturedLaws.{head_size-some, record_size-append, record_size-least, first_record-whole, packets_from-stops, packets_from-goes_on, packets_behind, with_packets, packets_from-fuel}
-
--- no bytes are a part of any record
-pub part_none : (format : CaptureFormat) → IsPartOf format []
-part_none format = go (record_size format [])
-  where
-    go : (r : Result ℕ PacketFault) → IfOk r (λ size. 0 ≤ max (head_size format) size)
-    go (Err fault) = tt
-    go (Ok size) = omega arith
-
-abbrev packets_in : Result SaidRecord PacketFault → List CapturedPacket
-packets_in (Ok said) = said.packets
-packets_in (Err fault) = []
-
-abbrev format_in : CaptureFormat → Result SaidRecord PacketFault → CaptureFormat
-format_in other (Ok said) = said.format
-format_in other (Err fault) = other
-
--- a record without a packet leaves the format, and so the room that records take
-pub passed_room : (format after : CaptureFormat) (old new : List Interface)
-    (block bytes : List ℕ)
-    → said_with format new block (Ok (taken.Passed after)) ≡ record_said format old bytes
-    → max_record after ≡ max_record format
-passed_room (formats.Pcap form) after old new block bytes h =
-    let none : [] ≡ packet_of form bytes ∷ [] = ap packets_in h in absurd cc
-passed_room (formats.Pcapng order) after old new block bytes h =
-    go (block_said (record { order = order; interfaces = old }) bytes) h
-  where
-    go : (r : Result SaidBlock PacketFault)
-        → said_with (formats.Pcapng order) new block (Ok (taken.Passed after)) ≡ said_of_block r
-        → max_record after ≡ max_record (formats.Pcapng order)
-    go (Err fault) h = absurd cc
-    go (Ok said) h = ap max_record (ap (format_in after) h)
 
 module _ (format : CaptureFormat) (interfaces : List Interface) (offset : ℕ)
     (old new : Option (List ℕ)) (held front : List ℕ) (moves : Collects old new held front) where
@@ -172,15 +136,5 @@ module _ (format : CaptureFormat) (interfaces : List Interface) (offset : ℕ)
       → IfSome rest (λ bytes. first_record format interfaces offset (front ++ bytes) ≡ Err stop)
   was_stopped stop is = subst (IsGathered format interfaces offset rest front) is h
 
-  pub was_unread : how ≡ gathered.Failed → IsPartOf format front
+  pub was_unread : how ≡ gathered.Failed → IsRecordPart format front
   was_unread is = subst (IsGathered format interfaces offset rest front) is h
-
--- ---- one step after another
-
--- nothing yet, and then what is found
-pub then_finds : (a b c : CapturePosition) (x y z : Option (List ℕ)) (finding : CaptureFinding)
-    → FindsPacket a x b y Unread → FindsPacket b y c z finding → FindsPacket a x c z finding
-then_finds a b c None y z finding first second = tt
-then_finds a b c (Some xs) None z finding first second = absurd first
-then_finds a b c (Some xs) (Some ys) None finding first second = absurd second
-then_finds a b c (Some xs) (Some ys) (Some zs) finding first second = first ∙ second

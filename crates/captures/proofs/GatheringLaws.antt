@@ -13,7 +13,7 @@ use Rattle.captures.specs.declared.packets.PacketFault.{PacketFault}
 use Rattle.captures.specs.declared.packets.PacketFault.TheVariants.{TruncatedRecord, TruncatedPacket}
 use Rattle.captures.specs.Collecting.{Collects, IsCollected}
 use Rattle.captures.specs.Captured.{head_size, record_size, first_record}
-use Rattle.captures.specs.Reading.{IsPartOf}
+use Rattle.captures.specs.Reading.{IsRecordPart}
 use Rattle.captures.proofs.CapturedLaws.{record_size-append, record_size-least, first_record-end, first_record-part, first_record-none, first_record-short}
 
 -- how collecting ended
@@ -109,7 +109,7 @@ pub record HasHead (format : CaptureFormat) (front : List ℕ) (size : ℕ) : Ty
   pub says : record_size format front ≡ Ok size
   pub part : length front ≤ size
 
-part_is : (format : CaptureFormat) (front : List ℕ) (size : ℕ) → IsPartOf format front
+part_is : (format : CaptureFormat) (front : List ℕ) (size : ℕ) → IsRecordPart format front
     → record_size format front ≡ Ok size → length front ≤ max (head_size format) size
 part_is format front size h is =
     subst (λ (r : Result ℕ PacketFault).
@@ -118,7 +118,7 @@ part_is format front size h is =
 pub head_read : (format : CaptureFormat) (old new : Option (List ℕ)) (count after size : ℕ)
     (before block : List ℕ) → Collects old new (take count before) (take after block)
     → count ≤ length before → after ≤ length block → after ≡ max count (head_size format)
-    → IsPartOf format (take count before) → record_size format block ≡ Ok size
+    → IsRecordPart format (take count before) → record_size format block ≡ Ok size
     → HasHead format (take after block) size
 head_read format old new count after size before block moved inside room is part says =
     let held = take count before in
@@ -164,7 +164,7 @@ gathered_whole format old new front count after size block head moved counted ro
 pub gathered_unread : (format : CaptureFormat) (old new : Option (List ℕ)) (front : List ℕ)
     (after size : ℕ) (block : List ℕ) → HasHead format front size
     → Collects old new front (take after block) → after ≤ length block → after < size
-    → IsPartOf format (take after block)
+    → IsRecordPart format (take after block)
 gathered_unread format old new front after size block head moved room less =
     let says = still_says format old new front (take after block) size head moved in
     let long = length-take-le after block room in
@@ -174,7 +174,7 @@ gathered_unread format old new front after size block head moved room less =
 
 -- a part of a head is a part of its record
 pub headless_part : (format : CaptureFormat) (after : ℕ) (block : List ℕ) → after ≤ length block
-    → after < head_size format → IsPartOf format (take after block)
+    → after < head_size format → IsRecordPart format (take after block)
 headless_part format after block room less =
     let long = length-take-le after block room in
     go (record_size format (take after block)) (omega arith)

@@ -17,7 +17,7 @@ use Rattle.captures.specs.declared.reader.OpenFailure.TheVariants as failure
 use Rattle.captures.specs.Pcap.{CapturedPacket, field, opened}
 use Rattle.captures.specs.Pcapng.{is_section, block_size, least_size}
 use Rattle.captures.specs.Captured.{begun, begun_by, first_offset, captured, captured_by, packets_from}
-use Rattle.captures.specs.Reading.{Before, CaptureState, IsOpened, OpensCapture, IsPartOf, packets_left}
+use Rattle.captures.specs.Reading.{Before, CaptureState, IsOpened, OpensCapture, IsRecordPart, packets_left}
 use Rattle.captures.specs.Steps.{BeginsAfter}
 use Rattle.captures.proofs.PcapLaws.{opened-append}
 use Rattle.captures.proofs.PcapngLaws.{is_section-append, block_size-is}
@@ -129,7 +129,7 @@ begun_section head order long h = go (is_section head) refl
 -- the 24 bytes that were read are a part of the first block
 pub begun_part : (head : List ℕ) (order : NumberOrder) → length head ≡ 24
     → ((i : ℕ) → get_or head i 0 < 256) → begun head ≡ Ok (formats.Pcapng order)
-    → IsPartOf (formats.Pcapng order) head
+    → IsRecordPart (formats.Pcapng order) head
 begun_part head order size fits h = go (block_size order head) refl
   where
     go : (r : Result ℕ PacketFault) → block_size order head ≡ r

@@ -56,12 +56,12 @@ FindsPacket before (Some bytes) after (Some rest) finding =
     packets_left before bytes ≡ then_packets finding (packets_left after rest)
 
 -- the bytes that were taken for a record are of no other one
-abbrev pub IsPartOf : CaptureFormat → List ℕ → Type 0
-IsPartOf format front =
+abbrev pub IsRecordPart : CaptureFormat → List ℕ → Type 0
+IsRecordPart format front =
     IfOk (record_size format front) (λ size. length front ≤ max (head_size format) size)
 
 abbrev pub IsPartOfRecord : CapturePosition → List ℕ → Type 0
-IsPartOfRecord (Before format interfaces offset) front = IsPartOf format front
+IsPartOfRecord (Before format interfaces offset) front = IsRecordPart format front
 IsPartOfRecord (Past stop) front = Unit {0}
 
 -- ---- opening

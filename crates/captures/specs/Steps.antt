@@ -15,7 +15,7 @@ use Rattle.captures.specs.declared.gathering.Gathered.{Gathered}
 use Rattle.captures.specs.declared.gathering.Gathered.TheVariants as gathered
 use Rattle.captures.specs.Packets.{packet_with, framed_packet}
 use Rattle.captures.specs.Captured.{first_offset, max_record, record_size, first_record, moved}
-use Rattle.captures.specs.Reading.{CapturePosition, Before, Past, CaptureState, CaptureFinding, FoundPacket, FoundEnd, Unread, IsPartOf, IsPartOfRecord}
+use Rattle.captures.specs.Reading.{CapturePosition, Before, Past, CaptureState, CaptureFinding, FoundPacket, FoundEnd, Unread, IsRecordPart, IsPartOfRecord}
 
 -- The bytes at the front of a block are a whole record of this size; or the packets end with them
 -- and the rest of the source's bytes; or they are a part of a record.
@@ -26,7 +26,7 @@ IsGathered format interfaces offset rest front (gathered.Record size) =
 IsGathered format interfaces offset rest front (gathered.Stopped stop) =
     IfSome rest (λ bytes. first_record format interfaces offset (front ++ bytes) ≡ Err stop)
 IsGathered format interfaces offset rest front gathered.Failed =
-    IsPartOf format front
+    IsRecordPart format front
 
 -- ---- steps
 
@@ -60,15 +60,15 @@ position_of interfaces (stage.Before format offset) = Before format interfaces o
 position_of interfaces (stage.Past stop) = Past stop
 
 -- a block of n bytes has room for the longest record
-abbrev pub HasRoom : ℕ → CaptureStage → Type 0
-HasRoom n (stage.Before format offset) = max_record format ≤ n
-HasRoom n (stage.Past stop) = Unit {0}
+abbrev pub FitsRecords : ℕ → CaptureStage → Type 0
+FitsRecords n (stage.Before format offset) = max_record format ≤ n
+FitsRecords n (stage.Past stop) = Unit {0}
 
 -- the block has room for the longest record, the frame is in it, and so are the bytes at its front,
 -- which are of one record
 pub record HoldsPart (block : Vec ℕ Global) (interfaces : List Interface) (count from to : ℕ)
     (at : CaptureStage) : Type 0 where
-  pub room : HasRoom (vec_len block) at
+  pub room : FitsRecords (vec_len block) at
   pub inside : count ≤ vec_len block
   pub ordered : from ≤ to
   pub within : to ≤ vec_len block

@@ -3,7 +3,7 @@
 ghost use Rattle.std.specs.Prelude.{◌≡◌, ◌≤◌, IfOk, List, length, take, true};
 ghost use Rattle.captures.specs.Collecting.{Collects};
 ghost use Rattle.captures.specs.Captured.{max_record, record_size};
-ghost use Rattle.captures.specs.Reading.{IsPartOf};
+ghost use Rattle.captures.specs.Reading.{IsRecordPart};
 ghost use Rattle.captures.specs.Steps.{IsGathered};
 ghost use Rattle.captures.specs.declared.interfaces.Interface.{Interface as AnInterface};
 
@@ -32,7 +32,7 @@ pub fn gather<R: Source>(
 ) -> (Gathered, usize)
     requires room { max_record format ≤ length block.old }
     requires inside { count ≤ length block.old }
-    requires part { IsPartOf format (take count block.old) }
+    requires part { IsRecordPart format (take count block.old) }
     ensures bytes { Collects (R.remaining source.old) (R.remaining source.new)
         (take count block.old) (take result.1 block.new) }
     ensures gathered { (interfaces : List AnInterface)

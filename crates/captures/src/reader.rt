@@ -3,7 +3,7 @@
 ghost use Rattle.std.specs.Prelude.{◌≡◌, ◌+◌, ◌≤◌, length, drop, take, vec_len, IfOk, Ok};
 ghost use Rattle.std.specs.Io.KnownBytes.{prepend_known};
 ghost use Rattle.captures.specs.Captured.{begun, first_offset, max_record};
-ghost use Rattle.captures.specs.Reading.{Before, FindsPacket, IsPartOf, IsPartOfRecord, OpensCapture, bytes_left};
+ghost use Rattle.captures.specs.Reading.{Before, FindsPacket, IsRecordPart, IsPartOfRecord, OpensCapture, bytes_left};
 ghost use Rattle.captures.specs.Steps.{BeginsAfter, IsInBlock, StaysPast, finding_at, finding_if, finding_of, position_after};
 
 use super::forms::{CaptureFormat, CaptureRefusal, capture_format};
@@ -67,7 +67,7 @@ fn find_record<R: Source>(
 ) -> (CaptureStep, usize)
     requires room { max_record format ≤ length block.old }
     requires inside { count ≤ length block.old }
-    requires part { IsPartOf format (take count block.old) }
+    requires part { IsRecordPart format (take count block.old) }
     ensures finds { FindsPacket (Before format interfaces.old offset)
         (prepend_known (take count block.old) (R.remaining source.old))
         (position_after format interfaces.new offset result.0)
@@ -102,7 +102,7 @@ fn find_in<R: Source>(
 ) -> (CaptureStep, usize)
     requires room { max_record format ≤ vec_len block.old }
     requires inside { count ≤ vec_len block.old }
-    requires part { IsPartOf format (take count block.old.items) }
+    requires part { IsRecordPart format (take count block.old.items) }
     ensures finds { FindsPacket (Before format interfaces.old offset)
         (prepend_known (take count block.old.items) (R.remaining source.old))
         (position_after format interfaces.new offset result.0)
@@ -130,7 +130,7 @@ fn take_first(format: CaptureFormat, head: &[u8; 24], block: &mut [u8]) -> usize
     requires head { begun head.now ≡ Ok format }
     ensures front { take result block.new ≡ drop (first_offset format) head.now }
     ensures count { first_offset format + result ≡ 24 }
-    ensures part { IsPartOf format (take result block.new) }
+    ensures part { IsRecordPart format (take result block.new) }
 {
     match format {
         CaptureFormat::Pcap(_) => 0,
@@ -147,7 +147,7 @@ fn take_first_in(format: CaptureFormat, head: &[u8; 24], block: &mut Vec<u8>) ->
     requires head { begun head.now ≡ Ok format }
     ensures front { take result block.new.items ≡ drop (first_offset format) head.now }
     ensures count { first_offset format + result ≡ 24 }
-    ensures part { IsPartOf format (take result block.new.items) }
+    ensures part { IsRecordPart format (take result block.new.items) }
     ensures room { vec_len block.new ≡ vec_len block.old }
 {
     take_first(format, head, block.as_mut_slice())

@@ -7,13 +7,13 @@ use Rattle.captures.proofs.gathering.gather.Goals as goal
 
 pub returns-then-count-eq0-clause-gathered : goal.returns-then-count-eq0-clause-gathered
 returns-then-count-eq0-clause-gathered g c =
-    let how = was_ended _ _ _ _ _ c.collect-collected.ensures.count c.in-Ended.is in
+    let how = was_ended _ c.args.count _ _ _ c.collect-collected.ensures.count c.in-Ended.is in
     λ interfaces. gathered_none c.args.format interfaces c.args.offset _
     c.collect-collected.result.1 c.collect-collected.new.buffer c.if-count-eq0.true how.2
 
 pub returns-else-count-eq0-clause-gathered : goal.returns-else-count-eq0-clause-gathered
 returns-else-count-eq0-clause-gathered g c =
-    let how = was_ended _ _ _ _ _ c.collect-collected.ensures.count c.in-Ended.is in
+    let how = was_ended _ c.args.count _ _ _ c.collect-collected.ensures.count c.in-Ended.is in
     let head = c.head_size.ensures.size in
     λ interfaces. gathered_some c.args.format interfaces c.args.offset _
     c.collect-collected.result.1 c.collect-collected.new.buffer (omega arith)
@@ -21,14 +21,14 @@ returns-else-count-eq0-clause-gathered g c =
 
 pub returns-in-Failed-clause-gathered : goal.returns-in-Failed-clause-gathered
 returns-in-Failed-clause-gathered g c =
-    let how = was_failed _ _ _ _ _ c.collect-collected.ensures.count c.in-Failed.is in
+    let how = was_failed _ c.args.count _ _ _ c.collect-collected.ensures.count c.in-Failed.is in
     let head = c.head_size.ensures.size in
     λ interfaces. headless_part c.args.format c.collect-collected.result.1
     c.collect-collected.new.buffer c.collect-collected.ensures.inside (omega (arith, how.1, head))
 
 pub returns-in-Err-clause-gathered : goal.returns-in-Err-clause-gathered
 returns-in-Err-clause-gathered g c =
-    let how = was_whole _ _ _ _ _ c.collect-collected.ensures.count c.in-Whole.is in
+    let how = was_whole _ c.args.count _ _ _ c.collect-collected.ensures.count c.in-Whole.is in
     let head = c.head_size.ensures.size in
     λ interfaces. gathered_bad c.args.format interfaces c.args.offset _ c.collect-collected.result.1
     c.collect-collected.new.buffer c.in-Err.fault (omega (arith, how, head))
@@ -45,10 +45,10 @@ collect-collected-requires-2-clause-room g c =
 
 pub returns-in-Whole-collected-clause-gathered : goal.returns-in-Whole-collected-clause-gathered
 returns-in-Whole-collected-clause-gathered g c =
-    let how = was_whole _ _ _ _ _ c.collect-collected.ensures.count c.in-Whole.is in
+    let how = was_whole _ c.args.count _ _ _ c.collect-collected.ensures.count c.in-Whole.is in
     let first : c.collect-collected.result.1 ≡ max c.args.count (head_size c.args.format) =
     how ∙ ap (max c.args.count) c.head_size.ensures.size in
-    let last = was_whole _ _ _ _ _ c.collect-collected-2.ensures.count c.in-Whole-collected.is in
+    let last = was_whole _ c.collect-collected.result.1 _ _ _ c.collect-collected-2.ensures.count c.in-Whole-collected.is in
     λ interfaces. gathered_whole c.args.format _ _ _ _ c.collect-collected-2.result.1 c.in-Ok.size
     c.collect-collected-2.new.buffer
     (head_read c.args.format _ _ c.args.count c.collect-collected.result.1 c.in-Ok.size
@@ -60,10 +60,10 @@ returns-in-Whole-collected-clause-gathered g c =
 
 pub returns-in-Ended-collected-clause-gathered : goal.returns-in-Ended-collected-clause-gathered
 returns-in-Ended-collected-clause-gathered g c =
-    let how = was_whole _ _ _ _ _ c.collect-collected.ensures.count c.in-Whole.is in
+    let how = was_whole _ c.args.count _ _ _ c.collect-collected.ensures.count c.in-Whole.is in
     let first : c.collect-collected.result.1 ≡ max c.args.count (head_size c.args.format) =
     how ∙ ap (max c.args.count) c.head_size.ensures.size in
-    let last = was_ended _ _ _ _ _ c.collect-collected-2.ensures.count c.in-Ended-collected.is in
+    let last = was_ended _ c.collect-collected.result.1 _ _ _ c.collect-collected-2.ensures.count c.in-Ended-collected.is in
     let says =
     still_says c.args.format _ _ _ _ c.in-Ok.size
     (head_read c.args.format _ _ c.args.count c.collect-collected.result.1 c.in-Ok.size
@@ -76,10 +76,10 @@ returns-in-Ended-collected-clause-gathered g c =
 
 pub returns-in-Failed-collected-clause-gathered : goal.returns-in-Failed-collected-clause-gathered
 returns-in-Failed-collected-clause-gathered g c =
-    let how = was_whole _ _ _ _ _ c.collect-collected.ensures.count c.in-Whole.is in
+    let how = was_whole _ c.args.count _ _ _ c.collect-collected.ensures.count c.in-Whole.is in
     let first : c.collect-collected.result.1 ≡ max c.args.count (head_size c.args.format) =
     how ∙ ap (max c.args.count) c.head_size.ensures.size in
-    let last = was_failed _ _ _ _ _ c.collect-collected-2.ensures.count c.in-Failed-collected.is in
+    let last = was_failed _ c.collect-collected.result.1 _ _ _ c.collect-collected-2.ensures.count c.in-Failed-collected.is in
     λ interfaces. gathered_unread c.args.format _ _ _ c.collect-collected-2.result.1 c.in-Ok.size
     c.collect-collected-2.new.buffer
     (head_read c.args.format _ _ c.args.count c.collect-collected.result.1 c.in-Ok.size

@@ -3,7 +3,7 @@ use Rattle.std.proofs.lemmas.List.{length-take-le, take_at}
 use Rattle.captures.specs.declared.forms.CaptureFormat.{CaptureFormat}
 use Rattle.captures.specs.declared.forms.CaptureFormat.TheVariants as formats
 use Rattle.captures.specs.Captured.{first_offset}
-use Rattle.captures.specs.Reading.{IsPartOf}
+use Rattle.captures.specs.Reading.{IsRecordPart}
 use Rattle.captures.proofs.OpeningLaws.{begun_part}
 use Rattle.captures.proofs.reader.take_first.Goals as goal
 
@@ -28,8 +28,8 @@ returns-in-Pcapng-clause-part c =
     let size : length self ≡ 24 = omega (arith, long, c.copy_from_slice.ensures.len) in
     let same : take 24 (self ++ drop 24 c.args.block.now) ≡ c.args.head.now =
     take_at self (drop 24 c.args.block.now) 24 size ∙ c.copy_from_slice.ensures.after in
-    subst (λ (f : CaptureFormat). IsPartOf f (take 24 (self ++ drop 24 c.args.block.now)))
+    subst (λ (f : CaptureFormat). IsRecordPart f (take 24 (self ++ drop 24 c.args.block.now)))
     (sym c.in-Pcapng.is)
-    (subst (IsPartOf (formats.Pcapng c.in-Pcapng.field-0)) (sym same)
+    (subst (IsRecordPart (formats.Pcapng c.in-Pcapng.field-0)) (sym same)
     (begun_part c.args.head.now c.in-Pcapng.field-0 c.told-head c.fits-head
     (c.requires.head ∙ ap (λ f. Ok f) c.in-Pcapng.is)))
