@@ -5,11 +5,11 @@ attacks/hostile.py has those of `verify`.
 usage: python3 attacks/hostile_inputs.py [PROGRAM [FAMILY ..]]
 
 PROGRAM is an optimized xdpvm (the default: crates/xdpvm/out/xdpvm). The families are texts of `asm`, images of `dis`,
-tables of `recheck`, maps whose keys have one hash (`chains`, and `worst_keys` with the limits that
-the gate holds), and captures of tools/frames.py. For each input it prints the size, the processor seconds, the peak
-megabytes and the last line. A run that takes longer than LIMIT seconds (the default: 120) is ended. The exit status is 1 if
-one took longer than its own limit, ended by a signal or, without a limit having passed, by a status that is not one of the
-program's.
+tables of `recheck`, maps whose keys have one hash (`chains`, and `worst_keys` with the limits that the gate holds), frames by
+`trace` on a full map (`traced`, with such limits, too), and captures of tools/frames.py. For each input it prints the size, the
+processor seconds, the peak megabytes and the last line. A run that takes longer than LIMIT seconds (the default: 120) is ended.
+The exit status is 1 if one took longer than its own limit, ended by a signal or, without a limit having passed, by a status that
+is not one of the program's.
 """
 import gzip
 import os
@@ -264,6 +264,52 @@ def worst_keys() -> Iterator[Tried]:
     ], FILLED + rounds * len(keys) * CALL
 
 
+FULL = """map hash 4 8 65536
+r9 = r1
+r8 = *(u32 *)(r9 + 12)
+*(u64 *)(r10 - 16) = 1
+if r8 != 0 goto full
+r7 = {keys}
+fill: r1 = r7; r1 = be32 r1; *(u32 *)(r10 - 4) = r1
+r1 = map_by_idx(0); r2 = r10; r2 += -4; r3 = r10; r3 += -16; r4 = 0; call 2
+r7 -= 1
+if r7 != 0 goto fill
+r0 = 1
+exit
+full: {frame}
+r0 = 1
+exit
+"""
+ADD = "r1 = map_by_idx(0); r2 = r10; r2 += -4; r3 = r10; r3 += -16; r4 = 0; call 2\n"
+LOOK_UP, DELETE = (f"r1 = map_by_idx(0); r2 = r10; r2 += -4; call {number}\n" for number in (1, 3))
+# Loads through a pointer to the value of the least key, once a key was added that is above all.
+LOADS = f"""*(u32 *)(r10 - 4) = 0x1000000
+{LOOK_UP}if r0 == 0 goto out
+r6 = r0
+*(u32 *)(r10 - 4) = -1
+{ADD}r8 = 0
+loads: r1 = *(u64 *)(r6 + 0)
+r8 += 1
+if r8 < 300000 goto loads
+out:"""
+# A key below all others that comes and goes.
+COMES = f"""r8 = 0
+*(u32 *)(r10 - 4) = 0
+comes: {ADD}{DELETE}r8 += 1
+if r8 < 76000 goto comes"""
+# At most so many seconds for both frames, by a proved build.
+TRACED = 0.5
+
+
+def traced() -> Iterator[Tried]:
+    """A frame by `trace` that fills a map from the greatest key on, and one on the full map."""
+    frames = write("frames", b"XPF1" + b"".join(record(1, (0, interface, 0), 0, b"") for interface in (0, 1)))
+    for name, frame in ("300,000 loads through a pointer", LOADS), ("a key that comes and goes 76,000 times", COMES):
+        write("text", FULL.format(keys=MOST_KEYS - 1, frame=frame))
+        asked("asm", "text", "image")
+        yield name, [PROGRAM, "trace", "image", frames, "sent"], TRACED
+
+
 def block(kind: int, body: bytes) -> bytes:
     body += bytes(-len(body) % 4)
     return struct.pack("<II", kind, len(body) + 12) + body + struct.pack("<I", len(body) + 12)
@@ -307,7 +353,7 @@ def captures() -> Iterator[Tried]:
     yield "a gzip of 2 GB of zeros behind a head", [*FRAMES, packed, "out.frames"]
 
 
-FAMILIES = [texts, images, tables, chains, worst_keys, captures]
+FAMILIES = [texts, images, tables, chains, worst_keys, traced, captures]
 
 
 # ---- measuring

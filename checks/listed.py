@@ -125,6 +125,13 @@ CHECKS = (
         8,
         alone=True,
     ),
+    Check(
+        "traced",
+        "python3 attacks/hostile_inputs.py crates/xdpvm/out/xdpvm traced",
+        "that a traced frame on a full map takes half a second, whatever keys come and go and whatever it loads",
+        3,
+        alone=True,
+    ),
     Check("failures", "bash attacks/break.sh --few", "what happens where memory, a read or a write fails, on three programs", 12),
     Check("survey_failures", "python3 attacks/break_survey.py", "the same of the survey", 8),
     Check("filter_failures", "python3 attacks/break_filter.py", "the same of xdpvm_filter", 8),

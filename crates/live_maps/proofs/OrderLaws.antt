@@ -1,7 +1,7 @@
 -- Laws of the orders of keys: as a key is added or removed, and as values are numbered.
 use Rattle.std.specs.Prelude.{◌≢◌, ◌==◌, All, Bool, IfSome, not, slice_get, slice_set, slice_index_or}
-use Rattle.std.proofs.Common.{◌≡◌, ℕ, suc, ◌<◌, ◌≤◌, List, [], ◌∷◌, map, length, Option, Some, None, true, false, cond, refl, sym, ap, subst, ◌∙◌, arith}
-use Rattle.std.specs.List.{filter}
+use Rattle.std.proofs.Common.{◌≡◌, ℕ, zero, suc, ◌<◌, ◌≤◌, List, [], ◌∷◌, map, length, Option, Some, None, true, false, cond, refl, sym, ap, subst, ◌∙◌, arith}
+use Rattle.std.specs.List.{filter, remove as remove_at}
 use Rattle.std.specs.Cmp.{eq_by_cmp_equiv}
 use Rattle.std.specs.Cmp.Lexicographic.{nat_list_cmp_total}
 use Rattle.std.specs.FinMap.{get, entries, entries_sorted, values, get-entries, get-insert, get-remove, insert as with_place, remove, same_map, slice_cmp-IsAntisymmetric, nat_cmp-IsAntisymmetric}
@@ -18,20 +18,30 @@ use Rattle.map_indexes.proofs.PlaceKeysLaws.{is_key-itself}
 use Rattle.maps.proofs.ReportOrderLaws.{get_at}
 use Rattle.maps.specs.Maps.{MapState, IsMap, map_at}
 use Rattle.live_maps.specs.Live.{Serials, serials_at}
-use Rattle.live_maps.specs.Numbering.{AreDistinct, OnlyThere}
+use Rattle.live_maps.specs.Numbering.{AreDistinct, OnlyThere, place_in}
 use Rattle.live_maps.specs.Orders.{HaveOrders, AreOrders, IsOrder, KeyOrder, NumbersFrom, order_at, places_without}
 use Rattle.live_maps.proofs.NumberingLaws.{values-distinct, values-few, values-within}
 
 -- ---- one order
 
 -- a list of the places in the order of the keys is an order, if it knows no first serial
-pub IsOrder-listed : (x : MapState) (s : Serials) (o : KeyOrder) → o.places ≡ values x.places
-    → o.room ≡ x.row.entries → o.first ≡ None → IsOrder x s o
+pub IsOrder-listed : (x : MapState) (s : Serials) (o : KeyOrder)
+    → (o.is_behind ≡ false → o.places ≡ values x.places) → o.room ≡ x.row.entries → o.first ≡ None → IsOrder x s o
 IsOrder-listed x s o places room first = record {
   places = places;
   room = room;
   numbered = subst (λ (f : Option ℕ). IfSome f (NumbersFrom o.places s)) (sym first) tt;
 }
+
+-- an order, once it is not behind
+pub caught_up : (x : MapState) (s : Serials) (o q : KeyOrder) → IsOrder x s o
+    → (o.is_behind ≡ false → q ≡ o) → (o.is_behind ≡ true → q.places ≡ values x.places)
+    → (o.is_behind ≡ true → q.first ≡ None) → q.room ≡ o.room → IsOrder x s q
+caught_up x s o q h kept places first room = by o.is_behind refl
+  where
+    by : (b : Bool) → o.is_behind ≡ b → IsOrder x s q
+    by false t = subst (λ (r : KeyOrder). IsOrder x s r) (sym (kept t)) h
+    by true t = IsOrder-listed x s q (λ _. places t) (room ∙ h.room) (first t)
 
 -- the order of a map, as it is found in the list of all
 pub order_found : (maps : List MapState) (all : List Serials) (orders : List KeyOrder) (m : ℕ)
@@ -49,21 +59,26 @@ pub record CanNumber (x : MapState) (s : Serials) (o : KeyOrder) : Type 0 where
   pub only : OnlyThere o.places s
   pub many : length o.places ≤ x.row.entries
   pub order : IsOrder x s o
+  pub listed : o.places ≡ values x.places
 
 pub can_number : (x : MapState) (s : Serials) (o : KeyOrder) → IsMap x → length s ≡ x.row.entries
-    → OnlyThere (values x.places) s → IsOrder x s o → CanNumber x s o
-can_number x s o is long only order = record {
+    → OnlyThere (values x.places) s → IsOrder x s o → o.is_behind ≡ false → CanNumber x s o
+can_number x s o is long only order caught = record {
   within =
       subst (λ (n : ℕ). All (λ p. p < n) o.places) (sym long)
-      (subst (λ (places : List ℕ). All (λ p. p < x.row.entries) places) (sym order.places)
+      (subst (λ (places : List ℕ). All (λ p. p < x.row.entries) places) (sym listed)
       (values-within x is));
   distinct =
-      subst (λ (places : List ℕ). AreDistinct places) (sym order.places)
+      subst (λ (places : List ℕ). AreDistinct places) (sym listed)
       (values-distinct x.places is.apart);
-  only = subst (λ (places : List ℕ). OnlyThere places s) (sym order.places) only;
-  many = let count = ap length order.places in let few = values-few x is in omega arith;
+  only = subst (λ (places : List ℕ). OnlyThere places s) (sym listed) only;
+  many = let count = ap length listed in let few = values-few x is in omega arith;
   order = order;
+  listed = listed;
 }
+  where
+    listed : o.places ≡ values x.places
+    listed = order.places caught
 
 -- ---- all orders
 
@@ -129,7 +144,7 @@ AreOrders-set maps new all orders m x is inside row places h =
           let long = length-set maps m x in
           let o = h.each k (omega arith) in
           record {
-            places = o.places ∙ ap values (kept (λ (y : MapState). y.places) places k);
+            places = λ b. o.places b ∙ ap values (kept (λ (y : MapState). y.places) places k);
             room =
                 o.room ∙ kept (λ (y : MapState). y.row.entries) (ap (λ r. r.entries) row) k;
             numbered = o.numbered;
@@ -155,7 +170,7 @@ AreOrders-listed maps all orders long h = record {
   long = long;
   each = λ k l.
       let r = h k l in
-      IsOrder-listed (map_at maps k) (serials_at all k) (order_at orders k) r.0 r.1 r.2;
+      IsOrder-listed (map_at maps k) (serials_at all k) (order_at orders k) (λ _. r.0) r.1 r.2;
 }
 
 -- ---- the places of all keys but one
@@ -203,6 +218,43 @@ equal_to a b e = grind (arith, nat_tests)
 
 not_equal : (a b : ℕ) → a ≢ b → (a == b) ≡ false
 not_equal a b d = grind (arith, nat_tests)
+
+-- a place in a list is at its index
+got_at : (xs : List ℕ) (i p : ℕ) → slice_get xs i ≡ Some p
+    → (i < length xs) × (place_in xs i ≡ p)
+got_at [] i p at = absurd cc
+got_at (x ∷ xs) zero p at = (omega arith, cc)
+got_at (x ∷ xs) (suc i) p at = let r = got_at xs i p at in let inside = r.0 in (omega arith, r.1)
+
+-- a list without a place that is not in it
+none_without : (xs : List ℕ) (p : ℕ) → ((j : ℕ) → j < length xs → place_in xs j ≢ p)
+    → places_without p xs ≡ xs
+none_without [] p apart = refl
+none_without (x ∷ xs) p apart =
+    ap (λ (b : Bool). cond (not b) (x ∷ places_without p xs) (places_without p xs))
+    (not_equal x p (apart 0 (omega arith)))
+    ∙ ap (λ (ys : List ℕ). x ∷ ys) (none_without xs p (λ j l. apart (suc j) (omega arith)))
+
+-- a list without the place at an index
+pub removed_at : (xs : List ℕ) (i p : ℕ) → AreDistinct xs → slice_get xs i ≡ Some p
+    → remove_at xs i ≡ places_without p xs
+removed_at [] i p d at = absurd cc
+removed_at (x ∷ xs) zero p d at =
+    let same : x ≡ p = cc in
+    let apart : (j : ℕ) → j < length xs → place_in xs j ≢ p = λ j l e.
+    let z = d 0 (suc j) (omega arith) (omega arith) (same ∙ sym e) in absurd (omega arith) in
+    sym (ap (λ (b : Bool). cond (not b) (x ∷ places_without p xs) (places_without p xs))
+    (equal_to x p same) ∙ none_without xs p apart)
+removed_at (x ∷ xs) (suc i) p d at =
+    let there = got_at xs i p at in
+    let inside = there.0 in
+    let other : x ≢ p = λ e.
+    let z = d 0 (suc i) (omega arith) (omega arith) (e ∙ sym there.1) in absurd (omega arith) in
+    let rest : AreDistinct xs = λ j k l m e.
+    let z = d (suc j) (suc k) (omega arith) (omega arith) e in omega arith in
+    ap (λ (ys : List ℕ). x ∷ ys) (removed_at xs i p rest at)
+    ∙ sym (ap (λ (b : Bool). cond (not b) (x ∷ places_without p xs) (places_without p xs))
+    (not_equal x p other))
 
 -- the places of all keys but one
 pub values-removed : (P : Places) (key : List ℕ) (p : ℕ)

@@ -1,6 +1,6 @@
 -- Laws of lists of serials.
-use Rattle.std.specs.Prelude.{◌≡◌, ℕ, ◌<◌, [], None, replicate}
-use Rattle.std.proofs.Common.{◌∙◌, zero, suc, refl}
+use Rattle.std.specs.Prelude.{◌≡◌, ℕ, None, replicate}
+use Rattle.std.proofs.Common.{zero, suc, refl}
 use Rattle.live_maps.specs.Live.{serial_in}
 
 -- a list without serials

@@ -179,7 +179,7 @@ impl LiveMaps {
         if answer == 0 {
             if let Some(place) = found {
                 take_away(&mut self.serials, map, place);
-                self.orders[map].remove(place);
+                self.orders[map].remove(&self.maps, map, key, place);
             }
         }
         answer

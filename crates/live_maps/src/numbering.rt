@@ -29,7 +29,9 @@ pub fn number_all(maps: &Maps, all: &mut Vec<PlaceSerials>, orders: &mut Vec<Ord
 {
     let mut next = 0;
     for m in 0..maps.count() {
-        next += orders[m].number(&mut all[m], next);
+        let order = &mut orders[m];
+        order.catch_up(maps, m);
+        next += order.number(&mut all[m], next);
     }
     next
 }

@@ -1,6 +1,6 @@
 //! The serials of one map's values, by place.
 
-ghost use Rattle.std.specs.Prelude.{◌≡◌, ◌+◌, ◌<◌, ◌^◌, ℕ, length, All, IfOk, IfSome, Some, None, slice_set, vec_len, vec_capacity};
+ghost use Rattle.std.specs.Prelude.{◌≡◌, ◌+◌, ◌/◌, ◌<◌, ◌^◌, ℕ, length, All, IfOk, IfSome, Some, None, slice_set, vec_len, vec_capacity};
 ghost use Rattle.std.specs.List.{position};
 ghost use Rattle.live_maps.specs.Live.{serial_in, has_serial};
 ghost use Rattle.live_maps.specs.Numbering.{NumbersAll, AreDistinct, OnlyThere, above, all_above, moved};
@@ -36,17 +36,27 @@ fn place_of(base: u64, serials: &[Option<u64>], serial: u64) -> Option<usize>
     serials.iter().position(|of| has_serial(base, serial, of))
 }
 
-// Where the hint for a serial is kept, by its distance from the base. Those of the start of
-// a run need no division.
-fn hint_at(distance: u64, count: usize) -> usize
-    requires { 0 < count }
-    ensures { result < count }
-{
-    if distance < count as u64 {
-        distance as usize
-    } else {
-        (distance % count as u64) as usize
+// A serial that was given in the run, by what it is above the base, and the place that it was given.
+#[derive(Clone, Copy)]
+struct Given {
+    distance: u64,
+    place: usize,
+}
+
+// Whether a place still has the serial that it was given.
+fn is_kept(serials: &[Option<u64>], given: &Given) -> bool {
+    match serials.get(given.place) {
+        Some(Some(distance)) => *distance == given.distance,
+        _ => false,
     }
+}
+
+// How many serials are noted that are given in a run: more than there are places, so that few are
+// looked at for each when those that no place has any more are dropped.
+fn room_for(places: u32) -> usize
+    ensures { result ≡ places + places / 4 + 1 }
+{
+    places as usize + places as usize / 4 + 1
 }
 
 /// The serials of a map's places. A place without a key has none.
@@ -58,14 +68,15 @@ pub struct PlaceSerials {
     // costs one addition where the order is the same.
     serials: Vec<Option<u64>>,
     base: u64,
-    // By what a serial is above the base, modulo the count of hints: the place that was given the
-    // last serial with this remainder. A hint is tested before it is used: it spares a scan
-    // of all places.
-    hints: Vec<usize>,
+    // Where to look for a serial before all places are scanned, which is tested there: the places
+    // that had the serials of the last numbering, and those that were given serials since, in the
+    // order of these.
+    numbered: Vec<usize>,
+    given: Vec<Given>,
 }
 
 impl Model for PlaceSerials {
-    ghost use Rattle.std.specs.Prelude.{◌≡◌, length, vec_capacity};
+    ghost use Rattle.std.specs.Prelude.{◌≡◌, ◌+◌, ◌/◌, length, vec_capacity};
     ghost use Rattle.live_maps.specs.Live.{Serials};
     ghost use Rattle.live_maps.specs.Numbering.{all_above};
 
@@ -73,26 +84,29 @@ impl Model for PlaceSerials {
 
     ghost view = { λ t. all_above t.base t.serials.items };
 
-    // there is a hint for each place, and room for no more
+    // there is room for the places and no more, and for some more serials that are given
     ghost invariant = { λ t. (vec_capacity t.serials ≡ length t.serials.items)
-        × (length t.hints.items ≡ length t.serials.items)
-        × (vec_capacity t.hints ≡ length t.serials.items) };
+        × (length t.numbered.items ≡ length t.serials.items)
+        × (vec_capacity t.numbered ≡ length t.serials.items)
+        × (vec_capacity t.given ≡ length t.serials.items + length t.serials.items / 4 + 1) };
 }
 
 impl PlaceSerials {
     /// Room for the serials of this number of places. No place has a serial yet.
-    pub fn new(alloc: Global, places: usize) -> Result<Self, AllocError>
+    pub fn new(alloc: Global, places: u32) -> Result<Self, AllocError>
         ensures len { IfOk result (λ t. length t ≡ places) }
         ensures none { IfOk result (λ t. (p : ℕ) → serial_in t p ≡ None) }
     {
-        let none = vec![in alloc; None; places]?;
-        let zeros = vec![in alloc; 0; places]?;
+        let none = vec![in alloc; None; places as usize]?;
+        let zeros = vec![in alloc; 0; places as usize]?;
+        let given = Vec::with_capacity(alloc, room_for(places))?;
         let serials = exact(none)?;
-        let hints = exact(zeros)?;
+        let numbered = exact(zeros)?;
         Ok(PlaceSerials {
             serials,
             base: 0,
-            hints,
+            numbered,
+            given,
         })
     }
 
@@ -104,19 +118,40 @@ impl PlaceSerials {
         above(self.base, &self.serials[place])
     }
 
-    // The hint for a serial, where it is right.
-    fn hinted(&self, serial: u64) -> Option<usize>
+    // A place, if it has this serial.
+    fn tested(&self, place: usize, serial: u64) -> Option<usize>
         ensures { IfSome result (λ p. serial_in self.now p ≡ Some serial) }
     {
-        let count = self.hints.len();
-        if count == 0 {
-            return None;
-        }
-        let place = self.hints[hint_at(serial.wrapping_sub(self.base), count)];
         if place < self.serials.len() && has_serial(self.base, serial, &self.serials[place]) {
             Some(place)
         } else {
             None
+        }
+    }
+
+    // The place that a serial was given in the run, by what it is above the base.
+    fn place_given(&self, distance: u64) -> Option<usize> {
+        let given = self.given.as_slice();
+        match given.binary_search_by(|it| it.distance.cmp(&distance)) {
+            Ok(i) => Some(given[i].place),
+            Err(_) => None,
+        }
+    }
+
+    // The place that a serial was given last, if it has it still.
+    fn noted(&self, serial: u64) -> Option<usize>
+        ensures { IfSome result (λ p. serial_in self.now p ≡ Some serial) }
+    {
+        let distance = serial.wrapping_sub(self.base);
+        if distance < self.numbered.len() as u64 {
+            let found = self.tested(self.numbered[distance as usize], serial);
+            if found.is_some() {
+                return found;
+            }
+        }
+        match self.place_given(distance) {
+            Some(place) => self.tested(place, serial),
+            None => None,
         }
     }
 
@@ -126,21 +161,48 @@ impl PlaceSerials {
             → serial_in self.now q ≡ Some serial → p ≡ q }
         ensures { result ≡ position (has_serial serial) self.now }
     {
-        match self.hinted(serial) {
+        match self.noted(serial) {
             Some(place) => Some(place),
             None => place_of(self.base, self.serials.as_slice(), serial),
         }
     }
 
-    // Notes which place is given a serial.
-    fn hint(&mut self, serial: u64, place: usize)
+    // Notes which place is given a serial, in a list that drops what no place has any more as often
+    // as it is full.
+    fn note(&mut self, distance: u64, place: usize)
         ensures { self.new ≡ self.old }
     {
-        let count = self.hints.len();
-        if count > 0 {
-            let distance = serial.wrapping_sub(self.base);
-            self.hints[hint_at(distance, count)] = place;
+        if self.given.len() == self.given.capacity() {
+            let serials = self.serials.as_slice();
+            self.given.retain(|given| is_kept(serials, given));
         }
+        if self.given.len() < self.given.capacity() {
+            self.given.push_reserved(Given { distance, place });
+        }
+    }
+
+    // Notes which place has the i-th serial of a numbering.
+    fn note_numbered(&mut self, i: usize, place: usize)
+        ensures { self.new ≡ self.old }
+    {
+        if i < self.numbered.len() {
+            self.numbered[i] = place;
+        }
+    }
+
+    // No serial was given since the last numbering.
+    fn forget_given(&mut self)
+        ensures { self.new ≡ self.old }
+    {
+        self.given.clear();
+    }
+
+    // Sets the serial of a place.
+    fn set(&mut self, place: usize, serial: u64)
+        requires { place < length self.old }
+        ensures { self.new ≡ slice_set self.old place (Some serial) }
+    {
+        self.serials[place] = Some(serial.wrapping_sub(self.base));
     }
 
     /// Gives a place a serial.
@@ -148,8 +210,8 @@ impl PlaceSerials {
         requires { place < length self.old }
         ensures { self.new ≡ slice_set self.old place (Some serial) }
     {
-        self.serials[place] = Some(serial.wrapping_sub(self.base));
-        self.hint(serial, place);
+        self.set(place, serial);
+        self.note(serial.wrapping_sub(self.base), place);
     }
 
     /// Takes the serial of a place away.
@@ -179,8 +241,10 @@ impl PlaceSerials {
     {
         // What is given now is kept by what it is above `first`.
         self.shift(self.base, first);
+        self.forget_given();
         for i in 0..places.len() {
-            self.give(places[i], first + i as u64);
+            self.set(places[i], first + i as u64);
+            self.note_numbered(i, places[i]);
         }
     }
 }

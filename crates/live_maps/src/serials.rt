@@ -20,8 +20,7 @@ pub fn serials_for(alloc: Global, maps: &Maps) -> Result<Vec<PlaceSerials>, Allo
 {
     let mut all = Vec::with_capacity(alloc, maps.count())?;
     for m in 0..maps.count() {
-        let entries = maps.row(m).entries as usize;
-        all.push_reserved(PlaceSerials::new(alloc, entries)?);
+        all.push_reserved(PlaceSerials::new(alloc, maps.row(m).entries)?);
     }
     Ok(all)
 }

@@ -1,4 +1,4 @@
-use Rattle.std.proofs.Common.{◌≡◌, ◌∙◌, refl, sym, ap, subst, List, ℕ, length, Some, None, arith}
+use Rattle.std.proofs.Common.{◌≡◌, ◌∙◌, refl, sym, ap, subst, List, ℕ, length, Some, None, false, arith}
 use Rattle.std.specs.Prelude.{IsSomeAnd, slice_get, slice_set, vec_capacity, ◌==◌, if◌then◌else◌}
 use Rattle.std.specs.FinMap.{get, values}
 use Rattle.isa_model.specs.declared.map_defs.MapDef.{MapDef}
@@ -10,6 +10,8 @@ use Rattle.live_maps.proofs.ContentLaws.{live_of}
 use Rattle.live_maps.proofs.LiveLaws.{live-removed, live-same, deleted_there, delete_answer-live}
 use Rattle.live_maps.proofs.LookUpLaws.{lookup-present}
 use Rattle.live_maps.proofs.OrderLaws.{AreOrders-changed, IsOrder-listed, order_found, values-removed}
+use Rattle.live_maps.proofs.NumberingLaws.{values-distinct}
+use Rattle.live_maps.specs.Numbering.{AreDistinct}
 use Rattle.live_maps.proofs.OneChanged.{OneChanged, row_known, one_changed, row_seen, still_kept}
 use Rattle.live_maps.proofs.live.LiveMaps.delete.Goals as goal
 use Rattle.live_maps.proofs.live.LiveMaps.delete.Goals.{In-Some, In_default, Else-answer-eq0}
@@ -151,10 +153,12 @@ ordered : (c : In-Some) → OneChanged (Size c.args.key.now) c.self.inside.maps
     c.delete-answer.new.maps c.args.map
     → (o q : KeyOrder) → IsOrder (map_at c.self.inside.maps c.args.map)
     (serials_at c.self.inside.serials.items c.args.map) o
-    → q.places ≡ places_without c.in-Some.place o.places → q.room ≡ o.room → q.first ≡ None
+    → (q.is_behind ≡ false → o.is_behind ≡ false)
+    → (q.is_behind ≡ false → q.places ≡ places_without c.in-Some.place o.places)
+    → q.room ≡ o.room → q.first ≡ None
     → IsOrder (map_at c.delete-answer.new.maps c.args.map)
     (slice_set (serials_at c.self.inside.serials.items c.args.map) c.in-Some.place None) q
-ordered c d o q was places room first =
+ordered c d o q was behind places room first =
     let i = c.self.inside in
     let m = c.args.map in
     let x = map_at i.maps m in
@@ -165,9 +169,27 @@ ordered c d o q was places room first =
     c.delete-answer.ensures.deleted in
     let apart = (c.self.invariant.2.each m d.inside).is_map.apart in
     IsOrder-listed y (slice_set (serials_at i.serials.items m) p None) q
-    (places ∙ ap (places_without p) was.places ∙ sym (values-removed x.places key p apart (had c))
+    (λ b. places b ∙ ap (places_without p) (was.places (behind b)) ∙ sym (values-removed x.places key p apart (had c))
     ∙ sym (ap values (del.deletes.removes refl)))
     (room ∙ was.room ∙ sym (ap (λ (r : MapDef). r.entries) del.row)) first
+
+pub remove-requires-clause-map : goal.remove-requires-clause-map
+remove-requires-clause-map c =
+    let d = some_changed (goal.at.remove-requires-clause-map c).In-Some in
+    let inside = d.inside in
+    let count = d.count in
+    omega arith
+
+pub remove-requires-clause-distinct : goal.remove-requires-clause-distinct
+remove-requires-clause-distinct c =
+    let w = goal.at.remove-requires-clause-distinct c in
+    let i = c.self.inside in
+    let m = c.args.map in
+    let d = some_changed w.In-Some in
+    let was = order_found i.maps i.serials.items i.orders.items m c.index_mut.result.now _
+    c.self.invariant.3 d.inside c.index_mut.ensures.value in
+    λ b. subst (λ (places : List ℕ). AreDistinct places) (sym (was.places b))
+    (values-distinct (map_at i.maps m).places (c.self.invariant.2.each m d.inside).is_map.apart)
 
 pub invariant_of-self : goal.invariant_of-self
 invariant_of-self c =
@@ -181,8 +203,8 @@ invariant_of-self c =
     let new_orders = slice_set i.orders.items m q in
     let was = order_found i.maps i.serials.items i.orders.items m c.index_mut.result.now _
     c.self.invariant.3 d.inside c.index_mut.ensures.value in
-    let now = ordered w.In-Some d c.index_mut.result.now q was c.remove.ensures.places
-    c.remove.ensures.room c.remove.ensures.first in
+    let now = ordered w.In-Some d c.index_mut.result.now q was c.remove.ensures.behind
+    c.remove.ensures.places c.remove.ensures.room c.remove.ensures.first in
     let kept =
     still_kept (vec_capacity i.serials) (vec_capacity i.orders) i.next i.next i.maps new
     i.serials.items (left w.In-Some) i.orders.items new_orders m c.self.invariant others

@@ -243,7 +243,7 @@ insert-requires-clause-others c =
     let d = some_changed w.In-Some in
     let was = order_found i.maps i.serials.items i.orders.items c.args.map c.index_mut.result.now _
     c.self.invariant.3 d.inside c.index_mut.ensures.value in
-    was.places ∙ others_stay w.In-Some
+    λ b. was.places b ∙ others_stay w.In-Some
 
 pub insert-requires-clause-room : goal.insert-requires-clause-room
 insert-requires-clause-room c =
