@@ -350,6 +350,35 @@ def null_identities() -> Iterator[Image]:
     )
 
 
+def null_results(count: int) -> list[str]:
+    """Look-ups whose answers are on the stack, from r10 - 16 on."""
+    look_up = ["r1 = map_by_idx(0)", "r2 = r10", "r2 += -8", "call 1"]
+    return [
+        line
+        for slot in range(count)
+        for line in [f"*(u32 *)(r10 - 8) = {slot}"] + look_up + [f"*(u64 *)(r10 - {16 + 8 * slot}) = r0"]
+    ]
+
+
+def frames_beside_a_loop() -> Iterator[Image]:
+    """A loop of branches that multiply and add to a number, below 8 call frames that are read after the calls."""
+    branches = [
+        line for bit in range(10) for line in [f"if r2 & {1 << bit} goto +1", "r5 *= 3" if bit % 2 else f"r5 += {1 << bit}"]
+    ]
+    body = unknown("r2") + branches + ["if r2 == r5 goto out"]
+    loop = unknown("r5") + counted(300000, body, "r8") + ["out: r0 = 2", "exit"]
+    kept: list[tuple[str, Callable[[int], list[str]], int]] = [
+        ("null results", null_results, 58),
+        ("numbers", lambda count: spilled(count, 16), 58),
+    ]
+    for name, known, count in kept:
+        lines = ["map hash 4 8 16", "goto f0"]
+        after = [f"r3 = *(u64 *)(r10 - {16 + 8 * slot})" for slot in range(count)]
+        for level in range(7):
+            lines += [f"f{level}: r9 = r1"] + known(count) + ["r1 = r9", f"call f{level + 1}"] + after + ["exit"]
+        yield f"a loop of branches below 8 frames of {count} {name}", lines + ["f7: r9 = r1"] + known(count) + loop
+
+
 def calls() -> Iterator[Image]:
     """Functions that are called again and again."""
     yield "calls in a loop whose limits grow", (
@@ -658,7 +687,20 @@ def with_a_call(lines: list[str]) -> list[str] | None:
     return lines[:first] + ["call nothing"] + lines[first:] + ["nothing: r0 = 0", "exit"]
 
 
-FAMILIES = [bits, limits, signed_limits, low_halves, stack_slots, frames, identities, null_identities, calls, many_slots, pending]
+FAMILIES = [
+    bits,
+    limits,
+    signed_limits,
+    low_halves,
+    stack_slots,
+    frames,
+    frames_beside_a_loop,
+    identities,
+    null_identities,
+    calls,
+    many_slots,
+    pending,
+]
 
 
 def of_both_sorts(images: Iterable[Image]) -> Iterator[Image]:

@@ -1,6 +1,7 @@
 -- What numbers were, from what differs.
 use Rattle.std.proofs.Common.{◌≡◌, ◌∙◌, ℕ, ℤ, ◌≤◌, ◌≤ℤ◌, max, List, drop, sym, ap, ap₂, arith}
-use Rattle.std.specs.Int.{int_max}
+use Rattle.std.specs.Prelude.{Some}
+use Rattle.std.specs.Int.{Width as IntWidth, w32, w64, int_max}
 use Rattle.std.proofs.lemmas.Int.{ints, clamps}
 use Rattle.known_bits.specs.declared.bits.Bits.{Bits}
 use Rattle.ranges.specs.declared.wide.Wide.{Wide}
@@ -11,6 +12,7 @@ use Rattle.reg_state.specs.declared.scalars.Scalar.{Scalar}
 use Rattle.explorer.specs.declared.differences.Differences.{Differences}
 use Rattle.explorer.specs.declared.of_two.OfTwo.{OfTwo}
 use Rattle.explorer.specs.OfTwo.{IsPut, first_of, second_of, count_of}
+use Rattle.explorer.specs.SignedLimits.{IsSignedPut, signed_first, signed_second, signed_left}
 use Rattle.explorer.specs.EarlierNumbers.{NumberStacks, earlier_bits, bits_left, earlier_number, numbers_left}
 
 -- limits in order
@@ -30,16 +32,25 @@ same_put w a b c d e f g h old new one two three four put =
       left = put.left;
     }
 
+-- signed limits that are not the unsigned ones
+pub signed_put : (w : IntWidth) (which : OfTwo) (unsigned : ℕ × ℕ) (pair others : ℤ × ℤ)
+    (old new : List ℤ) → IsPut which pair others old new
+    → IsSignedPut w (Some which) unsigned pair others old new
+signed_put w which unsigned pair others old new put =
+    record { first = put.first; second = put.second; left = put.left }
+
 -- what was put gives back the number
 pub number_back : (d : Differences) (old new : NumberStacks) (was there : Scalar)
     → earlier_bits d.bits there.bits new.bits ≡ was.bits
     → IsPut d.unsigned (was.range.wide.least, was.range.wide.greatest)
     (there.range.wide.least, there.range.wide.greatest) old.unsigned new.unsigned
-    → IsPut d.signed (was.range.wide.signed_least, was.range.wide.signed_greatest)
+    → IsSignedPut w64 d.signed (was.range.wide.least, was.range.wide.greatest)
+    (was.range.wide.signed_least, was.range.wide.signed_greatest)
     (there.range.wide.signed_least, there.range.wide.signed_greatest) old.signed new.signed
     → IsPut d.low_unsigned (was.range.low.least, was.range.low.greatest)
     (there.range.low.least, there.range.low.greatest) old.low_unsigned new.low_unsigned
-    → IsPut d.low_signed (was.range.low.signed_least, was.range.low.signed_greatest)
+    → IsSignedPut w32 d.low_signed (was.range.low.least, was.range.low.greatest)
+    (was.range.low.signed_least, was.range.low.signed_greatest)
     (there.range.low.signed_least, there.range.low.signed_greatest) old.low_signed
     new.low_signed
     → earlier_number d new there ≡ was
@@ -47,25 +58,37 @@ unfolding earlier_number
 number_back d old new was there bits unsigned signed low_unsigned low_signed =
     let wide = was.range.wide in
     let low = was.range.low in
+    let other = there.range.wide in
+    let low_other = there.range.low in
+    let first =
+    ap (λ n. signed_first w64 d.signed n other.signed_least new.signed) unsigned.first
+    ∙ signed.first in
+    let second =
+    ap (λ n. signed_second w64 d.signed n other.signed_greatest new.signed) unsigned.second
+    ∙ signed.second in
+    let low_first =
+    ap (λ n. signed_first w32 d.low_signed n low_other.signed_least new.low_signed)
+    low_unsigned.first ∙ low_signed.first in
+    let low_second =
+    ap (λ n. signed_second w32 d.low_signed n low_other.signed_greatest new.low_signed)
+    low_unsigned.second ∙ low_signed.second in
     ap₂ (λ (b : Bits) (r : Range). record { bits = b; range = r }) bits
     (ap₂ (λ (w : Wide) (l : Low). record { wide = w; low = l })
     (same_wide _ wide unsigned.first
-    (max_of _ _ wide.least wide.greatest unsigned.first unsigned.second wide.ordered)
-    signed.first
-    (int_max_of _ _ wide.signed_least wide.signed_greatest signed.first signed.second
-    wide.signed_ordered))
+    (max_of _ _ wide.least wide.greatest unsigned.first unsigned.second wide.ordered) first
+    (int_max_of _ _ wide.signed_least wide.signed_greatest first second wide.signed_ordered))
     (same_low _ low low_unsigned.first
     (max_of _ _ low.least low.greatest low_unsigned.first low_unsigned.second low.ordered)
-    low_signed.first
-    (int_max_of _ _ low.signed_least low.signed_greatest low_signed.first low_signed.second
+    low_first
+    (int_max_of _ _ low.signed_least low.signed_greatest low_first low_second
     low.signed_ordered)))
 
 -- and the stacks
 pub stacks_back : (d : Differences) (old new : NumberStacks) → bits_left d.bits new.bits ≡ old.bits
     → drop (count_of d.unsigned) new.unsigned ≡ old.unsigned
-    → drop (count_of d.signed) new.signed ≡ old.signed
+    → signed_left d.signed new.signed ≡ old.signed
     → drop (count_of d.low_unsigned) new.low_unsigned ≡ old.low_unsigned
-    → drop (count_of d.low_signed) new.low_signed ≡ old.low_signed → numbers_left d new ≡ old
+    → signed_left d.low_signed new.low_signed ≡ old.low_signed → numbers_left d new ≡ old
 unfolding numbers_left
 stacks_back d old new bits unsigned signed low_unsigned low_signed =
     let first : numbers_left d new

@@ -1,10 +1,11 @@
 -- What numbers were before they changed, by what differs from the numbers that are there now.
 use Rattle.std.specs.Prelude.{ℕ, ℤ, List, drop, max, Bool, true, false}
-use Rattle.std.specs.Int.{int_max}
+use Rattle.std.specs.Int.{w32, w64, int_max}
 use Rattle.known_bits.specs.declared.bits.Bits.{Bits}
 use Rattle.reg_state.specs.declared.scalars.Scalar.{Scalar}
 use Rattle.explorer.specs.declared.differences.Differences.{Differences}
 use Rattle.explorer.specs.OfTwo.{top, first_of, second_of, count_of}
+use Rattle.explorer.specs.SignedLimits.{signed_first, signed_second, signed_left}
 
 -- the known bits and the limits that differed, the last ones first
 pub record NumberStacks : Type 0 where
@@ -29,13 +30,15 @@ earlier_number d s there =
     let wide = there.range.wide in
     let low = there.range.low in
     let least = first_of d.unsigned wide.least s.unsigned in
-    let signed_least = first_of d.signed wide.signed_least s.signed in
+    let signed_least = signed_first w64 d.signed least wide.signed_least s.signed in
     let low_least = first_of d.low_unsigned low.least s.low_unsigned in
-    let low_signed_least = first_of d.low_signed low.signed_least s.low_signed in
+    let low_signed_least =
+    signed_first w32 d.low_signed low_least low.signed_least s.low_signed in
     let greatest = second_of d.unsigned wide.greatest s.unsigned in
-    let signed_greatest = second_of d.signed wide.signed_greatest s.signed in
+    let signed_greatest = signed_second w64 d.signed greatest wide.signed_greatest s.signed in
     let low_greatest = second_of d.low_unsigned low.greatest s.low_unsigned in
-    let low_signed_greatest = second_of d.low_signed low.signed_greatest s.low_signed in
+    let low_signed_greatest =
+    signed_second w32 d.low_signed low_greatest low.signed_greatest s.low_signed in
     record {
       bits = earlier_bits d.bits there.bits s.bits;
       range = record {
@@ -64,7 +67,7 @@ numbers_left d s =
     record {
       bits = bits_left d.bits s.bits;
       unsigned = drop (count_of d.unsigned) s.unsigned;
-      signed = drop (count_of d.signed) s.signed;
+      signed = signed_left d.signed s.signed;
       low_unsigned = drop (count_of d.low_unsigned) s.low_unsigned;
-      low_signed = drop (count_of d.low_signed) s.low_signed;
+      low_signed = signed_left d.low_signed s.low_signed;
     }

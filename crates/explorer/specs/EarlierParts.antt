@@ -1,5 +1,5 @@
 -- What parts of a call frame were before they changed.
-use Rattle.std.specs.Prelude.{List, [], ◌∷◌, drop, Option, Some, None}
+use Rattle.std.specs.Prelude.{ℕ, List, [], ◌∷◌, drop, Option, Some, None}
 use Rattle.reg_state.specs.declared.scalars.Scalar.{Scalar}
 use Rattle.reg_state.specs.declared.kinds.Kind.{Kind}
 use Rattle.reg_state.specs.declared.kinds.Kind.TheVariants.{Unset, Number, Packet}
@@ -13,12 +13,14 @@ use Rattle.explorer.specs.declared.part_changes.ShortPlace.{ShortPlace}
 use Rattle.explorer.specs.declared.part_changes.ShortPlace.TheVariants.{Register, Slot}
 use Rattle.explorer.specs.declared.part_changes.ShortPacket.{ShortPacket}
 use Rattle.explorer.specs.declared.part_changes.Change.{Change}
-use Rattle.explorer.specs.declared.part_changes.Change.TheVariants.{UnsetRegister, WrittenSlot, NumberAt, PacketAt, WholePart}
+use Rattle.explorer.specs.declared.part_changes.Change.TheVariants.{UnsetRegister, WrittenSlot, ConstantIn, NumberAt, PacketAt, WholePart}
+use Rattle.explorer.specs.Constants.{constant_part}
 use Rattle.explorer.specs.EarlierNumbers.{NumberStacks, earlier_number, numbers_left}
 
 -- what was kept of parts, the last ones first
 pub record PartStacks : Type 0 where
   pub numbers : NumberStacks
+  pub constants : List ℕ
   pub packets : List ShortPacket
   pub parts : List Part
 
@@ -47,6 +49,10 @@ abbrev pub number_part : ShortPlace → Option Scalar → (Scalar → Scalar) �
 number_part place (Some there) earlier = part_at place (Number (earlier there))
 number_part place None earlier = no_part
 
+abbrev pub constant_left : ℕ → List ℕ → Part
+constant_left n (v ∷ constants) = constant_part n v
+constant_left n [] = no_part
+
 abbrev pub packet_part : ShortPlace → List ShortPacket → Part
 packet_part place (p ∷ packets) = part_at place (packet_kind p)
 packet_part place [] = no_part
@@ -59,6 +65,7 @@ whole_part [] = no_part
 abbrev pub earlier_part : Change → PartStacks → AbstractFrame → Part
 earlier_part (UnsetRegister n) s f = InRegister n Unset
 earlier_part (WrittenSlot n marks) s f = InSlot n (Written marks)
+earlier_part (ConstantIn n) s f = constant_left n s.constants
 earlier_part (NumberAt place d) s f =
     number_part place (number_at f place) (earlier_number d s.numbers)
 earlier_part (PacketAt place) s f = packet_part place s.packets
@@ -72,6 +79,7 @@ number_left None all left = all
 abbrev pub parts_left : Change → PartStacks → AbstractFrame → PartStacks
 parts_left (UnsetRegister n) s f = s
 parts_left (WrittenSlot n marks) s f = s
+parts_left (ConstantIn n) s f = record s { constants = drop 1 s.constants }
 parts_left (NumberAt place d) s f =
     record s { numbers = number_left (number_at f place) s.numbers (numbers_left d s.numbers) }
 parts_left (PacketAt place) s f = record s { packets = drop 1 s.packets }

@@ -10,9 +10,10 @@ use crate::of_two::OfTwo;
 pub struct Differences {
     pub bits: bool,
     pub unsigned: OfTwo,
-    pub signed: OfTwo,
+    /// None: the signed limits are the unsigned ones.
+    pub signed: Option<OfTwo>,
     pub low_unsigned: OfTwo,
-    pub low_signed: OfTwo,
+    pub low_signed: Option<OfTwo>,
     pub ghost ordered: { (least greatest : ℕ) → least ≤ max least greatest },
     pub ghost signed_ordered: { (least greatest : ℤ) → least ≤ℤ int_max least greatest },
 }

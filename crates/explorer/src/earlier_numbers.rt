@@ -5,6 +5,7 @@ ghost use Rattle.explorer.specs.EarlierNumbers.{earlier_bits, bits_left, earlier
 
 use crate::differences::Differences;
 use crate::of_two::OfTwo;
+use crate::signed_limits::{put_low_signed, put_signed, take_low_signed, take_signed};
 use known_bits::Bits;
 use ranges::{Low, Range, Wide};
 use reg_state::Scalar;
@@ -95,30 +96,14 @@ impl EarlierNumbers {
                 (now.least, now.greatest),
                 (wide.least != now.least, wide.greatest != now.greatest),
             )?,
-            signed: OfTwo::put(
-                &mut self.signed,
-                (wide.signed_least, wide.signed_greatest),
-                (now.signed_least, now.signed_greatest),
-                (
-                    wide.signed_least != now.signed_least,
-                    wide.signed_greatest != now.signed_greatest,
-                ),
-            )?,
+            signed: put_signed(&mut self.signed, wide, now)?,
             low_unsigned: OfTwo::put(
                 &mut self.low_unsigned,
                 (low.least, low.greatest),
                 (low_now.least, low_now.greatest),
                 (low.least != low_now.least, low.greatest != low_now.greatest),
             )?,
-            low_signed: OfTwo::put(
-                &mut self.low_signed,
-                (low.signed_least, low.signed_greatest),
-                (low_now.signed_least, low_now.signed_greatest),
-                (
-                    low.signed_least != low_now.signed_least,
-                    low.signed_greatest != low_now.signed_greatest,
-                ),
-            )?,
+            low_signed: put_low_signed(&mut self.low_signed, low, low_now)?,
         })
     }
 
@@ -133,15 +118,19 @@ impl EarlierNumbers {
         let unsigned = differ
             .unsigned
             .take(&mut self.unsigned, (wide.least, wide.greatest));
-        let signed = differ.signed.take(
+        let signed = take_signed(
             &mut self.signed,
+            differ.signed,
+            unsigned,
             (wide.signed_least, wide.signed_greatest),
         );
         let low_unsigned = differ
             .low_unsigned
             .take(&mut self.low_unsigned, (low.least, low.greatest));
-        let low_signed = differ.low_signed.take(
+        let low_signed = take_low_signed(
             &mut self.low_signed,
+            differ.low_signed,
+            low_unsigned,
             (low.signed_least, low.signed_greatest),
         );
         Scalar {

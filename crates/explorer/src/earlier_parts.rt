@@ -3,6 +3,7 @@
 ghost use Rattle.std.specs.Prelude.{◌≡◌, IfOk, IfSome};
 ghost use Rattle.explorer.specs.EarlierParts.{earlier_part, parts_left, number_at, packet_kind, part_at};
 
+use crate::constants::{constant_in, constant_part};
 use crate::earlier_numbers::EarlierNumbers;
 use crate::part_changes::{Change, ShortPacket, ShortPlace};
 use reg_state::{Kind, Scalar};
@@ -17,6 +18,7 @@ use std::marker::Model;
 #[derive(Drop)]
 pub struct EarlierParts {
     numbers: EarlierNumbers,
+    constants: Vec<u64>,
     packets: Vec<ShortPacket>,
     parts: Vec<Part>,
 }
@@ -29,6 +31,7 @@ impl Model for EarlierParts {
 
     ghost view = { λ earlier. record {
       numbers = earlier.numbers;
+      constants = reverse earlier.constants.items;
       packets = reverse earlier.packets.items;
       parts = reverse earlier.parts.items;
     } };
@@ -91,6 +94,7 @@ impl EarlierParts {
     pub fn new(alloc: Global) -> Self {
         EarlierParts {
             numbers: EarlierNumbers::new(alloc),
+            constants: Vec::new(alloc),
             packets: Vec::new(alloc),
             parts: Vec::new(alloc),
         }
@@ -151,6 +155,10 @@ impl EarlierParts {
         ensures was { IfOk result (λ c. earlier_part c self.new frame.now ≡ was.now) }
         ensures left { IfOk result (λ c. parts_left c self.new frame.now ≡ self.old) }
     {
+        if let Some((number, value)) = constant_in(was) {
+            self.constants.push(value)?;
+            return Ok(Change::ConstantIn(number));
+        }
         match was {
             Part::InRegister(number, Kind::Unset) => Ok(Change::UnsetRegister(*number)),
             Part::InSlot(index, StackSlot::Written(marks)) => {
@@ -174,6 +182,10 @@ impl EarlierParts {
         match change {
             Change::UnsetRegister(number) => Part::InRegister(number, Kind::Unset),
             Change::WrittenSlot(index, marks) => Part::InSlot(index, StackSlot::Written(marks)),
+            Change::ConstantIn(number) => match self.constants.pop() {
+                Some(value) => constant_part(number, value),
+                None => Part::InRegister(0, Kind::Unset),
+            },
             Change::NumberAt(place, differ) => match number_at(frame, place) {
                 Some(there) => {
                     let numbers = self.numbers.take(differ, &there);

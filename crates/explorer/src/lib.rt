@@ -29,6 +29,7 @@ mod pending;
 mod proved_bytes;
 mod search;
 mod shared_parts;
+mod signed_limits;
 mod state_trees;
 mod stored_forms;
 mod stored_states;

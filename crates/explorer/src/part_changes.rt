@@ -24,6 +24,7 @@ pub struct ShortPacket {
 pub enum Change {
     UnsetRegister(u8),
     WrittenSlot(u8, u8),
+    ConstantIn(u8),
     NumberAt(ShortPlace, Differences),
     PacketAt(ShortPlace),
     WholePart,

@@ -1,8 +1,6 @@
-use Rattle.std.proofs.Common.{◌∙◌, reverse, arith}
-use Rattle.std.specs.Int.{w32, w64}
-use Rattle.std.proofs.lemmas.Int.{to_z-of_z}
+use Rattle.std.proofs.Common.{◌∙◌, reverse}
 use Rattle.explorer.specs.EarlierNumbers.{NumberStacks}
-use Rattle.explorer.proofs.EarlierLaws.{number_back, same_put, stacks_back}
+use Rattle.explorer.proofs.EarlierLaws.{number_back, stacks_back}
 use Rattle.explorer.proofs.earlier_numbers.EarlierNumbers.put.Goals as goal
 
 pub returns-clause-was : goal.returns-clause-was
@@ -16,23 +14,9 @@ returns-clause-was c =
       low_unsigned = reverse own.low_unsigned.items;
       low_signed = reverse own.low_signed.items;
     } in
-    let was = c.args.was.now.range in
-    let there = c.args.there.now.range in
     number_back _ old _ c.args.was.now c.args.there.now c.in_ok-put_bits.ensures.was
-    c.in_ok-put.ensures
-    (same_put _ _ _ _ _ was.wide.signed_least was.wide.signed_greatest there.wide.signed_least
-    there.wide.signed_greatest _ _
-    (to_z-of_z w64 was.wide.signed_least (omega arith))
-    (to_z-of_z w64 was.wide.signed_greatest (omega arith))
-    (to_z-of_z w64 there.wide.signed_least (omega arith))
-    (to_z-of_z w64 there.wide.signed_greatest (omega arith)) c.in_ok-put-2.ensures)
-    c.in_ok-put-3.ensures
-    (same_put _ _ _ _ _ was.low.signed_least was.low.signed_greatest there.low.signed_least
-    there.low.signed_greatest _ _
-    (to_z-of_z w32 was.low.signed_least (omega arith))
-    (to_z-of_z w32 was.low.signed_greatest (omega arith))
-    (to_z-of_z w32 there.low.signed_least (omega arith))
-    (to_z-of_z w32 there.low.signed_greatest (omega arith)) c.in_ok-put-4.ensures)
+    c.in_ok-put.ensures c.in_ok-put_signed.ensures c.in_ok-put-2.ensures
+    c.in_ok-put_low_signed.ensures
 
 pub returns-clause-left : goal.returns-clause-left
 returns-clause-left c =
@@ -46,5 +30,6 @@ returns-clause-left c =
       low_signed = reverse own.low_signed.items;
     } in
     stacks_back _ old _ c.in_ok-put_bits.ensures.left c.in_ok-put.ensures.left
-    c.in_ok-put-2.ensures.left c.in_ok-put-3.ensures.left c.in_ok-put-4.ensures.left
+    c.in_ok-put_signed.ensures.left c.in_ok-put-2.ensures.left
+    c.in_ok-put_low_signed.ensures.left
     ∙ c.self.view_is
