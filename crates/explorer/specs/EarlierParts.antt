@@ -9,11 +9,12 @@ use Rattle.stack_state.specs.Meaning.{kind_at}
 use Rattle.stack_state.specs.Slots.{slot_at, kind_in}
 use Rattle.state_index.specs.declared.parts.Part.{Part}
 use Rattle.state_index.specs.declared.parts.Part.TheVariants.{InRegister, InSlot}
+use Rattle.explorer.specs.declared.differences.Differences.{Differences}
 use Rattle.explorer.specs.declared.part_changes.ShortPlace.{ShortPlace}
 use Rattle.explorer.specs.declared.part_changes.ShortPlace.TheVariants.{Register, Slot}
 use Rattle.explorer.specs.declared.part_changes.ShortPacket.{ShortPacket}
 use Rattle.explorer.specs.declared.part_changes.Change.{Change}
-use Rattle.explorer.specs.declared.part_changes.Change.TheVariants.{UnsetRegister, WrittenSlot, ConstantIn, NumberAt, PacketAt, WholePart}
+use Rattle.explorer.specs.declared.part_changes.Change.TheVariants.{UnsetRegister, WrittenSlot, ConstantIn, NumberInRegister, NumberInSlot, PacketAt, WholePart}
 use Rattle.explorer.specs.Constants.{constant_part}
 use Rattle.explorer.specs.EarlierNumbers.{NumberStacks, earlier_number, numbers_left}
 
@@ -41,6 +42,10 @@ abbrev pub number_at : AbstractFrame → ShortPlace → Option Scalar
 number_at f (Register n) = number_in (kind_at f.registers n)
 number_at f (Slot n) = number_in (kind_in (slot_at f.stack.slots n))
 
+abbrev pub number_change : ShortPlace → Differences → Change
+number_change (Register n) d = NumberInRegister n d
+number_change (Slot n) d = NumberInSlot n d
+
 -- no part was kept: this one stands for it
 abbrev pub no_part : Part
 no_part = InRegister 0 Unset
@@ -66,8 +71,10 @@ abbrev pub earlier_part : Change → PartStacks → AbstractFrame → Part
 earlier_part (UnsetRegister n) s f = InRegister n Unset
 earlier_part (WrittenSlot n marks) s f = InSlot n (Written marks)
 earlier_part (ConstantIn n) s f = constant_left n s.constants
-earlier_part (NumberAt place d) s f =
-    number_part place (number_at f place) (earlier_number d s.numbers)
+earlier_part (NumberInRegister n d) s f =
+    number_part (Register n) (number_at f (Register n)) (earlier_number d s.numbers)
+earlier_part (NumberInSlot n d) s f =
+    number_part (Slot n) (number_at f (Slot n)) (earlier_number d s.numbers)
 earlier_part (PacketAt place) s f = packet_part place s.packets
 earlier_part WholePart s f = whole_part s.parts
 
@@ -80,7 +87,11 @@ abbrev pub parts_left : Change → PartStacks → AbstractFrame → PartStacks
 parts_left (UnsetRegister n) s f = s
 parts_left (WrittenSlot n marks) s f = s
 parts_left (ConstantIn n) s f = record s { constants = drop 1 s.constants }
-parts_left (NumberAt place d) s f =
-    record s { numbers = number_left (number_at f place) s.numbers (numbers_left d s.numbers) }
+parts_left (NumberInRegister n d) s f =
+    record s {
+      numbers = number_left (number_at f (Register n)) s.numbers (numbers_left d s.numbers);
+    }
+parts_left (NumberInSlot n d) s f =
+    record s { numbers = number_left (number_at f (Slot n)) s.numbers (numbers_left d s.numbers) }
 parts_left (PacketAt place) s f = record s { packets = drop 1 s.packets }
 parts_left WholePart s f = record s { parts = drop 1 s.parts }

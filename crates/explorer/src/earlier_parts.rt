@@ -1,9 +1,10 @@
 //! What parts of a call frame were before they changed.
 
 ghost use Rattle.std.specs.Prelude.{◌≡◌, IfOk, IfSome};
-ghost use Rattle.explorer.specs.EarlierParts.{earlier_part, parts_left, number_at, packet_kind, part_at};
+ghost use Rattle.explorer.specs.EarlierParts.{earlier_part, parts_left, number_at, number_change, packet_kind, part_at};
 
 use crate::constants::{constant_in, constant_part};
+use crate::differences::Differences;
 use crate::earlier_numbers::EarlierNumbers;
 use crate::part_changes::{Change, ShortPacket, ShortPlace};
 use reg_state::{Kind, Scalar};
@@ -77,6 +78,17 @@ fn number_at(frame: &AbstractFrame, place: ShortPlace) -> Option<Scalar>
     }
 }
 
+/// The change of a number at a place.
+#[inline(always)]
+fn number_change(place: ShortPlace, differ: Differences) -> Change
+    ensures { result ≡ number_change place differ }
+{
+    match place {
+        ShortPlace::Register(number) => Change::NumberInRegister(number, differ),
+        ShortPlace::Slot(index) => Change::NumberInSlot(index, differ),
+    }
+}
+
 /// The place of a part, and the kind of what is there, if it is a whole value.
 #[inline(always)]
 fn placed_kind(part: &Part) -> Option<(ShortPlace, Kind)>
@@ -125,7 +137,7 @@ impl EarlierParts {
             Kind::Number(numbers) => {
                 if let Some(there) = number_at(frame, place) {
                     let differ = self.numbers.put(&numbers, &there)?;
-                    return Ok(Change::NumberAt(place, differ));
+                    return Ok(number_change(place, differ));
                 }
             }
             Kind::Packet {
@@ -173,6 +185,22 @@ impl EarlierParts {
         }
     }
 
+    /// Takes back the number that was at a place, where there is one now.
+    #[inline(always)]
+    fn take_number(&mut self, place: ShortPlace, differ: Differences, frame: &AbstractFrame) -> Part
+        ensures part { result
+            ≡ earlier_part (number_change place differ) self.old frame.now }
+        ensures left { self.new ≡ parts_left (number_change place differ) self.old frame.now }
+    {
+        match number_at(frame, place) {
+            Some(there) => {
+                let numbers = self.numbers.take(differ, &there);
+                part_at(place, Kind::Number(numbers))
+            }
+            None => Part::InRegister(0, Kind::Unset),
+        }
+    }
+
     /// Takes back what a part of the frame was before it changed last.
     #[inline(always)]
     pub fn take(&mut self, change: Change, frame: &AbstractFrame) -> Part
@@ -186,13 +214,12 @@ impl EarlierParts {
                 Some(value) => constant_part(number, value),
                 None => Part::InRegister(0, Kind::Unset),
             },
-            Change::NumberAt(place, differ) => match number_at(frame, place) {
-                Some(there) => {
-                    let numbers = self.numbers.take(differ, &there);
-                    part_at(place, Kind::Number(numbers))
-                }
-                None => Part::InRegister(0, Kind::Unset),
-            },
+            Change::NumberInRegister(number, differ) => {
+                self.take_number(ShortPlace::Register(number), differ, frame)
+            }
+            Change::NumberInSlot(index, differ) => {
+                self.take_number(ShortPlace::Slot(index), differ, frame)
+            }
             Change::PacketAt(place) => match self.packets.pop() {
                 Some(pointer) => part_at(place, packet_kind(pointer)),
                 None => Part::InRegister(0, Kind::Unset),

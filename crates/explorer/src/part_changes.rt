@@ -25,7 +25,8 @@ pub enum Change {
     UnsetRegister(u8),
     WrittenSlot(u8, u8),
     ConstantIn(u8),
-    NumberAt(ShortPlace, Differences),
+    NumberInRegister(u8, Differences),
+    NumberInSlot(u8, Differences),
     PacketAt(ShortPlace),
     WholePart,
 }
