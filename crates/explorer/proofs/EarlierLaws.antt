@@ -33,11 +33,10 @@ same_put w a b c d e f g h old new one two three four put =
     }
 
 -- signed limits that are not the unsigned ones
-pub signed_put : (w : IntWidth) (which : OfTwo) (unsigned : ℕ × ℕ) (pair others : ℤ × ℤ)
-    (old new : List ℤ) → IsPut which pair others old new
+pub signed_put : {unsigned : ℕ × ℕ} {pair others : ℤ × ℤ} {old new : List ℤ} (w : IntWidth)
+    (which : OfTwo) → IsPut which pair others old new
     → IsSignedPut w (Some which) unsigned pair others old new
-signed_put w which unsigned pair others old new put =
-    record { first = put.first; second = put.second; left = put.left }
+signed_put w which put = record { first = put.first; second = put.second; left = put.left }
 
 -- what was put gives back the number
 pub number_back : (d : Differences) (old new : NumberStacks) (was there : Scalar)

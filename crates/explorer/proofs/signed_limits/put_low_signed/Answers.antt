@@ -8,7 +8,7 @@ pub returns : goal.returns
 returns c =
     let was = c.args.was in
     let there = c.args.there in
-    signed_put w32 c.in_ok-which.which _ _ _ _ _
+    signed_put w32 c.in_ok-which.which
     (same_put c.in_ok-which.which _ _ _ _ was.signed_least was.signed_greatest
     there.signed_least there.signed_greatest _ _
     (to_z-of_z w32 was.signed_least (omega arith))
