@@ -350,6 +350,35 @@ def null_identities() -> Iterator[Image]:
     )
 
 
+def null_results(count: int) -> list[str]:
+    """Look-ups whose answers are on the stack, from r10 - 16 on."""
+    look_up = ["r1 = map_by_idx(0)", "r2 = r10", "r2 += -8", "call 1"]
+    return [
+        line
+        for slot in range(count)
+        for line in [f"*(u32 *)(r10 - 8) = {slot}"] + look_up + [f"*(u64 *)(r10 - {16 + 8 * slot}) = r0"]
+    ]
+
+
+def frames_beside_a_loop() -> Iterator[Image]:
+    """A loop of branches that multiply and add to a number, below 8 call frames that are read after the calls."""
+    branches = [
+        line for bit in range(10) for line in [f"if r2 & {1 << bit} goto +1", "r5 *= 3" if bit % 2 else f"r5 += {1 << bit}"]
+    ]
+    body = unknown("r2") + branches + ["if r2 == r5 goto out"]
+    loop = unknown("r5") + counted(300000, body, "r8") + ["out: r0 = 2", "exit"]
+    kept: list[tuple[str, Callable[[int], list[str]], int]] = [
+        ("null results", null_results, 58),
+        ("numbers", lambda count: spilled(count, 16), 58),
+    ]
+    for name, known, count in kept:
+        lines = ["map hash 4 8 16", "goto f0"]
+        after = [f"r3 = *(u64 *)(r10 - {16 + 8 * slot})" for slot in range(count)]
+        for level in range(7):
+            lines += [f"f{level}: r9 = r1"] + known(count) + ["r1 = r9", f"call f{level + 1}"] + after + ["exit"]
+        yield f"a loop of branches below 8 frames of {count} {name}", lines + ["f7: r9 = r1"] + known(count) + loop
+
+
 def calls() -> Iterator[Image]:
     """Functions that are called again and again."""
     yield "calls in a loop whose limits grow", (
@@ -496,6 +525,41 @@ def multiples(registers: list[str]) -> list[str]:
     return of_64_bits(registers) + [f"{register} &= -256" for register in registers]
 
 
+def between_multiples(registers: list[str]) -> list[str]:
+    """Unknown numbers in these registers that are 3 above a multiple of 256."""
+    return multiples(registers) + [f"{register} += 3" for register in registers]
+
+
+def of_high_halves(registers: list[str]) -> list[str]:
+    """Unknown numbers in these registers of which only some bits of the high half are unknown."""
+    return of_64_bits(registers) + ["r7 = 0x1234567700000000 ll"] + [f"{register} &= r7" for register in registers]
+
+
+def with_signs(registers: list[str]) -> list[str]:
+    """Unknown signed numbers of 32 bits in these registers."""
+    return of_32_bits(registers) + [f"{register} = (s32){register}" for register in registers]
+
+
+def narrow_beside_wide(registers: list[str]) -> list[str]:
+    """Unknown numbers above 2^41 in these registers, of which every second one may be 1,024 numbers."""
+    lines = of_64_bits(registers)
+    for index, register in enumerate(registers):
+        lines += [f"r7 = {(1 << 10 if index % 2 else 1 << 40) - 1:#x} ll", f"{register} &= r7"]
+        lines += [f"r7 = {1 << 41:#x} ll", f"{register} += r7"]
+    return lines
+
+
+def by_other_bits(registers: list[str]) -> list[str]:
+    """Unknown numbers in these registers; where the bits of one are known, those of the next one are not."""
+    lines = of_64_bits(registers)
+    for index, register in enumerate(registers):
+        unknown_bits, ones = (
+            (0x5555555555555555, 0xAAAAAAAA00AAAAA0) if index % 2 == 0 else (0xAAAAAAAAAAAAAAAA, 0x5555540555005550)
+        )
+        lines += [f"r7 = {unknown_bits:#x} ll", f"{register} &= r7", f"r7 = {ones:#x} ll", f"{register} |= r7"]
+    return lines
+
+
 def tests_in_turn(
     test: Callable[[list[str], int], str], numbers: int, slots: int, known: Callable[[list[str]], list[str]] = of_32_bits
 ) -> list[str]:
@@ -536,6 +600,24 @@ def two_halves(registers: list[str], turn: int) -> str:
     return f"if {' '.join(compared('>', registers, turn)).replace('r', 'w')} goto out"
 
 
+def two_signed_halves(registers: list[str], turn: int) -> str:
+    return f"if {' '.join(compared('s>', registers, turn)).replace('r', 'w')} goto out"
+
+
+def two_of_each_kind(registers: list[str], turn: int) -> str:
+    return [two_numbers, two_signed, two_halves, two_signed_halves][turn % 4](registers, turn)
+
+
+def neighbours(sign: str) -> Callable[[list[str], int], str]:
+    """Tests of a number and the next one."""
+
+    def test(registers: list[str], turn: int) -> str:
+        first = turn * 2 % len(registers)
+        return f"if {registers[first]} {sign} {registers[first + 1]} goto out"
+
+    return test
+
+
 def two_ways(narrowed: list[str], first: list[str], second: list[str]) -> list[str]:
     """A loop whose tests lead to two slots in turn."""
     tests = [f"if r{2 + 2 * (turn % 2)} == {1 + turn // 2} goto {'first' if turn % 2 == 0 else 'second'}" for turn in range(3000)]
@@ -569,6 +651,18 @@ def pending() -> Iterator[Image]:
     yield "3,000 signed tests of two of 8 multiples of 256", tests_in_turn(two_signed, 8, 0, multiples)
     yield "3,000 tests of the low halves of two of 8 numbers of 64 bits", tests_in_turn(two_halves, 8, 0, of_64_bits)
     yield "3,000 tests of the low halves of two of 8 multiples of 256", tests_in_turn(two_halves, 8, 0, multiples)
+    yield "3,000 signed tests of the low halves of two of 8 multiples of 256", tests_in_turn(two_signed_halves, 8, 0, multiples)
+    between = "8 numbers 3 above multiples of 256"
+    yield f"3,000 tests of two of {between}", tests_in_turn(two_numbers, 8, 0, between_multiples)
+    yield f"3,000 tests of each kind of two of {between}, 60 slots beside", tests_in_turn(
+        two_of_each_kind, 8, 60, between_multiples
+    )
+    yield f"3,000 tests of the low halves of two of {between}", tests_in_turn(two_halves, 8, 0, between_multiples)
+    yield "3,000 tests of two of 8 numbers of high halves", tests_in_turn(two_numbers, 8, 0, of_high_halves)
+    yield "3,000 signed tests of two of 8 signed numbers of 32 bits", tests_in_turn(two_signed, 8, 0, with_signs)
+    yield "3,000 tests of each kind of two of 8 signed numbers of 32 bits", tests_in_turn(two_of_each_kind, 8, 0, with_signs)
+    yield "3,000 tests of a wide and a narrow one of 8 numbers", tests_in_turn(neighbours("<"), 8, 0, narrow_beside_wide)
+    yield "3,000 tests whether two of 8 numbers with other known bits are one", tests_in_turn(neighbours("=="), 8, 0, by_other_bits)
     yield "3,000 tests that lead to two slots, at which other stack slots are live", two_ways(
         [], all_tested([], range(0, 60, 2)), all_tested([], range(1, 60, 2))
     )
@@ -593,7 +687,20 @@ def with_a_call(lines: list[str]) -> list[str] | None:
     return lines[:first] + ["call nothing"] + lines[first:] + ["nothing: r0 = 0", "exit"]
 
 
-FAMILIES = [bits, limits, signed_limits, low_halves, stack_slots, frames, identities, null_identities, calls, many_slots, pending]
+FAMILIES = [
+    bits,
+    limits,
+    signed_limits,
+    low_halves,
+    stack_slots,
+    frames,
+    frames_beside_a_loop,
+    identities,
+    null_identities,
+    calls,
+    many_slots,
+    pending,
+]
 
 
 def of_both_sorts(images: Iterable[Image]) -> Iterator[Image]:

@@ -1,5 +1,5 @@
 -- Changes of a call frame, one after the other, and taken back.
-use Rattle.std.proofs.Common.{◌≡◌, ◌∙◌, ℕ, zero, suc, ◌+◌, List, [], ◌∷◌, ◌++◌, take, drop, reverse, get_or, set, add-one, length, refl, sym, ap, arith}
+use Rattle.std.proofs.Common.{◌≡◌, ◌∙◌, ℕ, zero, suc, ◌+◌, List, [], ◌∷◌, ◌++◌, take, drop, reverse, get_or, set, add-one, length, refl, sym, ap, ap₂, arith}
 use Rattle.std.proofs.Math.Seq.{take-add}
 use Rattle.std.proofs.lemmas.List.{drop_all, take_all, reverse-append, set-set, set-get_or}
 use Rattle.reg_state.specs.declared.kinds.Kind.{Kind}
@@ -9,8 +9,10 @@ use Rattle.state_index.specs.declared.parts.Part.{Part}
 use Rattle.state_index.specs.declared.parts.Part.TheVariants.{InRegister, InSlot}
 use Rattle.state_index.specs.Parts.{with_part, all_written}
 use Rattle.state_index.proofs.PartLaws.{all_written-append}
+use Rattle.explorer.specs.declared.part_changes.Change.{Change}
 use Rattle.explorer.specs.declared.changes.ChangedFrame.{ChangedFrame}
-use Rattle.explorer.specs.Changes.{IsChanged, changes_of}
+use Rattle.explorer.specs.EarlierParts.{PartStacks, earlier_part, parts_left}
+use Rattle.explorer.specs.Changes.{IsChanged, changes_of, earlier_parts}
 
 pub drop-add : {X : Type 0} (n m : ℕ) (l : List X) → drop (n + m) l ≡ drop m (drop n l)
 drop-add zero m l = let e : zero + m ≡ m = omega arith in ap (λ k. drop k l) e
@@ -48,19 +50,45 @@ pub reverse_more : {X : Type 0} (old new : List X) (x : X) → new ≡ old ++ x 
     → reverse new ≡ x ∷ reverse old
 reverse_more old new x more = ap reverse more ∙ reverse-append old (x ∷ [])
 
+-- one change more
+pub changes_more : (old new : ChangedFrame) (c : Change) (was : Part)
+    → new.changes.items ≡ old.changes.items ++ c ∷ []
+    → earlier_part c new.earlier new.frame ≡ was
+    → parts_left c new.earlier new.frame ≡ old.earlier → with_part new.frame was ≡ old.frame
+    → changes_of new ≡ was ∷ changes_of old
+unfolding earlier_parts
+changes_more old new c was more is left back =
+    let before = reverse old.changes.items in
+    ap (λ cs. earlier_parts new.frame cs new.earlier)
+    (reverse_more old.changes.items new.changes.items c more)
+    ∙ ap₂ (λ (p : Part) (s : PartStacks). p ∷ earlier_parts (with_part new.frame p) before s) is
+    left
+    ∙ ap (λ f. was ∷ earlier_parts f before old.earlier) back
+
+-- one change less
+pub changes_less : (old new : ChangedFrame) (c : Change) (was : Part)
+    → old.changes.items ≡ new.changes.items ++ c ∷ []
+    → was ≡ earlier_part c old.earlier old.frame
+    → new.earlier ≡ parts_left c old.earlier old.frame → new.frame ≡ with_part old.frame was
+    → changes_of old ≡ was ∷ changes_of new
+changes_less old new c was more is left back =
+    changes_more new old c was more (sym is) (sym left) (sym back)
+
 -- one change
-pub IsChanged-one : (old new : ChangedFrame) (part was : Part)
-    → new.changes.items ≡ old.changes.items ++ was ∷ []
+pub IsChanged-one : (old new : ChangedFrame) (c : Change) (part was : Part)
+    → new.changes.items ≡ old.changes.items ++ c ∷ []
     → new.frame ≡ with_part old.frame part
-    → with_part (with_part old.frame part) was ≡ old.frame → IsChanged 1 old new
+    → with_part (with_part old.frame part) was ≡ old.frame
+    → earlier_part c new.earlier new.frame ≡ was
+    → parts_left c new.earlier new.frame ≡ old.earlier → IsChanged 1 old new
 unfolding all_written
-IsChanged-one old new part was more written back =
+IsChanged-one old new c part was more written back is left =
+    let undone : with_part new.frame was ≡ old.frame =
+    ap (λ f. with_part f was) written ∙ back in
     let rev : changes_of new ≡ was ∷ changes_of old =
-    reverse_more old.changes.items new.changes.items was more in
+    changes_more old new c was more is left undone in
     record {
-      frame =
-          ap (λ l. all_written new.frame (take 1 l)) rev ∙ ap (λ f. with_part f was) written
-          ∙ back;
+      frame = ap (λ l. all_written new.frame (take 1 l)) rev ∙ undone;
       changes = ap (λ l. drop 1 l) rev;
     }
 
@@ -78,12 +106,19 @@ pub drop_one : (was : Part) (rest all : List Part) (k j : ℕ) → k ≡ j + 1 �
 drop_one was rest all k j next first =
     ap (drop k) first ∙ ap (λ i. drop i (was ∷ rest)) (next ∙ add-one j)
 
+pub no_changes : (f : AbstractFrame) (items : List Change) (s : PartStacks) → length items ≡ 0
+    → earlier_parts f (reverse items) s ≡ []
+unfolding earlier_parts
+no_changes f [] s none = refl
+no_changes f (c ∷ items) s none = absurd (omega arith)
+
 -- where there are no changes, none is taken back
-pub undo_none : (f : AbstractFrame) (items : List Part) (k : ℕ) → length items ≡ 0
-    → f ≡ all_written f (take k (reverse items))
+pub undo_none : (f : AbstractFrame) (items : List Change) (s : PartStacks) (k : ℕ)
+    → length items ≡ 0 → f ≡ all_written f (take k (earlier_parts f (reverse items) s))
 unfolding all_written
-undo_none f [] k none = sym (ap (all_written f) (take_all k [] (omega arith)))
-undo_none f (p ∷ items) k none = absurd (omega arith)
+undo_none f items s k none =
+    sym (ap (λ l. all_written f (take k l)) (no_changes f items s none)
+    ∙ ap (all_written f) (take_all k [] (omega arith)))
 
 -- ---- a part as it was, written again
 

@@ -1,5 +1,6 @@
 pub mod ConstantsLaws
 pub mod ChangeLaws
+pub mod EarlierLaws
 pub mod HeldLaws
 pub mod PendingLaws
 pub mod StoredStatesLaws

@@ -24,15 +24,6 @@ changed_from any s states parts before f old a is dropped undone =
     ap₂ (λ (x : State) (l : List State). x ∷ l) is
     (ap₂ (λ (l : List Part) (g : AbstractFrame). states_from any states l g) dropped undone)
 
--- a state that is kept whole, and those before it
-pub whole_from : (any : Kind) (s a : State) (states : List PendingState) (parts before : List Part)
-    (f old : AbstractFrame) → s ≡ a → parts ≡ before → f ≡ old
-    → states_from any (Whole s ∷ states) parts f ≡ a ∷ states_from any states before old
-unfolding states_from
-whole_from any s a states parts before f old is same frame =
-    ap₂ (λ (x : State) (l : List State). x ∷ l) is
-    (ap₂ (λ (l : List Part) (g : AbstractFrame). states_from any states l g) same frame)
-
 length-states_from : (any : Kind) (states : List PendingState) (parts : List Part) (f : AbstractFrame)
     → length (states_from any states parts f) ≡ length states
 unfolding states_from

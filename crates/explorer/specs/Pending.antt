@@ -24,7 +24,7 @@ changed_state any s f = state_around s.around (seen s.places s.return_slot any f
 -- before each of them
 unfoldable pub states_from : Kind → List PendingState → List Part → AbstractFrame → List State
 states_from any [] parts f = []
-states_from any (Whole s ∷ states) parts f = s ∷ states_from any states parts f
+states_from any (Whole s ∷ states) parts f = s.value ∷ states_from any states parts f
 states_from any (Changed s ∷ states) parts f =
     changed_state any s f
     ∷ states_from any states (drop s.count parts) (all_written f (take s.count parts))

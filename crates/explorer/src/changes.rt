@@ -4,8 +4,9 @@ ghost use Rattle.std.specs.Prelude.{◌≡◌, ◌≤◌, [], IfOk, IsTrue, take
 ghost use Rattle.state_index.specs.Parts.{all_written, with_part};
 ghost use Rattle.explorer.specs.Changes.{IsChanged, changes_of};
 
+use crate::earlier_parts::EarlierParts;
 use crate::held_places::HeldPlaces;
-use crate::short_parts::ShortPart;
+use crate::part_changes::Change;
 use reg_state::Kind;
 use stack_state::AbstractFrame;
 use state_index::{Part, write};
@@ -15,7 +16,8 @@ use std::alloc::{AllocError, Global};
 #[derive(Drop)]
 pub struct ChangedFrame {
     pub frame: AbstractFrame,
-    changes: Vec<ShortPart>,
+    changes: Vec<Change>,
+    earlier: EarlierParts,
 }
 
 /// Returns whether a part of the frame is this one.
@@ -58,12 +60,13 @@ impl ChangedFrame {
         ChangedFrame {
             frame: AbstractFrame::default(),
             changes: Vec::new(alloc),
+            earlier: EarlierParts::new(alloc),
         }
     }
 
     /// Changes a part, and returns how many changes that took.
     #[inline(always)]
-    fn change(&mut self, alloc: Global, part: &Part) -> Result<usize, AllocError>
+    fn change(&mut self, part: &Part) -> Result<usize, AllocError>
         ensures changes { IfOk result (λ n. IsChanged n self.old self.new) }
         ensures most { IfOk result (λ n. n ≤ 1) }
     {
@@ -71,9 +74,9 @@ impl ChangedFrame {
             return Ok(0);
         }
         let was = part_there(&self.frame, part);
-        let short = ShortPart::of(alloc, &was)?;
-        self.changes.push(short)?;
         write(&mut self.frame, part);
+        let change = self.earlier.put(&was, &self.frame)?;
+        self.changes.push(change)?;
         Ok(1)
     }
 
@@ -81,7 +84,6 @@ impl ChangedFrame {
     /// many changes that took, and whether all are changed: if not, memory ran out.
     pub fn change_all(
         &mut self,
-        alloc: Global,
         parts: &[Part],
         any: &Kind,
         places: &mut HeldPlaces,
@@ -92,7 +94,7 @@ impl ChangedFrame {
         for index in 0..parts.len() {
             let part = &parts[index];
             if places.add(part, any) {
-                match self.change(alloc, part) {
+                match self.change(part) {
                     Ok(more) => count += more,
                     Err(_) => return (count, false),
                 }
@@ -108,10 +110,11 @@ impl ChangedFrame {
         ensures changes { changes_of self.new ≡ drop count (changes_of self.old) }
     {
         for _change in 0..count {
-            let Some(short) = self.changes.pop() else {
+            let Some(change) = self.changes.pop() else {
                 return;
             };
-            write(&mut self.frame, &short.part());
+            let was = self.earlier.take(change, &self.frame);
+            write(&mut self.frame, &was);
         }
     }
 }

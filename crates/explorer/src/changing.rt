@@ -1,8 +1,11 @@
 //! A pending state by what it changes.
 
-ghost use Rattle.std.specs.Prelude.{◌≡◌, ◌∷◌, List, IfOk};
+ghost use Rattle.std.specs.Prelude.{◌≡◌, ◌∷◌, List, IfOk, IfSome};
+ghost use Rattle.reg_state.specs.declared.kinds.Kind.{Kind as TheKind};
+ghost use Rattle.stack_state.specs.declared.states.AbstractFrame.{AbstractFrame as TheFrame};
+ghost use Rattle.state_index.specs.declared.parts.Part.{Part as ThePart};
 ghost use Rattle.explorer.specs.declared.changing.PendingState.{PendingState as ThePending};
-ghost use Rattle.explorer.specs.Pending.{states_below};
+ghost use Rattle.explorer.specs.Pending.{states_below, states_from};
 
 use crate::around::Around;
 use crate::changes::ChangedFrame;
@@ -19,16 +22,16 @@ use std::alloc::{AllocError, Global};
 #[derive(Drop)]
 pub struct ChangedState {
     pub around: Around,
-    return_slot: usize,
+    return_slot: u16,
     /// Says how many changes it made.
-    count: usize,
+    count: u16,
     places: HeldPlaces,
 }
 
 /// A pending state.
 #[derive(Drop)]
 pub enum PendingState {
-    Whole(Kept),
+    Whole(Box<Kept>),
     Changed(ChangedState),
 }
 
@@ -41,6 +44,29 @@ pub struct Changing {
     /// Scratch space for a frame, and for parts.
     scratch: AbstractFrame,
     parts: Vec<Part>,
+}
+
+/// Two numbers in 2 bytes each, if they fit.
+#[inline(always)]
+fn in_two_bytes(first: usize, second: usize) -> Option<(u16, u16)>
+    ensures first { IfSome result (λ r. r.0 ≡ first) }
+    ensures second { IfSome result (λ r. r.1 ≡ second) }
+{
+    match (u16::try_from(first), u16::try_from(second)) {
+        (Ok(first), Ok(second)) => Some((first, second)),
+        _ => None,
+    }
+}
+
+/// A pending state that is kept whole.
+fn kept_whole(alloc: Global, state: Kept) -> Result<PendingState, AllocError>
+    ensures { IfOk result (λ p. (any : TheKind) (states : List ThePending)
+        (parts : List ThePart) (frame : TheFrame)
+        → states_from any (p ∷ states) parts frame
+        ≡ state ∷ states_from any states parts frame) }
+{
+    let state = Box::new(alloc, state)?;
+    Ok(PendingState::Whole(state))
 }
 
 impl Changing {
@@ -63,23 +89,27 @@ impl Changing {
         let return_slot = state.return_slot();
         let mut places = HeldPlaces::none();
         let any = &self.any;
-        let (count, is_done) = self
-            .changed
-            .change_all(alloc, state.parts(), any, &mut places);
+        let (count, is_done) = self.changed.change_all(state.parts(), any, &mut places);
         if !is_done {
             return Err(AllocError);
         }
         places.see(return_slot, any, &self.changed.frame, &mut self.scratch);
+        let Some((return_slot, made)) = in_two_bytes(return_slot, count) else {
+            self.changed.undo(count);
+            let whole = kept_whole(alloc, state)?;
+            return Ok(whole);
+        };
         match state.into_around(&self.scratch) {
             Ok(around) => Ok(PendingState::Changed(ChangedState {
                 around,
                 return_slot,
-                count,
+                count: made,
                 places,
             })),
             Err(state) => {
                 self.changed.undo(count);
-                Ok(PendingState::Whole(state))
+                let whole = kept_whole(alloc, state)?;
+                Ok(whole)
             }
         }
     }
@@ -96,7 +126,10 @@ impl Changing {
             → states_below self.new (p ∷ states) ≡ state ∷ states_below self.old states) }
     {
         match is_whole {
-            true => Ok(PendingState::Whole(state)),
+            true => {
+                let whole = kept_whole(alloc, state)?;
+                Ok(whole)
+            }
             false => self.keep(alloc, state),
         }
     }
@@ -115,12 +148,12 @@ impl Changing {
             places,
         } = state;
         places.see(
-            return_slot,
+            usize::from(return_slot),
             &self.any,
             &self.changed.frame,
             &mut self.scratch,
         );
-        self.changed.undo(count);
+        self.changed.undo(usize::from(count));
         let kept = Kept::joined(alloc, around, &self.scratch, &mut self.parts)?;
         Ok(kept)
     }
@@ -132,7 +165,7 @@ impl Changing {
             → states_below self.old (state ∷ states) ≡ kept ∷ states_below self.new states) }
     {
         match state {
-            PendingState::Whole(state) => Ok(state),
+            PendingState::Whole(state) => Ok(Box::into_inner(state)),
             PendingState::Changed(state) => self.taken(alloc, state),
         }
     }

@@ -51,7 +51,7 @@ fn constant_of(kind: Kind) -> Option<u64>
 
 /// The register and the number, if a part says just that.
 #[inline(always)]
-fn constant_in(part: &Part) -> Option<(u8, u64)>
+pub fn constant_in(part: &Part) -> Option<(u8, u64)>
     ensures { IfSome result (λ c. part.now ≡ constant_part c.0 c.1) }
 {
     let Part::InRegister(number, kind) = *part else {

@@ -11,7 +11,7 @@ use crate::shared_parts::{
 };
 use reg_state::Kind;
 use stack_state::{AbstractFrame, StackSlot};
-use state_index::{Part, are_same, may_cover_part, write};
+use state_index::{Part, is_register_part, is_slot_part, may_cover_part, write};
 use std::alloc::{AllocError, Global};
 use std::marker::Model;
 
@@ -230,7 +230,10 @@ impl<'a> Rest<'a> {
     {
         match kind {
             Kind::Unset => true,
-            kind => are_same(self.next(), &[Part::InRegister(number, *kind)]),
+            kind => match self.next() {
+                [part] => is_register_part(part, number, kind),
+                _ => false,
+            },
         }
     }
 
@@ -241,7 +244,10 @@ impl<'a> Rest<'a> {
     {
         match slot {
             StackSlot::Written(0) => true,
-            slot => are_same(self.next(), &[Part::InSlot(index, *slot)]),
+            slot => match self.next() {
+                [part] => is_slot_part(part, index, slot),
+                _ => false,
+            },
         }
     }
 }

@@ -8,12 +8,14 @@ use ranges::{Low, Wide};
 use reg_state::{Kind, Scalar};
 use stack_state::StackSlot;
 
+#[inline(always)]
 fn are_same_bits(bits: &Bits, other: &Bits) -> bool
     ensures { IsTrue result → bits.now ≡ other.now }
 {
     bits.value == other.value && bits.mask == other.mask
 }
 
+#[inline(always)]
 fn are_same_limits(wide: &Wide, other: &Wide) -> bool
     ensures { IsTrue result → wide.now ≡ other.now }
 {
@@ -23,6 +25,7 @@ fn are_same_limits(wide: &Wide, other: &Wide) -> bool
     wide.signed_least == other.signed_least && wide.signed_greatest == other.signed_greatest
 }
 
+#[inline(always)]
 fn are_same_halves(low: &Low, other: &Low) -> bool
     ensures { IsTrue result → low.now ≡ other.now }
 {
@@ -32,6 +35,7 @@ fn are_same_halves(low: &Low, other: &Low) -> bool
     low.signed_least == other.signed_least && low.signed_greatest == other.signed_greatest
 }
 
+#[inline(always)]
 fn are_same_numbers(numbers: &Scalar, other: &Scalar) -> bool
     ensures { IsTrue result → numbers.now ≡ other.now }
 {
@@ -44,10 +48,11 @@ fn are_same_numbers(numbers: &Scalar, other: &Scalar) -> bool
     are_same_halves(&numbers.range.low, &other.range.low)
 }
 
+#[inline(always)]
 fn is_same_pointer(kind: &Kind, other: &Kind) -> bool
     ensures { IsTrue result → kind.now ≡ other.now }
 {
-    match (*kind, *other) {
+    match (kind, other) {
         (Kind::Context, Kind::Context) | (Kind::PacketEnd, Kind::PacketEnd) => true,
         (
             Kind::Stack { frame, offset },
@@ -55,7 +60,7 @@ fn is_same_pointer(kind: &Kind, other: &Kind) -> bool
                 frame: a,
                 offset: b,
             },
-        ) => frame == a && offset == b,
+        ) => *frame == *a && *offset == *b,
         (
             Kind::Packet {
                 fixed,
@@ -71,16 +76,17 @@ fn is_same_pointer(kind: &Kind, other: &Kind) -> bool
                 greatest: d,
                 proved: e,
             },
-        ) => fixed == a && identity == b && least == c && greatest == d && proved == e,
+        ) => { *fixed == *a && *identity == *b && *least == *c && *greatest == *d && *proved == *e }
         _ => false,
     }
 }
 
+#[inline(always)]
 fn is_same_map(kind: &Kind, other: &Kind) -> bool
     ensures { IsTrue result → kind.now ≡ other.now }
 {
-    match (*kind, *other) {
-        (Kind::Map { index }, Kind::Map { index: a }) => index == a,
+    match (kind, other) {
+        (Kind::Map { index }, Kind::Map { index: a }) => *index == *a,
         (
             Kind::MapValue {
                 index,
@@ -92,18 +98,19 @@ fn is_same_map(kind: &Kind, other: &Kind) -> bool
                 least: b,
                 greatest: c,
             },
-        ) => index == a && least == b && greatest == c,
+        ) => *index == *a && *least == *b && *greatest == *c,
         (
             Kind::MapValueOrNull { index, identity },
             Kind::MapValueOrNull {
                 index: a,
                 identity: b,
             },
-        ) => index == a && identity == b,
+        ) => *index == *a && *identity == *b,
         _ => false,
     }
 }
 
+#[inline(always)]
 fn is_same_kind(kind: &Kind, other: &Kind) -> bool
     ensures { IsTrue result → kind.now ≡ other.now }
 {
@@ -116,6 +123,7 @@ fn is_same_kind(kind: &Kind, other: &Kind) -> bool
     is_same_pointer(kind, other) || is_same_map(kind, other)
 }
 
+#[inline(always)]
 fn is_same_slot(slot: &StackSlot, other: &StackSlot) -> bool
     ensures { IsTrue result → slot.now ≡ other.now }
 {
@@ -126,17 +134,35 @@ fn is_same_slot(slot: &StackSlot, other: &StackSlot) -> bool
     }
 }
 
+#[inline(always)]
 fn is_same(part: &Part, other: &Part) -> bool
     ensures { IsTrue result → part.now ≡ other.now }
 {
-    match (part, other) {
-        (Part::InRegister(own, kind), Part::InRegister(number, others)) => {
-            *own == *number && is_same_kind(kind, others)
-        }
-        (Part::InSlot(own, slot), Part::InSlot(index, others)) => {
-            *own == *index && is_same_slot(slot, others)
-        }
-        _ => false,
+    match other {
+        Part::InRegister(number, kind) => is_register_part(part, *number, kind),
+        Part::InSlot(index, slot) => is_slot_part(part, *index, slot),
+    }
+}
+
+/// Returns whether a part says just this of a register.
+#[inline(always)]
+pub fn is_register_part(part: &Part, number: u8, kind: &Kind) -> bool
+    ensures { IsTrue result → part.now ≡ Part.InRegister number kind.now }
+{
+    match part {
+        Part::InRegister(own, known) => *own == number && is_same_kind(known, kind),
+        Part::InSlot(..) => false,
+    }
+}
+
+/// Returns whether a part says just this of a stack slot.
+#[inline(always)]
+pub fn is_slot_part(part: &Part, index: u8, slot: &StackSlot) -> bool
+    ensures { IsTrue result → part.now ≡ Part.InSlot index slot.now }
+{
+    match part {
+        Part::InRegister(..) => false,
+        Part::InSlot(own, known) => *own == index && is_same_slot(known, slot),
     }
 }
 

@@ -22,7 +22,7 @@ mod trees;
 
 pub use candidates::{FinishedCandidates, ShapesAt, UnfinishedCandidates};
 pub use efforts::Effort;
-pub use equality::are_same;
+pub use equality::{are_same, is_register_part, is_slot_part};
 pub use fingerprints::Fingerprints;
 pub use index::StateIndex;
 pub use keys::Key;

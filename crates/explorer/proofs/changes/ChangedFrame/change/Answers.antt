@@ -1,4 +1,3 @@
-use Rattle.std.proofs.Common.{◌∙◌, ◌++◌, ◌∷◌, [], ap}
 use Rattle.explorer.proofs.ChangeLaws.{IsChanged-none, IsChanged-one}
 use Rattle.explorer.proofs.changes.ChangedFrame.change.Goals as goal
 
@@ -7,7 +6,6 @@ returns-then-has_part-clause-changes c = IsChanged-none c.args.self.now
 
 pub returns-clause-changes : goal.returns-clause-changes
 returns-clause-changes c =
-    IsChanged-one c.args.self.now _ c.args.part.now c.part_there-was.result
-    (c.in_ok-push.ensures.items
-    ∙ ap (λ s. c.args.self.now.changes.items ++ s ∷ []) c.in_ok-short.ensures)
-    c.write.ensures c.part_there-was.ensures
+    IsChanged-one c.args.self.now _ c.in_ok-change.change c.args.part.now c.part_there-was.result
+    c.in_ok-push.ensures.items c.write.ensures c.part_there-was.ensures
+    c.in_ok-change.ensures.was c.in_ok-change.ensures.left

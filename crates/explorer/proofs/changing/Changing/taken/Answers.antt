@@ -1,6 +1,8 @@
-use Rattle.std.proofs.Common.{◌∙◌, sym, ap}
+use Rattle.std.proofs.Common.{◌∙◌, take, drop, sym, ap}
+use Rattle.state_index.specs.Parts.{all_written}
 use Rattle.explorer.specs.Around.{state_around}
 use Rattle.explorer.specs.Changes.{changes_of}
+use Rattle.explorer.specs.HeldPlaces.{seen}
 use Rattle.explorer.proofs.PendingLaws.{changed_from}
 use Rattle.explorer.proofs.changing.Changing.taken.Goals as goal
 
@@ -8,7 +10,12 @@ pub returns : goal.returns
 returns c = λ states.
     let s = c.args.state in
     let old = c.args.self.now in
-    changed_from old.any s states (changes_of old.changed) (changes_of c.undo.new.self)
-    old.changed.frame c.undo.new.self.frame c.in_ok-kept.kept
-    (sym (c.in_ok-kept.ensures ∙ ap (state_around s.around) c.see.ensures))
-    (sym c.undo.ensures.changes) (sym c.undo.ensures.frame)
+    let changes = changes_of old.changed in
+    changed_from old.any s states changes (changes_of c.undo.new.self) old.changed.frame
+    c.undo.new.self.frame c.in_ok-kept.kept
+    (sym (c.in_ok-kept.ensures
+    ∙ ap (state_around s.around)
+    (c.see.ensures ∙ ap (λ n. seen s.places n old.any old.changed.frame) c.from.ensures)))
+    (sym (c.undo.ensures.changes ∙ ap (λ n. drop n changes) c.from-2.ensures))
+    (sym (c.undo.ensures.frame
+    ∙ ap (λ n. all_written old.changed.frame (take n changes)) c.from-2.ensures))

@@ -1,0 +1,8 @@
+use Rattle.std.proofs.Common.{◌∷◌, ap}
+use Rattle.explorer.specs.Pending.{states_from}
+use Rattle.explorer.proofs.changing.kept_whole.Goals as goal
+
+pub returns : goal.returns
+unfolding states_from
+returns c = λ any states parts frame.
+    ap (λ s. s ∷ states_from any states parts frame) c.in_ok-state.ensures.ok
