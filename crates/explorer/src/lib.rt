@@ -20,6 +20,8 @@ mod large_numbers;
 mod latest;
 pub mod listened;
 mod listening;
+mod long_searches;
+mod look_ups;
 mod moves;
 mod pending;
 mod proved_bytes;
