@@ -40,7 +40,7 @@ impl<R: Files + Clock> Counter<'_, R> {
 impl<R: Files + Clock> Listener for Counter<'_, R> {
     type Stop = Infallible;
 
-    ghost follows = { λ _ _ _ _. Unit {0} };
+    ghost follows = { λ _ _ _ _ _. Unit {0} };
 
     #[inline(always)]
     fn arrives(&mut self, _state: &State) -> Result<(), Infallible> {
@@ -73,6 +73,11 @@ impl<R: Files + Clock> Listener for Counter<'_, R> {
 
     #[inline(always)]
     fn finished(&mut self, _number: u32) -> Result<(), Infallible> {
+        Ok(())
+    }
+
+    #[inline(always)]
+    fn begins_anew(&mut self) -> Result<(), Infallible> {
         Ok(())
     }
 

@@ -7,6 +7,7 @@ pub mod StoredStatesLaws
 pub mod GroupLaws
 pub mod Paths
 pub mod SearchMoves
+pub mod Lengthening
 pub mod Starts
 pub mod Stopping
 pub mod Unfinished

@@ -10,15 +10,23 @@ use Rattle.transfer.specs.declared.Ways.TheVariants as ways
 use Rattle.transfer.specs.Leading.{LeadsTo}
 use Rattle.explorer.specs.declared.stored_states.StoredState.{StoredState}
 use Rattle.explorer.specs.declared.trail.Visit.{Visit}
+use Rattle.walks.specs.Forgetting.{Precision, IsNoFiner}
+use Rattle.walks.proofs.PrecisionLaws.{StepsTo-as}
 use Rattle.walks.specs.Counts.{StepsInto, HasNumber, LeadsToOne, LeadsToTwo}
-use Rattle.explorer.specs.Search.{MeantBy, StepsAwaited, NumberFollowsBoth, NumberFollows, Waiting, Path}
+use Rattle.explorer.specs.Search.{MeantBy, StepsAwaited, NumberFollowsBoth, NumberFollows, Waiting, Path, IfStepsTo}
 use Rattle.explorer.proofs.StoredStatesLaws.{KeepsStates, KeepsStates-at}
 
 -- ---- paths
 
-Waiting-more : (p : Program) (m n : ℕ) (old new : List StoredState) (visit : Visit)
-    (s child : State) → m ≤ n → KeepsStates old new → Waiting p m old visit s child
-    → Waiting p n new visit s child
+pub IfStepsTo-as : (to how : Precision) (p : Program) (s : State) (o : Option State)
+    → IsNoFiner to how → IfStepsTo how p s o → IfStepsTo to p s o
+IfStepsTo-as to how p s None fine h = tt
+IfStepsTo-as to how p s (Some b) fine h = StepsTo-as to how p s b fine h
+
+Waiting-more : {how : Precision} (p : Program) (m n : ℕ) (old new : List StoredState)
+    (visit : Visit)
+    (s child : State) → m ≤ n → KeepsStates old new → Waiting how p m old visit s child
+    → Waiting how p n new visit s child
 Waiting-more p m n old new visit s child le kept h =
     record {
       waits = h.waits;
@@ -30,58 +38,89 @@ Waiting-more p m n old new visit s child le kept h =
       ready = h.ready;
     }
 
-pub Path-more : (p : Program) (m n : ℕ) (old new : List StoredState) → m ≤ n → KeepsStates old new
-    → (path : List Visit) (a b : State) → Path p m old a path b → Path p n new a path b
+pub Path-more : (how : Precision) (p : Program) (m n : ℕ) (old new : List StoredState) → m ≤ n
+    → KeepsStates old new
+    → (path : List Visit) (a b : State) → Path how p m old a path b → Path how p n new a path b
 unfolding Path
-Path-more p m n old new le kept [] a b h = h
-Path-more p m n old new le kept (visit ∷ path) a b h = (
+Path-more how p m n old new le kept [] a b h = h
+Path-more how p m n old new le kept (visit ∷ path) a b h = (
   h.0,
   Waiting-more p m n old new visit a h.0 le kept h.1,
-  Path-more p m n old new le kept path
+  Path-more how p m n old new le kept path
       h.0 b h.2,
 )
 
-pub Path-push : (p : Program) (m : ℕ) (states : List StoredState) (path : List Visit)
-    (visit : Visit) (a s child : State) → Path p m states a path s
-    → Waiting p m states visit s child → Path p m states a (path ++ visit ∷ []) child
+pub Path-push : {how : Precision} (p : Program) (m : ℕ) (states : List StoredState)
+    (path : List Visit)
+    (visit : Visit) (a s child : State) → Path how p m states a path s
+    → Waiting how p m states visit s child → Path how p m states a (path ++ visit ∷ []) child
 unfolding Path
-Path-push p m states [] visit a s child h waiting =
-    (child, subst (λ x. Waiting p m states visit x child) h waiting, refl)
+Path-push {how = how} p m states [] visit a s child h waiting =
+    (child, subst (λ x. Waiting how p m states visit x child) h waiting, refl)
 Path-push p m states (first ∷ path) visit a s child h waiting =
     (h.0, h.1, Path-push p m states path visit h.0 s child h.2 waiting)
 
+-- a path of exact walks is one of coarse walks
+
+Waiting-as : (to how : Precision) (p : Program) (m : ℕ) (states : List StoredState)
+    (visit : Visit) (s child : State) → IsNoFiner to how → Waiting how p m states visit s child
+    → Waiting to p m states visit s child
+Waiting-as to how p m states visit s child fine h = record {
+  waits = h.waits;
+  awaits = h.awaits;
+  steps = StepsTo-as to how p s child fine h.steps;
+  steps_aside = IfStepsTo-as to how p s visit.pending fine h.steps_aside;
+  best = h.best;
+  stored = h.stored;
+  ready = h.ready;
+}
+
+pub Path-as : (to how : Precision) (p : Program) (m : ℕ) (states : List StoredState)
+    (path : List Visit) (a b : State) → IsNoFiner to how → Path how p m states a path b
+    → Path to p m states a path b
+unfolding Path
+Path-as to how p m states [] a b fine h = h
+Path-as to how p m states (visit ∷ path) a b fine h = (
+  h.0,
+  Waiting-as to how p m states visit a h.0 fine h.1,
+  Path-as to how p m states path h.0 b fine h.2,
+)
+
 -- the last visit of a path
-pub record LastVisit (p : Program) (m : ℕ) (states : List StoredState) (a : State)
+pub record LastVisit (how : Precision) (p : Program) (m : ℕ) (states : List StoredState) (a : State)
     (path : List Visit) (visit : Visit) (child : State) : Type 0 where
   pub state : State
-  pub before : Path p m states a path state
-  pub waiting : Waiting p m states visit state child
+  pub before : Path how p m states a path state
+  pub waiting : Waiting how p m states visit state child
 
-pub Path-pop : (p : Program) (m : ℕ) (states : List StoredState) (path : List Visit) (visit : Visit)
-    (a child : State) → Path p m states a (path ++ visit ∷ []) child
-    → LastVisit p m states a path visit child
+pub Path-pop : {how : Precision} (p : Program) (m : ℕ) (states : List StoredState)
+    (path : List Visit) (visit : Visit)
+    (a child : State) → Path how p m states a (path ++ visit ∷ []) child
+    → LastVisit how p m states a path visit child
 unfolding Path
-Path-pop p m states [] visit a child h =
+Path-pop {how = how} p m states [] visit a child h =
     record {
       state = a;
       before = refl;
-      waiting = subst (λ x. Waiting p m states visit a x)
+      waiting = subst (λ x. Waiting how p m states visit a x)
           (sym h.2) h.1;
     }
 Path-pop p m states (first ∷ path) visit a child h =
     let rest = Path-pop p m states path visit h.0 child h.2 in
     record { state = rest.state; before = (h.0, h.1, rest.before); waiting = rest.waiting }
 
-pub Path-none : (p : Program) (m : ℕ) (states : List StoredState) (path : List Visit) (a b : State)
-    → length path ≡ 0 → Path p m states a path b → b ≡ a
+pub Path-none : (how : Precision) (p : Program) (m : ℕ) (states : List StoredState)
+    (path : List Visit) (a b : State)
+    → length path ≡ 0 → Path how p m states a path b → b ≡ a
 unfolding Path
-Path-none p m states [] a b none h = h
-Path-none p m states (visit ∷ path) a b none h = absurd (omega arith)
+Path-none how p m states [] a b none h = h
+Path-none how p m states (visit ∷ path) a b none h = absurd (omega arith)
 
-pub Path-here : (p : Program) (m : ℕ) (states : List StoredState) (path : List Visit) (a b : State)
-    → path ≡ [] → b ≡ a → Path p m states a path b
+pub Path-here : (how : Precision) (p : Program) (m : ℕ) (states : List StoredState)
+    (path : List Visit) (a b : State)
+    → path ≡ [] → b ≡ a → Path how p m states a path b
 unfolding Path
-Path-here p m states path a b none e = subst (λ x. Path p m states a x b) (sym none) e
+Path-here how p m states path a b none e = subst (λ x. Path how p m states a x b) (sym none) e
 
 -- ---- what a visit waits for
 

@@ -24,8 +24,9 @@ use Rattle.explorer.specs.declared.stored_states.StoredStates.{StoredStates}
 use Rattle.explorer.specs.declared.moves.Move.{Move}
 use Rattle.explorer.specs.declared.moves.Move.TheVariants.{New, Covered, Finished}
 use Rattle.explorer.specs.StoredStates.{StoredAt, GetsNumber}
-use Rattle.explorer.specs.Search.{Settles, Spends, CountsTo, Arrives, AllSettled, IsAtInsns, IfReady, IfStepsTo, Waiting, Path, OnPath, HasEnded, Explores, Comes, AfterMove}
-use Rattle.walks.specs.Forgetting.{Forgets}
+use Rattle.explorer.specs.Search.{precision_in, Settles, Spends, CountsTo, Arrives, AllSettled, IsAtInsns, IfReady, IfStepsTo, Waiting, Path, OnPath, HasEnded, Explores, Comes, AfterMove}
+use Rattle.walks.specs.Forgetting.{Precision, Coarse, Forgets}
+use Rattle.walks.proofs.PrecisionLaws.{Forgets-as, WalksTo-as}
 use Rattle.walks.proofs.Forgotten.{LeadsTo-forgets, GoesOnTo-forgets}
 use Rattle.explorer.proofs.Walking.{steps_by, into_by, Path-walks}
 use Rattle.explorer.proofs.Counting.{Spends-one, Spends-two, spent_here, spent_into, spent_on}
@@ -50,7 +51,7 @@ comes_to p old states scratch (New stored) h arrives =
         first = h.at.first;
         begins = h.at.begins;
         path =
-            Path-more p old.finished old.finished before after
+            Path-more (precision_in old.kept) p old.finished old.finished before after
             (omega arith) kept path h.at.first old.current h.at.path;
       };
       on_path = OnPath-arrives p before after path old.current stored arrives h.on_path;
@@ -72,7 +73,7 @@ comes_to p old states scratch (Covered k n) h arrives =
         first = h.at.first;
         begins = h.at.begins;
         path =
-            Path-more p old.finished old.finished before after
+            Path-more (precision_in old.kept) p old.finished old.finished before after
             (omega arith) kept path h.at.first old.current h.at.path;
       };
       on_path = OnPath-same before after path None arrives.2 h.on_path;
@@ -88,22 +89,25 @@ comes_to p old states scratch (Finished n) h arrives = absurd arrives
 -- ---- a visit that ends
 
 -- the number is written, and the search is at the state before
-pub record IsBack (p : Program) (m : ℕ) (states : List StoredState) (a : State) (path : List Visit)
+pub record IsBack (how : Precision) (p : Program) (m : ℕ) (states : List StoredState) (a : State)
+    (path : List Visit)
     (number : ℕ) : Type 0 where
   pub state : State
   pub fine : AllSettled p m states
-  pub before : Path p m states a path state
+  pub before : Path how p m states a path state
   pub on_path : OnPath states path None
   pub settled : Settles p state number
   pub most : number ≤ m
 
-pub goes_back : (p : Program) (m : ℕ) (old new : List StoredState) (a : State) (path : List Visit)
+pub goes_back : {how : Precision} (p : Program) (m : ℕ) (old new : List StoredState) (a : State)
+    (path : List Visit)
     (visit : Visit) (child : State) (n best : ℕ)
-    → Forgets p start a → AllSettled p m old → LastVisit p m old a path visit child
+    → Forgets how p start a → AllSettled p m old → LastVisit how p m old a path visit child
     → OnPath old path visit.stored → Settles p child n → n ≤ m → visit.pending ≡ None
     → best ≡ max visit.best n
-    → GetsNumber old visit.stored (best + 1) new → IsBack p (m + 1) new a path (best + 1)
-goes_back p m old new a path visit child n best begins fine last on settled le nothing is gets =
+    → GetsNumber old visit.stored (best + 1) new → IsBack how p (m + 1) new a path (best + 1)
+goes_back {how = how} p m old new a path visit child n best begins fine last on settled le nothing
+    is gets =
     let s = last.state in
     let waiting = last.waiting in
     let own : Settles p s (best + 1) = record {
@@ -116,10 +120,13 @@ goes_back p m old new a path visit child n best begins fine last on settled le n
       state = s;
       fine =
           GetsNumber-fine p (m + 1) old visit.stored s (best + 1) new gets waiting.stored own
-          (omega (arith, most))
-          (length path, Path-walks p m old path a s begins last.before)
+          (omega (arith, most)) (
+            length path,
+            WalksTo-as Coarse how p (length path) s tt
+                (Path-walks p m old path a s begins last.before),
+          )
           (AllSettled-more p m (m + 1) old (omega arith) fine);
-      before = Path-more p m (m + 1) old new (omega arith) kept path a s last.before;
+      before = Path-more how p m (m + 1) old new (omega arith) kept path a s last.before;
       on_path =
           OnPath-finish old new path visit.stored s (best + 1) gets waiting.stored
           (omega arith) on;
@@ -130,20 +137,21 @@ goes_back p m old new a path visit child n best begins fine last on settled le n
 -- ---- a visit that continues
 
 -- the path to the pending state, once the child has its number
-path_aside : (p : Program) (m : ℕ) (states : List StoredState) (a : State) (path : List Visit)
+path_aside : {how : Precision} (p : Program) (m : ℕ) (states : List StoredState) (a : State)
+    (path : List Visit)
     (visit : Visit) (child : State) (n : ℕ) (current : State)
-    → LastVisit p m states a path visit child → Settles p child n → n ≤ m
+    → LastVisit how p m states a path visit child → Settles p child n → n ≤ m
     → visit.pending ≡ Some current
-    → Path p m states a
+    → Path how p m states a
     (path ++ record { pending = None; best = max visit.best n; stored = visit.stored } ∷ []) current
-path_aside p m states a path visit child n current last settled le is =
+path_aside {how = how} p m states a path visit child n current last settled le is =
     let s = last.state in
     let rest : Visit = record { pending = None; best = max visit.best n; stored = visit.stored } in
-    let waiting : Waiting p m states rest s current =
+    let waiting : Waiting how p m states rest s current =
     record {
       waits = StepsAwaited-next p visit s child current n last.waiting.waits is settled.within;
       awaits = NumberFollows-next p visit s child current n last.waiting.awaits is settled.number;
-      steps = subst (IfStepsTo p s) is last.waiting.steps_aside;
+      steps = subst (IfStepsTo how p s) is last.waiting.steps_aside;
       steps_aside = tt;
       best = omega (arith, last.waiting.best, le);
       stored = last.waiting.stored;
@@ -159,13 +167,14 @@ pub comes_aside : (p : Program) (old : Search) (path : List Visit) (visit rest :
     → whole.items ≡ path ++ rest ∷ []
     → Comes p (record old { path = whole; current = current })
 comes_aside p old path visit rest whole n current h was is rest_is pushed =
+    let how = precision_in old.kept in
     let states = old.states.states.items in
     let a = h.at.first in
     let visit' : Visit =
     record { pending = None; best = max visit.best n; stored = visit.stored } in
     let last =
     Path-pop p old.finished states path visit a h.state
-    (subst (λ (x : List Visit). Path p old.finished states a x h.state) was h.at.path) in
+    (subst (λ (x : List Visit). Path how p old.finished states a x h.state) was h.at.path) in
     let again : whole.items ≡ path ++ visit' ∷ [] =
     pushed ∙ ap (λ (v : Visit). path ++ v ∷ []) rest_is in
     let same : length old.path.items ≡ length whole.items =
@@ -182,7 +191,7 @@ comes_aside p old path visit rest whole n current h was is rest_is pushed =
             first = a;
             begins = h.at.begins;
             path = subst
-                (λ (x : List Visit). Path p old.finished states a x current) (sym again) aside;
+                (λ (x : List Visit). Path how p old.finished states a x current) (sym again) aside;
           };
       on_path =
           OnPath-push states path whole.items visit' again
@@ -227,29 +236,33 @@ pub fetched : (p : Program) (s : State) → IsAtInsns p s → (i : Insn) × (fet
 fetched p s ready = some_there (fetch p s.slot) ready.insn_begins
 
 -- the instruction's state waits for the state after it
-pub record Entered (p : Program) (m : ℕ) (states : List StoredState) (visit : Visit)
+pub record Entered (how : Precision) (p : Program) (m : ℕ) (states : List StoredState)
+    (visit : Visit)
     (s next : State) : Type 0 where
-  pub waiting : Waiting p m states visit s next
+  pub waiting : Waiting how p m states visit s next
   pub ready : IsAtInsns p next
   pub spends : Spends p visit s next 1
 
-pub one_way : (p q : Program) (m : ℕ) (states : List StoredState) (stored : Option ℕ)
+pub one_way : {how : Precision} (p q : Program) (m : ℕ) (states : List StoredState)
+    (stored : Option ℕ)
     (s a b first : State) (w : Ways) (pending : Option State) → p ≡ q → IsFlow p → IsAtInsns p s
     → StoredAt states stored s
     → LeadsTo q s w a b → ((i : Insn) → fetch q s.slot ≡ Some i → StepsToWays q s i w a b)
-    → EachWay w a b (GoesOnTo q s) → Forgets p a first → w ≡ ways.One → pending ≡ None
-    → Entered p m states (record { pending = pending; best = 0; stored = stored }) s first
-one_way p q m all stored s a b first w pending same flow ready at leads makes goes forgets is none =
+    → EachWay w a b (GoesOnTo q s) → Forgets how p a first → w ≡ ways.One → pending ≡ None
+    → Entered how p m states (record { pending = pending; best = 0; stored = stored }) s first
+one_way {how = how} p q m all stored s a b first w pending same flow ready at leads makes goes
+    forgets is none =
+    let coarse = Forgets-as Coarse how p a first tt forgets in
     let (i, here) = fetched p s ready in
     let leads' =
-    LeadsTo-forgets p s ways.One a b first b forgets
+    LeadsTo-forgets p s ways.One a b first b coarse
     (subst (λ x. LeadsTo x s ways.One a b) (sym same)
     (subst (λ x. LeadsTo q s x a b) is leads)) in
     let follows' : GoesOnTo p s a =
     subst (λ x. GoesOnTo x s a) (sym same)
     (subst (λ x. EachWay x a b (GoesOnTo q s)) is goes) in
-    let into = into_by p q s a b first b w ways.One same makes i here is forgets in
-    subst (λ x. Entered p m all (record { pending = x; best = 0; stored = stored }) s first)
+    let into = into_by p q s a b first b w ways.One same makes i here is coarse in
+    subst (λ x. Entered how p m all (record { pending = x; best = 0; stored = stored }) s first)
     (sym none) (record {
       waiting =
           record {
@@ -265,24 +278,28 @@ one_way p q m all stored s a b first w pending same flow ready at leads makes go
       spends = Spends-one p s first b stored into;
     })
 
-pub two_ways : (p q : Program) (m : ℕ) (states : List StoredState) (stored : Option ℕ)
+pub two_ways : {how : Precision} (p q : Program) (m : ℕ) (states : List StoredState)
+    (stored : Option ℕ)
     (s a b first other : State) (w : Ways) (pending : Option State) → p ≡ q → IsFlow p
     → IsAtInsns p s → StoredAt states stored s
     → LeadsTo q s w a b → ((i : Insn) → fetch q s.slot ≡ Some i → StepsToWays q s i w a b)
-    → EachWay w a b (GoesOnTo q s) → Forgets p a first → Forgets p b other → w ≡ ways.Two
+    → EachWay w a b (GoesOnTo q s) → Forgets how p a first → Forgets how p b other → w ≡ ways.Two
     → pending ≡ Some other
-    → Entered p m states (record { pending = pending; best = 0; stored = stored }) s first
-two_ways p q m all stored s a b first other w left eq good on at leads by goes less aside is some =
+    → Entered how p m states (record { pending = pending; best = 0; stored = stored }) s first
+two_ways {how = how} p q m all stored s a b first other w left eq good on at leads by goes less
+    aside is some =
+    let coarse : Forgets Coarse p a first × Forgets Coarse p b other =
+    (Forgets-as Coarse how p a first tt less, Forgets-as Coarse how p b other tt aside) in
     let (i, here) = fetched p s on in
     let leads' =
-    LeadsTo-forgets p s ways.Two a b first other (less, aside)
+    LeadsTo-forgets p s ways.Two a b first other coarse
     (subst (λ x. LeadsTo x s ways.Two a b) (sym eq)
     (subst (λ x. LeadsTo q s x a b) is leads)) in
     let follows' : GoesOnTo p s a × GoesOnTo p s b =
     subst (λ x. GoesOnTo x s a × GoesOnTo x s b) (sym eq)
     (subst (λ x. EachWay x a b (GoesOnTo q s)) is goes) in
-    let into = into_by p q s a b first other w ways.Two eq by i here is (less, aside) in
-    subst (λ x. Entered p m all (record { pending = x; best = 0; stored = stored }) s first)
+    let into = into_by p q s a b first other w ways.Two eq by i here is coarse in
+    subst (λ x. Entered how p m all (record { pending = x; best = 0; stored = stored }) s first)
     (sym some) (record {
       waiting = record {
         waits = StepsAwaited-two p s first other stored leads';
@@ -301,11 +318,11 @@ two_ways p q m all stored s a b first other w left eq good on at leads by goes l
 pub comes_into : (p : Program) (old x : Search) (stored : Option ℕ) (pending : Option State)
     (next : State) → x.states.states.items ≡ old.states.states.items → x.finished ≡ old.finished
     → x.path.items ≡ old.path.items ++ record { pending = pending; best = 0; stored = stored } ∷ []
-    → x.current ≡ next → Explores p old stored
-    → Entered p old.finished old.states.states.items
+    → x.current ≡ next → x.kept ≡ old.kept → Explores p old stored
+    → Entered (precision_in old.kept) p old.finished old.states.states.items
     (record { pending = pending; best = 0; stored = stored }) old.current next
     → Comes p x
-comes_into p old x stored pending next items finished pushed current at entered =
+comes_into p old x stored pending next items finished pushed current kept at entered =
     let visit : Visit = record { pending = pending; best = 0; stored = stored } in
     let states = old.states.states.items in
     let path = old.path.items in
@@ -316,10 +333,11 @@ comes_into p old x stored pending next items finished pushed current at entered 
       at = record {
         fine = rw (items, finished) at.at.fine;
         first = root;
-        begins = at.at.begins;
+        begins = rw kept at.at.begins;
         path =
-            rw (items, finished, current)
-            (subst (λ (y : List Visit). Path p old.finished states root y next) (sym pushed)
+            rw (items, finished, current, kept)
+            (subst (λ (y : List Visit). Path (precision_in old.kept) p old.finished states root y
+            next) (sym pushed)
             (Path-push p old.finished states path visit root old.current next at.at.path
             entered.waiting));
       };
@@ -333,12 +351,15 @@ comes_into p old x stored pending next items finished pushed current at entered 
     }
 
 -- the step has no successor, and the state gets the number 1
-pub step_ends : (p q : Program) (m : ℕ) (old new : List StoredState) (a : State) (path : List Visit)
-    (stored : Option ℕ) (s x y : State) (w : Ways) → Forgets p start a → p ≡ q → AllSettled p m old
-    → Path p m old a path s → StoredAt old stored s
+pub step_ends : {how : Precision} (p q : Program) (m : ℕ) (old new : List StoredState) (a : State)
+    (path : List Visit)
+    (stored : Option ℕ) (s x y : State) (w : Ways) → Forgets how p start a → p ≡ q
+    → AllSettled p m old
+    → Path how p m old a path s → StoredAt old stored s
     → OnPath old path stored → LeadsTo q s w x y → StepsInto p s ways.None x y → w ≡ ways.None
-    → GetsNumber old stored 1 new → IsBack p (m + 1) new a path 1
-step_ends p q m old new a path stored s x y w begins same fine before at on leads into is numbered =
+    → GetsNumber old stored 1 new → IsBack how p (m + 1) new a path 1
+step_ends {how = how} p q m old new a path stored s x y w begins same fine before at on leads into
+    is numbered =
     let settled : Settles p s 1 = record {
       within =
           LeadsTo-ends p s x y
@@ -348,11 +369,13 @@ step_ends p q m old new a path stored s x y w begins same fine before at on lead
     } in
     record {
       state = s;
-      fine = GetsNumber-fine p (m + 1) old stored s 1 new numbered at settled (omega arith)
-          (length path, Path-walks p m old path a s begins before)
+      fine = GetsNumber-fine p (m + 1) old stored s 1 new numbered at settled (omega arith) (
+        length path,
+        WalksTo-as Coarse how p (length path) s tt (Path-walks p m old path a s begins before),
+      )
           (AllSettled-more p m (m + 1) old (omega arith) fine);
       before =
-          Path-more p m (m + 1) old new (omega arith)
+          Path-more how p m (m + 1) old new (omega arith)
           (GetsNumber-keeps old stored s 1 new numbered at) path a s before;
       on_path = OnPath-finish old new path stored s 1 numbered at (omega arith) on;
       settled = settled;

@@ -17,7 +17,7 @@ use Rattle.stack_state.specs.Meaning.{Within}
 use Rattle.control_flow.specs.Graph.{BeginsInsn}
 use Rattle.explorer.specs.declared.stored_states.StoredState.{StoredState}
 use Rattle.explorer.specs.Search.{AllSettled, IsAtInsns}
-use Rattle.walks.specs.Forgetting.{Forgets}
+use Rattle.walks.specs.Forgetting.{Precision, Forgets}
 use Rattle.walks.proofs.Forgotten.{Forgets-slot, Forgets-returns}
 
 pub empty_fine : (p : Program) (m : ℕ) (states : List StoredState) → states ≡ []
@@ -36,13 +36,15 @@ start_ready p image =
           (All-nil (BeginsInsn p));
     }
 
-IsAtInsns-forgets : (p : Program) (a b : State) → Forgets p a b → IsAtInsns p a → IsAtInsns p b
+IsAtInsns-forgets : {how : Precision} (p : Program) (a b : State) → Forgets how p a b
+    → IsAtInsns p a → IsAtInsns p b
 IsAtInsns-forgets p a b f ready = record {
   insn_begins = subst (BeginsInsn p) (sym (Forgets-slot p a b f)) ready.insn_begins;
   returns = subst (All (BeginsInsn p)) (sym (Forgets-returns p a b f)) ready.returns;
 }
 
-pub starts_ready : (p q : Program) (s : State) → p ≡ q → IsImage q → Forgets p start s
+pub starts_ready : {how : Precision} (p q : Program) (s : State) → p ≡ q → IsImage q
+    → Forgets how p start s
     → IsAtInsns p s
 starts_ready p q s same image forgets =
     IsAtInsns-forgets p start s forgets (start_ready p (subst IsImage (sym same) image))

@@ -10,7 +10,7 @@ use Rattle.explorer.specs.declared.moves.Move.{Move}
 use Rattle.explorer.specs.declared.moves.Move.TheVariants.{New, Covered, Finished}
 use Rattle.explorer.specs.StoredStates.{IsStored, IsCovered, StoredAt, GetsNumber}
 use Rattle.stack_state.specs.Starts.{start}
-use Rattle.walks.specs.Forgetting.{Forgets}
+use Rattle.walks.specs.Forgetting.{Coarse, Forgets}
 use Rattle.walks.specs.Walks.{WalksTo}
 use Rattle.walks.specs.Counts.{IsCoveredBy}
 use Rattle.walks.proofs.Forgotten.{Forgets-slot, Forgets-covers}
@@ -41,7 +41,7 @@ AllSettled-push p m states s h = All-push (IsSettled p m) states _ h (λ above. 
 
 AllSettled-set : (p : Program) (m : ℕ) (states : List StoredState) (k : ℕ) (s : State) (n : ℕ)
     → AllSettled p m states → Settles p s n → n ≤ m
-    → (steps : ℕ) × WalksTo p steps s
+    → (steps : ℕ) × WalksTo Coarse p steps s
     → AllSettled p m (set states k (record { state = s; number = n }))
 unfolding AllSettled
 AllSettled-set p m states k s n h settled le walk =
@@ -66,7 +66,7 @@ IsCovered-known p m states k s n fine h =
     )
 
 -- runs from the start end within the number of the state in which paths begin
-pub Settles-start : (p : Program) (first : State) (n : ℕ) → Forgets p start first
+pub Settles-start : (p : Program) (first : State) (n : ℕ) → Forgets Coarse p start first
     → Settles p first n → Settles p start n
 Settles-start p first n begins h = record {
   within = Within-covered p first start n (Forgets-covers p start first begins) h.within;
@@ -165,7 +165,7 @@ Arrives-stored p old s (Some k) new h = (
 
 pub GetsNumber-fine : (p : Program) (m : ℕ) (old : List StoredState) (stored : Option ℕ) (s : State)
     (n : ℕ) (new : List StoredState) → GetsNumber old stored n new
-    → StoredAt old stored s → Settles p s n → n ≤ m → (steps : ℕ) × WalksTo p steps s
+    → StoredAt old stored s → Settles p s n → n ≤ m → (steps : ℕ) × WalksTo Coarse p steps s
     → AllSettled p m old → AllSettled p m new
 GetsNumber-fine p m old None s n new h at settled le walk fine =
     subst (λ x. AllSettled p m x) (sym h) fine

@@ -14,7 +14,7 @@ use Rattle.walks.specs.declared.refusals.Refusal.TheVariants.{Flow, Step, Repeat
 use Rattle.explorer.specs.declared.stored_states.StoredState.{StoredState}
 use Rattle.explorer.specs.declared.trail.Visit.{Visit}
 use Rattle.walks.specs.Walks.{IsAmong, StepsTo, HasSteps, WalksTo}
-use Rattle.walks.specs.Forgetting.{Forgets}
+use Rattle.walks.specs.Forgetting.{Precision, Forgets}
 use Rattle.walks.specs.Counts.{AreForgotten, StepsInto}
 use Rattle.walks.specs.Refused.{StopsAt}
 use Rattle.explorer.specs.StoredStates.{StoredAt}
@@ -22,10 +22,10 @@ use Rattle.explorer.specs.Search.{Path, RefusesArrival, zeros_from, with_first, 
 
 -- ---- steps
 
-pub steps_by : (p q : Program) (s a b n t : State) (w v : Ways) → p ≡ q
+pub steps_by : {how : Precision} (p q : Program) (s a b n t : State) (w v : Ways) → p ≡ q
     → ((i : Insn) → fetch q s.slot ≡ Some i → StepsToWays q s i w a b) → (i : Insn)
     → fetch p s.slot ≡ Some i
-    → w ≡ v → IsAmong v a b n → Forgets p n t → StepsTo p s t
+    → w ≡ v → IsAmong v a b n → Forgets how p n t → StepsTo how p s t
 steps_by p q s a b n t w v same makes i here is among forgets =
     let there : fetch q s.slot ≡ Some i = subst (λ x. fetch x s.slot ≡ Some i) same here in
     record {
@@ -60,21 +60,25 @@ into_by p q s a b first other w v same makes i here is forgets =
 -- ---- the path is a walk
 
 -- a walk of no steps is at the state in which paths begin
-pub WalksTo-start : (p : Program) (first : State) → Forgets p start first → WalksTo p 0 first
+pub WalksTo-start : {how : Precision} (p : Program) (first : State) → Forgets how p start first
+    → WalksTo how p 0 first
 unfolding HasSteps
 WalksTo-start p first begins = record { first = first; starts = begins; leads = refl }
 
-pub Path-leads : (p : Program) (m : ℕ) (states : List StoredState) (path : List Visit) (a b : State)
-    → Path p m states a path b → HasSteps p (length path) a b
+pub Path-leads : (how : Precision) (p : Program) (m : ℕ) (states : List StoredState)
+    (path : List Visit) (a b : State)
+    → Path how p m states a path b → HasSteps how p (length path) a b
 unfolding Path HasSteps
-Path-leads p m states [] a b h = h
-Path-leads p m states (visit ∷ path) a b h = (h.0, h.1.steps, Path-leads p m states path h.0 b h.2)
+Path-leads how p m states [] a b h = h
+Path-leads how p m states (visit ∷ path) a b h =
+    (h.0, h.1.steps, Path-leads how p m states path h.0 b h.2)
 
 -- and comes from the start
-pub Path-walks : (p : Program) (m : ℕ) (states : List StoredState) (path : List Visit) (a b : State)
-    → Forgets p start a → Path p m states a path b → WalksTo p (length path) b
-Path-walks p m states path a b begins h =
-    record { first = a; starts = begins; leads = Path-leads p m states path a b h }
+pub Path-walks : {how : Precision} (p : Program) (m : ℕ) (states : List StoredState)
+    (path : List Visit) (a b : State)
+    → Forgets how p start a → Path how p m states a path b → WalksTo how p (length path) b
+Path-walks {how = how} p m states path a b begins h =
+    record { first = a; starts = begins; leads = Path-leads how p m states path a b h }
 
 -- ---- indexes
 
@@ -107,25 +111,27 @@ same_stored states k n s t at e =
     ap (λ (x : StoredState). x.state) q
 
 -- a walk goes through the state
-record Through (p : Program) (a t b : State) : Type 0 where
+record Through (how : Precision) (p : Program) (a t b : State) : Type 0 where
   before : ℕ
   between : ℕ
-  leads : HasSteps p before a t
-  leads_on : HasSteps p (suc between) t b
+  leads : HasSteps how p before a t
+  leads_on : HasSteps how p (suc between) t b
 
-starts_here : (p : Program) (n : ℕ) (a t b : State) → t ≡ a → HasSteps p (suc n) a b
-    → Through p a t b
+starts_here : {how : Precision} (p : Program) (n : ℕ) (a t b : State) → t ≡ a
+    → HasSteps how p (suc n) a b
+    → Through how p a t b
 unfolding HasSteps
-starts_here p n a t b e h =
+starts_here {how = how} p n a t b e h =
     record {
       before = 0;
       between = n;
       leads = e;
-      leads_on = subst (λ x. HasSteps p (suc n) x b)
+      leads_on = subst (λ x. HasSteps how p (suc n) x b)
           (sym e) h;
     }
 
-one_more : (p : Program) (a c t b : State) → StepsTo p a c → Through p c t b → Through p a t b
+one_more : {how : Precision} (p : Program) (a c t b : State) → StepsTo how p a c
+    → Through how p c t b → Through how p a t b
 unfolding HasSteps
 one_more p a c t b step h =
     record {
@@ -135,19 +141,20 @@ one_more p a c t b step h =
       leads_on = h.leads_on;
     }
 
-through : (p : Program) (m : ℕ) (states : List StoredState) (path : List Visit) (a b : State)
-    (k : ℕ) (t : State) → Path p m states a path b → IsIn k (indexes_of path)
-    → slice_get states k ≡ Some (record { state = t; number = 0 }) → Through p a t b
+through : {how : Precision} (p : Program) (m : ℕ) (states : List StoredState) (path : List Visit)
+    (a b : State)
+    (k : ℕ) (t : State) → Path how p m states a path b → IsIn k (indexes_of path)
+    → slice_get states k ≡ Some (record { state = t; number = 0 }) → Through how p a t b
 unfolding Path HasSteps
 through p m states [] a b k t h inside e = absurd inside
-through p m states (visit ∷ path) a b k t h inside e =
+through {how = how} p m states (visit ∷ path) a b k t h inside e =
     let child = h.0 in
     let waiting = h.1 in
     elim (in_first visit.stored k (indexes_of path) inside) [
       | inl is ↦
           starts_here p (length path) a t b
           (same_stored states k 0 a t (subst (λ x. StoredAt states x a) is waiting.stored) e)
-          (child, waiting.steps, Path-leads p m states path child b h.2)
+          (child, waiting.steps, Path-leads how p m states path child b h.2)
       | inr rest ↦
           one_more p a child t b waiting.steps (through p m states path child b k t h.2 rest e)
     ]
@@ -164,10 +171,11 @@ unfinished_in states path k t on e =
     slice_get-map f states k ∙ ap (option_map f) e in
     subst (IsIn k) on (zeros_from-in 0 (map f states) k k (omega arith) found)
 
-pub arrival_refused : (p : Program) (m : ℕ) (states : List StoredState) (path : List Visit)
-    (a b : State) (e : Refusal) (slot : ℕ) → Forgets p start a → Path p m states a path b
+pub arrival_refused : {how : Precision} (p : Program) (m : ℕ) (states : List StoredState)
+    (path : List Visit)
+    (a b : State) (e : Refusal) (slot : ℕ) → Forgets how p start a → Path how p m states a path b
     → OnPath states path None
-    → RefusesArrival p states b e slot → StopsAt p e slot
+    → RefusesArrival p states b e slot → StopsAt how p e slot
 arrival_refused p m states path a b (Flow e) slot begins h on refuses = absurd refuses
 arrival_refused p m states path a b (Step e) slot begins h on refuses = absurd refuses
 arrival_refused p m states path a b Repeats slot begins h on refuses =

@@ -22,7 +22,8 @@ use Rattle.explorer.specs.declared.moves.Move.{Move}
 use Rattle.explorer.specs.declared.moves.Move.TheVariants.{New, Covered, Finished}
 use Rattle.explorer.specs.declared.moves.NextMove.{NextMove}
 use Rattle.explorer.specs.declared.moves.NextMove.TheVariants.{Explore, Done}
-use Rattle.walks.specs.Forgetting.{Forgets}
+use Rattle.control_flow.specs.declared.kept_numbers.KeptNumbers.{KeptNumbers}
+use Rattle.walks.specs.Forgetting.{Precision, Exact, Coarse, IsNoFiner, Forgets}
 use Rattle.walks.specs.Walks.{StepsTo, WalksTo}
 use Rattle.walks.specs.Counts.{HasNumber, Takes}
 use Rattle.explorer.specs.StoredStates.{IsCovered, IsRepeated, StoredAt}
@@ -64,7 +65,7 @@ pub record Settles (p : Program) (s : State) (n : ℕ) : Type 0 where
 abbrev pub IsSettled : Program → ℕ → StoredState → Type 0
 IsSettled p finished e =
     0 < e.number → Settles p e.state e.number × (e.number ≤ finished)
-    × ((k : ℕ) × WalksTo p k e.state)
+    × ((k : ℕ) × WalksTo Coarse p k e.state)
 
 unfoldable pub AllSettled : Program → ℕ → List StoredState → Type 0
 AllSettled p finished states = All (IsSettled p finished) states
@@ -78,9 +79,9 @@ abbrev pub IfReady : Program → Option State → Type 0
 IfReady p None = Unit {0}
 IfReady p (Some s) = IsAtInsns p s
 
-abbrev pub IfStepsTo : Program → State → Option State → Type 0
-IfStepsTo p a None = Unit {0}
-IfStepsTo p a (Some b) = StepsTo p a b
+abbrev pub IfStepsTo : Precision → Program → State → Option State → Type 0
+IfStepsTo how p a None = Unit {0}
+IfStepsTo how p a (Some b) = StepsTo how p a b
 
 abbrev pub MeantBy : Program → Option State → Machine.State → Type 0
 MeantBy p None w = ⊥
@@ -105,22 +106,24 @@ NumberFollows p visit s child =
     (n : ℕ) → HasNumber p child n → NumberFollowsBoth p visit.pending s (max visit.best n)
 
 -- a visit of a state that waits for another one
-pub record Waiting (p : Program) (finished : ℕ) (states : List StoredState) (visit : Visit)
+pub record Waiting (how : Precision) (p : Program) (finished : ℕ) (states : List StoredState)
+    (visit : Visit)
     (s child : State) : Type 0 where
   pub waits : StepsAwaited p visit s child
   pub awaits : NumberFollows p visit s child
-  pub steps : StepsTo p s child
-  pub steps_aside : IfStepsTo p s visit.pending
+  pub steps : StepsTo how p s child
+  pub steps_aside : IfStepsTo how p s visit.pending
   pub best : visit.best ≤ finished
   pub stored : StoredAt states visit.stored s
   pub ready : IfReady p visit.pending
 
 -- the path goes from one state to another, with a visit for each instruction
-unfoldable pub Path : Program → ℕ → List StoredState → State → List Visit → State → Type 0
-Path p finished states from [] to = to ≡ from
-Path p finished states from (visit ∷ path) to =
-    (child : State) × Waiting p finished states visit from child
-    × Path p finished states child path to
+unfoldable pub Path : Precision → Program → ℕ → List StoredState → State → List Visit → State
+    → Type 0
+Path how p finished states from [] to = to ≡ from
+Path how p finished states from (visit ∷ path) to =
+    (child : State) × Waiting how p finished states visit from child
+    × Path how p finished states child path to
 
 -- ---- how many instructions were explored
 
@@ -181,19 +184,30 @@ OnPath states path stored = unfinished states ≡ with_last (indexes_of path) st
 
 -- ---- the search
 
+-- the walks of a search are exact until it keeps certain numbers only
+abbrev pub precision_in : Option KeptNumbers → Precision
+precision_in None = Exact
+precision_in (Some kept) = Coarse
+
+-- the fact holds of the walks of a search, and of coarser ones
+abbrev pub InEach : Option KeptNumbers → (Precision → Type 0) → Type 0
+InEach kept fact = (how : Precision) → IsNoFiner how (precision_in kept) → fact how
+
 -- the search is at the start, and nothing was explored
 pub record IsNew (search : Search) : Type 0 where
   pub current : search.current ≡ start
   pub states : search.states.states.items ≡ []
   pub path : search.path.items ≡ []
   pub finished : search.finished ≡ 0
+  pub kept : search.kept ≡ None
 
 -- the search is at this state, and its path goes there from the start
 pub record IsAt (p : Program) (search : Search) (s : State) : Type 0 where
   pub fine : AllSettled p search.finished search.states.states.items
   pub first : State
-  pub begins : Forgets p start first
-  pub path : Path p search.finished search.states.states.items first search.path.items s
+  pub begins : Forgets (precision_in search.kept) p start first
+  pub path : Path (precision_in search.kept) p search.finished search.states.states.items first
+      search.path.items s
 
 -- the search is at a state that ends within this number
 pub record HasEnded (p : Program) (search : Search) (n : ℕ) : Type 0 where

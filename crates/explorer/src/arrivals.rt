@@ -3,15 +3,16 @@
 ghost use Rattle.std.specs.Prelude.{◌≡◌, ◌⊎◌, None, IsTrue, IfOk, IfErr, IfSome, OnOk};
 ghost use Rattle.control_flow.specs.Flows.{IsJoin};
 ghost use Rattle.walks.specs.Forgetting.{IsForgotten, Forgets};
-ghost use Rattle.explorer.specs.Search.{Arrives, RefusesArrival};
+ghost use Rattle.explorer.specs.Search.{Arrives, RefusesArrival, precision_in};
 
 use crate::kept::Kept;
+use crate::long_searches::forget_by;
 use crate::moves::{Move, NO_MEMORY, Refused};
 use crate::stored_states::StoredStates;
-use control_flow::Flow;
+use control_flow::{Flow, KeptNumbers};
 use stack_state::State;
 use std::alloc::{AllocError, Global};
-use walks::{Refusal, forget, forget_all, kept_slots, may_forget_all};
+use walks::{Refusal, forget_all, kept_slots, may_forget_all};
 
 /// Forgets what does not matter of a state at which a path arrives next. If several states of its
 /// slot are finished, and none covers it, that may be all numbers: what arrives later is then
@@ -20,14 +21,16 @@ pub fn forget_at(
     alloc: Global,
     flow: &Flow<'_>,
     states: &mut StoredStates,
+    kept: &Option<KeptNumbers>,
     has_called: bool,
     state: &mut State,
     scratch: &mut State,
 ) -> Result<(), AllocError>
-    ensures forgets { OnOk result (Forgets flow.now state.old state.new) }
+    ensures forgets { OnOk result
+        (Forgets (precision_in kept.now) flow.now state.old state.new) }
     ensures same { states.new.states.items ≡ states.old.states.items }
 {
-    forget(flow, has_called, state);
+    forget_by(flow, kept, has_called, state);
     if !states.is_settled(state.slot) || !may_forget_all(flow, state) {
         return Ok(());
     }

@@ -22,6 +22,8 @@ mod kept_frames;
 mod latest;
 pub mod listened;
 mod listening;
+mod long_searches;
+mod look_ups;
 mod moves;
 mod of_two;
 mod part_changes;

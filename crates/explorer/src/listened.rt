@@ -1,17 +1,19 @@
 //! The search for a bound, which calls a listener for each move.
 
-ghost use Rattle.std.specs.Prelude.{◌≡◌, ◌≤◌, [], IfOk, IfErr};
+ghost use Rattle.std.specs.Prelude.{◌≡◌, ◌≤◌, ◌↔◌, [], Err, IfOk, IfErr, IsTrue};
 ghost use Rattle.isa_model.specs.Running.Outcomes.{StartsEnd};
 ghost use Rattle.bounds.specs.Bounds.{IsVerified};
-ghost use Rattle.walks.specs.Refused.{IsRefused};
+ghost use Rattle.walks.specs.Forgetting.{Precision, Exact};
+ghost use Rattle.walks.specs.Refused.{IsRefused, StopsAt};
 ghost use Rattle.walks.specs.Accepting.{AcceptsAll, BoundsAll};
 ghost use Rattle.walks.specs.Counts.{HasNumber};
 ghost use Rattle.stack_state.specs.declared.states.State.{State as TheState};
 ghost use Rattle.stack_state.specs.Starts.{start};
+ghost use Rattle.stack_state.specs.Meaning.{Within};
 ghost use Rattle.image.specs.Images.{IsImage};
 ghost use Rattle.control_flow.specs.Flows.{IsFlow};
 ghost use Rattle.explorer.specs.Search.{IsNew};
-ghost use Rattle.explorer.specs.Listening.{IfRefused, IfStopped, IsOutsideSearch, EndsIn};
+ghost use Rattle.explorer.specs.Listening.{IfRefused, IfStopped, IsSearchedAgain, IsOutsideSearch, EndsAsPrecise};
 
 use crate::kept::Kept;
 use crate::listening::Listener;
@@ -19,7 +21,7 @@ use crate::moves::{Halt, NO_MEMORY, Refused};
 use crate::search::Search;
 use crate::stored_states::StoredState;
 use bounds::Verified;
-use control_flow::Flow;
+use control_flow::{Flow, KeptNumbers};
 use image::Image;
 use isa_model::MAX_EXPLORED;
 use std::alloc::Global;
@@ -59,10 +61,86 @@ pub struct Searched<S> {
     pub is_cut_off: bool,
 }
 
-/// Searches for a bound on a program's runs, and calls a listener for each move. There is no search
-/// if the program is refused for its control flow, or if memory runs out before it.
+impl<S: Drop> Searched<S> {
+    /// A search that ended so.
+    fn of(alloc: Global, ended: Result<u32, Halt<S>>, mut search: Search) -> Self
+        ensures { result.result ≡ ended }
+    {
+        Searched {
+            result: ended,
+            stored: mem::replace(&mut search.states.states, Vec::new(alloc)),
+            is_cut_off: search.states.is_cut_off(),
+        }
+    }
+
+    /// What ended before any state was stored.
+    fn early(alloc: Global, halt: Halt<S>) -> Self
+        ensures { result.result ≡ Err halt }
+    {
+        Searched {
+            result: Err(halt),
+            stored: Vec::new(alloc),
+            is_cut_off: false,
+        }
+    }
+}
+
+/// Returns whether a search is to be made again, exactly: it has come to keep certain numbers only,
+/// and ended with a refusal that may be due to those that it forgot.
+fn is_open<S>(ended: &Result<u32, Halt<S>>, kept: &Option<KeptNumbers>) -> bool
+    ensures { IsTrue result ↔ IsSearchedAgain ended.now kept.now }
+{
+    match (ended, kept) {
+        (Err(Halt::Refused(Refusal::Step(_) | Refusal::Repeats, _)), Some(_)) => true,
+        _ => false,
+    }
+}
+
+/// Explores a program, and once more exactly where a refusal may be due to what a long search
+/// forgets.
+fn find_bound<L: Listener>(
+    alloc: Global,
+    image: &Image,
+    flow: &Flow<'_>,
+    mut search: Search,
+    listener: &mut L,
+) -> Searched<L::Stop>
+    requires image { flow.now ≡ image.now }
+    requires whole { IsImage image.now }
+    requires good { IsFlow flow.now }
+    requires new { IsNew search }
+    requires untold { (how : Precision) → (last : TheState)
+        × L.follows listener.old how flow.now [] last }
+    ensures within { IfOk result.result (λ n. Within flow.now start n) }
+    ensures number { IfOk result.result (λ n. HasNumber flow.now start n) }
+    ensures some { IfOk result.result (λ n. 1 ≤ n) }
+    ensures most { IfOk result.result (λ n. n ≤ MAX_EXPLORED) }
+    ensures stops { IfErr result.result (λ h. IfRefused h (StopsAt Exact flow.now)) }
+    ensures follows { IfErr result.result (λ h. IfRefused h
+        (EndsAsPrecise flow.now (λ how. L.follows listener.new how flow.now))) }
+{
+    let result = search.explore(alloc, image, flow, false, listener);
+    if !is_open(&result, &search.kept) {
+        return Searched::of(alloc, result, search);
+    }
+    if let Err(stop) = listener.begins_anew() {
+        return Searched::early(alloc, Halt::Stopped(stop));
+    }
+    let Search { states, .. } = search;
+    let Ok(states) = states.anew(alloc, image.slots()) else {
+        return Searched::early(alloc, Halt::Refused(Refusal::Memory, 0));
+    };
+    let mut search = Search::over(alloc, states);
+    let result = search.explore(alloc, image, flow, true, listener);
+    Searched::of(alloc, result, search)
+}
+
+/// Searches for a bound on a program's runs, and calls a listener for each move. A long search
+/// keeps fewer numbers; a refusal that may be due to that is searched for again, exactly. There is
+/// no search if the program is refused for its control flow, or if memory runs out before it.
 pub fn search_with<L: Listener>(alloc: Global, image: &Image, listener: &mut L) -> Searched<L::Stop>
-    requires untold { (last : TheState) × L.follows listener.old image.now [] last }
+    requires untold { (how : Precision) → (last : TheState)
+        × L.follows listener.old how image.now [] last }
     ensures ends { IfOk result.result (StartsEnd image.now) }
     ensures number { IfOk result.result (λ n. HasNumber image.now start n) }
     ensures some { IfOk result.result (λ n. 1 ≤ n) }
@@ -72,19 +150,11 @@ pub fn search_with<L: Listener>(alloc: Global, image: &Image, listener: &mut L) 
 
     // A listener has followed the path to the state in which the program is refused.
     ensures follows { IfErr result.result (λ h. IfRefused h
-        (EndsIn image.now (L.follows listener.new image.now))) }
+        (EndsAsPrecise image.now (λ how. L.follows listener.new how image.now))) }
 {
     match prepared(alloc, image) {
-        Ok((flow, mut search)) => Searched {
-            result: search.explore(alloc, image, &flow, listener),
-            stored: mem::replace(&mut search.states.states, Vec::new(alloc)),
-            is_cut_off: search.states.is_cut_off(),
-        },
-        Err((refusal, slot)) => Searched {
-            result: Err(Halt::Refused(refusal, slot)),
-            stored: Vec::new(alloc),
-            is_cut_off: false,
-        },
+        Ok((flow, search)) => find_bound(alloc, image, &flow, search, listener),
+        Err((refusal, slot)) => Searched::early(alloc, Halt::Refused(refusal, slot)),
     }
 }
 
@@ -96,7 +166,8 @@ pub fn verify_with<L: Listener>(
     image: Image,
     listener: &mut L,
 ) -> Result<Verified, Halt<L::Stop>>
-    requires untold { (last : TheState) × L.follows listener.old image [] last }
+    requires untold { (how : Precision) → (last : TheState)
+        × L.follows listener.old how image [] last }
     ensures program { IfOk result (λ verified. verified.program ≡ image) }
     ensures verified { IfOk result IsVerified }
     ensures refused { IfErr result (λ h. IfRefused h (IsRefused image)) }

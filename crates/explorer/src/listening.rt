@@ -1,9 +1,10 @@
 //! Listeners, which a search calls for each move.
 
-ghost use Rattle.std.specs.Prelude.{◌≡◌, ◌∷◌, List, OnOk};
+ghost use Rattle.std.specs.Prelude.{◌≡◌, [], ◌∷◌, List, OnOk};
 ghost use Rattle.isa_model.specs.Code.Instructions.{Program};
 ghost use Rattle.stack_state.specs.declared.states.State.{State as TheState};
 ghost use Rattle.explorer.specs.declared.trail.Visit.{Visit as TheVisit};
+ghost use Rattle.walks.specs.Forgetting.{Precision};
 ghost use Rattle.explorer.specs.Listening.{ComesTo, IfRefused, IsToTell, HearsMove, IsToRefuse, EndsIn};
 
 use crate::kept::Kept;
@@ -20,21 +21,23 @@ pub trait Listener {
     /// Says why it stopped a search.
     type Stop: Drop;
 
-    // The calls so far describe a path with these states, the last one first, and this state
-    // arrived last.
-    ghost follows: { Self → Program → List TheState → TheState → Type 0 };
+    // The calls so far describe a path of a walk of this precision with these states, the last one
+    // first, and this state arrived last.
+    ghost follows: { Self → Precision → Program → List TheState → TheState → Type 0 };
 
     /// The path arrives at a state.
     fn arrives(&mut self, state: &State) -> Result<(), Self::Stop>
-        ensures { (p : Program) (path : List TheState) (last : TheState) → ComesTo p path state.now
-            → follows self.old p path last
-            → OnOk result (follows self.new p (state.now ∷ path) state.now) };
+        ensures { (how : Precision) (p : Program) (path : List TheState) (last : TheState)
+            → ComesTo how p path state.now
+            → follows self.old how p path last
+            → OnOk result (follows self.new how p (state.now ∷ path) state.now) };
 
     /// The last state of the path is covered by the stored state with this index, and so has its
     /// number.
     fn covered(&mut self, index: usize, number: u32) -> Result<(), Self::Stop>
-        ensures { (p : Program) (s : TheState) (path : List TheState) (last : TheState)
-            → follows self.old p (s ∷ path) last → OnOk result (follows self.new p path last) };
+        ensures { (how : Precision) (p : Program) (s : TheState) (path : List TheState)
+            (last : TheState) → follows self.old how p (s ∷ path) last
+            → OnOk result (follows self.new how p path last) };
 
     /// The last state of the path, which is this one, is to be explored. At a join it was stored
     /// as the last of the stored states: its index and that stored state come with it.
@@ -45,8 +48,8 @@ pub trait Listener {
         _stored: Option<usize>,
         _kept: Option<&Kept>,
     ) -> Result<(), Self::Stop>
-        ensures { (p : Program) (path : List TheState) (last : TheState)
-            → follows self.old p path last → OnOk result (follows self.new p path last) }
+        ensures { (how : Precision) (p : Program) (path : List TheState) (last : TheState)
+            → follows self.old how p path last → OnOk result (follows self.new how p path last) }
     {
         Ok(())
     }
@@ -54,22 +57,30 @@ pub trait Listener {
     /// The step of the path's last state has this many successors.
     #[inline(always)]
     fn stepped(&mut self, _ways: Ways) -> Result<(), Self::Stop>
-        ensures { (p : Program) (path : List TheState) (last : TheState)
-            → follows self.old p path last → OnOk result (follows self.new p path last) }
+        ensures { (how : Precision) (p : Program) (path : List TheState) (last : TheState)
+            → follows self.old how p path last → OnOk result (follows self.new how p path last) }
     {
         Ok(())
     }
 
     /// The last state of the path is explored, and this is its number.
     fn finished(&mut self, number: u32) -> Result<(), Self::Stop>
-        ensures { (p : Program) (s : TheState) (path : List TheState) (last : TheState)
-            → follows self.old p (s ∷ path) last → OnOk result (follows self.new p path last) };
+        ensures { (how : Precision) (p : Program) (s : TheState) (path : List TheState)
+            (last : TheState) → follows self.old how p (s ∷ path) last
+            → OnOk result (follows self.new how p path last) };
+
+    /// The search ended with a refusal after it had begun to forget more numbers, and the program
+    /// is searched again, exactly: a new path begins, and stored states get new indexes.
+    fn begins_anew(&mut self) -> Result<(), Self::Stop>
+        ensures { (how next : Precision) (p : Program) (path : List TheState) (last : TheState)
+            → follows self.old how p path last
+            → OnOk result ((first : TheState) × follows self.new next p [] first) };
 
     /// The program gets this refusal, in the last state of the path; or memory ran out.
     #[inline(always)]
     fn refused(&mut self, _refusal: Refusal, _slot: usize)
-        ensures { (p : Program) (path : List TheState) (last : TheState)
-            → follows self.old p path last → follows self.new p path last }
+        ensures { (how : Precision) (p : Program) (path : List TheState) (last : TheState)
+            → follows self.old how p path last → follows self.new how p path last }
     {}
 }
 
@@ -81,9 +92,9 @@ pub fn tell<L: Listener>(
     made: Move,
     kept: Option<&Kept>,
 ) -> Result<(), L::Stop>
-    ensures { (p : Program) (path : List TheVisit)
-        → IsToTell p (L.follows listener.old p) path state.now made
-        → OnOk result (HearsMove p (L.follows listener.new p) path state.now made) }
+    ensures { (how : Precision) (p : Program) (path : List TheVisit)
+        → IsToTell how p (L.follows listener.old how p) path state.now made
+        → OnOk result (HearsMove how p (L.follows listener.new how p) path state.now made) }
 {
     match made {
         Move::New(stored) => {
@@ -103,9 +114,9 @@ pub fn tell<L: Listener>(
 #[inline(always)]
 pub fn halt<L: Listener>(listener: &mut L, state: &State, refused: Refused) -> Halt<L::Stop>
     ensures same { IfRefused result (λ e slot. (e ≡ refused.0) × (slot ≡ refused.1)) }
-    ensures ends { (p : Program)
-        → IsToRefuse p (L.follows listener.old p) state.now refused.0 refused.1
-        → IfRefused result (EndsIn p (L.follows listener.new p)) }
+    ensures ends { (how : Precision) (p : Program)
+        → IsToRefuse how p (L.follows listener.old how p) state.now refused.0 refused.1
+        → IfRefused result (EndsIn p (L.follows listener.new how p)) }
 {
     let (refusal, slot) = refused;
     if let Refusal::Repeats = refusal {
@@ -123,7 +134,7 @@ pub struct Nobody;
 impl Listener for Nobody {
     type Stop = Infallible;
 
-    ghost follows = { λ _ _ _ _. Unit {0} };
+    ghost follows = { λ _ _ _ _ _. Unit {0} };
 
     #[inline(always)]
     fn arrives(&mut self, _state: &State) -> Result<(), Infallible> {
@@ -137,6 +148,11 @@ impl Listener for Nobody {
 
     #[inline(always)]
     fn finished(&mut self, _number: u32) -> Result<(), Infallible> {
+        Ok(())
+    }
+
+    #[inline(always)]
+    fn begins_anew(&mut self) -> Result<(), Infallible> {
         Ok(())
     }
 }

@@ -8,18 +8,19 @@ ghost use Rattle.state_index.specs.Rooms.{HasShapeRoom};
 ghost use Rattle.walks.specs.Counts.{HasNumber};
 ghost use Rattle.image.specs.Images.{IsImage};
 ghost use Rattle.control_flow.specs.Flows.{IsFlow, IsJoin};
-ghost use Rattle.walks.specs.Forgetting.{IsForgotten};
+ghost use Rattle.walks.specs.Forgetting.{Precision, Exact, IsForgotten};
 ghost use Rattle.walks.specs.Refused.{StopsAt};
-ghost use Rattle.explorer.specs.Search.{Arrives, IsArrival, RefusesArrival, IsNew, Comes, HasEnded, AfterMove, AfterMoveOrEnd, IsNext, IsTooLong};
+ghost use Rattle.explorer.specs.Search.{Arrives, IsArrival, RefusesArrival, IsNew, Comes, HasEnded, AfterMove, AfterMoveOrEnd, InEach, IsNext, IsTooLong, precision_in};
 ghost use Rattle.explorer.specs.Listening.{BeginsPath, BeginFails, ShowsStep, StepFails, ComesBackAt, IfReturns, ReturnFails, IfRefused, IsToTell, FollowsTo, FollowsNext, EndsIn};
 
 use crate::arrivals::{arrive, forget_at};
 use crate::kept::Kept;
 use crate::listening::{Listener, halt, tell};
+use crate::long_searches::{forget_by, lengthen};
 use crate::moves::{Halt, Move, NO_MEMORY, NextMove, Refused};
 use crate::stored_states::StoredStates;
 use crate::trail::{Trail, Visit};
-use control_flow::Flow;
+use control_flow::{Flow, KeptNumbers};
 use image::Image;
 use isa_model::MAX_EXPLORED;
 use stack_state::State;
@@ -38,22 +39,33 @@ pub struct Search {
     pub current: State,
     /// Scratch space for a state.
     pub scratch: State,
+    /// Which numbers are kept at joins, once the search is long.
+    pub kept: Option<KeptNumbers>,
 }
 
 impl Search {
+    /// A search at the start, where these are the stored states.
+    pub fn over(alloc: Global, states: StoredStates) -> Self
+        ensures states { result.states ≡ states }
+        ensures new { states.states.items ≡ [] → IsNew result }
+    {
+        Search {
+            states,
+            path: Trail::new(alloc),
+            finished: 0,
+            current: State::start(),
+            scratch: State::start(),
+            kept: None,
+        }
+    }
+
     /// A search at the start of code of this number of slots.
     pub fn new(alloc: Global, slots: usize) -> Result<Self, AllocError>
         ensures new { IfOk result (λ search. IsNew search) }
         ensures room { IfOk result (λ search. HasShapeRoom search.states.index slots) }
     {
         let states = StoredStates::new(alloc, slots)?;
-        Ok(Search {
-            states,
-            path: Trail::new(alloc),
-            finished: 0,
-            current: State::start(),
-            scratch: State::start(),
-        })
+        Ok(Search::over(alloc, states))
     }
 
     /// The path arrives at the current state, which may have been kept before.
@@ -69,11 +81,12 @@ impl Search {
         requires forgotten { kept ≡ None → IsForgotten flow.now self.old.current }
         ensures moves { IfOk result (λ made. AfterMove flow.now self.new made) }
         ensures arrival { IfOk result IsArrival }
-        ensures stops { IfErr result (λ r. StopsAt flow.now r.0 r.1) }
+        ensures stops { IfErr result (λ r. StopsAt (precision_in self.new.kept) flow.now r.0 r.1) }
         ensures fails { IfErr result (λ r. ComesBackAt self.old.current r.0 r.1) }
         ensures path { self.new.path ≡ self.old.path }
         ensures current { self.new.current ≡ self.old.current }
         ensures finished { self.new.finished ≡ self.old.finished }
+        ensures kept { self.new.kept ≡ self.old.kept }
     {
         arrive(
             alloc,
@@ -91,11 +104,12 @@ impl Search {
         requires whole { IsImage flow.now }
         requires new { IsNew self.old }
         ensures moves { IfOk result (λ made. AfterMove flow.now self.new made) }
-        ensures begins { IfOk result (λ made. BeginsPath flow.now made self.new.path.items
+        ensures begins { IfOk result (λ made. BeginsPath Exact flow.now made self.new.path.items
             self.new.current) }
-        ensures stops { IfErr result (λ r. StopsAt flow.now r.0 r.1) }
-        ensures fails { IfErr result (λ r. BeginFails flow.now self.new.current r.0 r.1) }
+        ensures stops { IfErr result (λ r. StopsAt (precision_in self.new.kept) flow.now r.0 r.1) }
+        ensures fails { IfErr result (λ r. BeginFails Exact flow.now self.new.current r.0 r.1) }
         ensures explored { self.new.finished + length self.new.path.items ≡ 0 }
+        ensures kept { self.new.kept ≡ None }
     {
         forget(flow, false, &mut self.current);
         self.come(alloc, flow, None)
@@ -118,13 +132,14 @@ impl Search {
         requires at { IsNext flow.now self.old (NextMove.Explore stored) }
         requires room { self.old.finished + length self.old.path.items < MAX_EXPLORED }
         ensures moves { IfOk result (λ made. AfterMove flow.now self.new made.1) }
-        ensures steps { IfOk result (λ made. ShowsStep flow.now self.old.current
-            self.old.path.items made.1 self.new.path.items self.new.current) }
-        ensures stops { IfErr result (λ r. StopsAt flow.now r.0 r.1) }
-        ensures fails { IfErr result (λ r. StepFails flow.now self.old.current
-            self.new.current r.0 r.1) }
+        ensures steps { IfOk result (λ made. ShowsStep (precision_in self.old.kept) flow.now
+            self.old.current self.old.path.items made.1 self.new.path.items self.new.current) }
+        ensures stops { IfErr result (λ r. StopsAt (precision_in self.new.kept) flow.now r.0 r.1) }
+        ensures fails { IfErr result (λ r. StepFails (precision_in self.old.kept) flow.now
+            self.old.current self.new.current r.0 r.1) }
         ensures explored { OnOk result (self.new.finished + length self.new.path.items
             ≡ self.old.finished + length self.old.path.items + 1) }
+        ensures kept { self.new.kept ≡ self.old.kept }
     {
         let slot = self.current.slot;
         let caller_count = self.current.callers.len();
@@ -140,7 +155,7 @@ impl Search {
             }
             Ways::One => None,
             Ways::Two => {
-                forget(flow, false, &mut self.scratch);
+                forget_by(flow, &self.kept, false, &mut self.scratch);
                 let mask = kept_slots(flow, self.scratch.slot);
                 let others = self.path.others_at(self.scratch.slot, self.states.last());
                 match Kept::of_forgotten(alloc, &mut self.scratch, mask, parts, others) {
@@ -154,6 +169,7 @@ impl Search {
             alloc,
             flow,
             &mut self.states,
+            &self.kept,
             has_called,
             &mut self.current,
             &mut self.scratch,
@@ -181,11 +197,12 @@ impl Search {
         ensures moves { IfOk result (λ made. AfterMoveOrEnd flow.now self.new ended made) }
         ensures returns { IfOk result (λ made. IfReturns self.old.path.items made
             self.new.path.items self.new.current) }
-        ensures stops { IfErr result (λ r. StopsAt flow.now r.0 r.1) }
+        ensures stops { IfErr result (λ r. StopsAt (precision_in self.new.kept) flow.now r.0 r.1) }
         ensures fails { IfErr result (λ r. ReturnFails self.old.path.items
             self.new.current r.0 r.1) }
         ensures explored { OnOk result (self.new.finished + length self.new.path.items
             ≡ self.old.finished + length self.old.path.items) }
+        ensures kept { self.new.kept ≡ self.old.kept }
     {
         let Ok(taken) = self.path.take_last_pending(alloc, ended) else {
             return Err(NO_MEMORY);
@@ -215,17 +232,19 @@ impl Search {
     ) -> Result<NextMove, Halt<L::Stop>>
         requires moves { AfterMove flow.now self.old first }
         requires room { self.old.finished + length self.old.path.items ≤ MAX_EXPLORED }
-        requires untold { IsToTell flow.now (L.follows listener.old flow.now)
-            self.old.path.items self.old.current first }
+        requires untold { InEach self.old.kept (λ how. IsToTell how flow.now
+            (L.follows listener.old how flow.now) self.old.path.items self.old.current first) }
         ensures goes { IfOk result (λ next. IsNext flow.now self.new next) }
-        ensures told { IfOk result (λ next. FollowsNext flow.now (L.follows listener.new flow.now)
-            self.new.path.items self.new.current next) }
-        ensures stops { IfErr result (λ h. IfRefused h (StopsAt flow.now)) }
+        ensures told { InEach self.old.kept (λ how. IfOk result (λ next. FollowsNext how flow.now
+            (L.follows listener.new how flow.now) self.new.path.items self.new.current next)) }
+        ensures stops { IfErr result (λ h. IfRefused h
+            (StopsAt (precision_in self.new.kept) flow.now)) }
         ensures not_long { IfErr result (λ h. IfRefused h (λ e _. e ≢ Refusal.TooLong)) }
-        ensures ends { IfErr result (λ h. IfRefused h
-            (EndsIn flow.now (L.follows listener.new flow.now))) }
+        ensures ends { InEach self.old.kept (λ how. IfErr result (λ h. IfRefused h
+            (EndsIn flow.now (L.follows listener.new how flow.now)))) }
         ensures explored { OnOk result (self.new.finished + length self.new.path.items
             ≡ self.old.finished + length self.old.path.items) }
+        ensures kept { self.new.kept ≡ self.old.kept }
     {
         let mut made = first;
         'moves: loop {
@@ -259,17 +278,19 @@ impl Search {
         requires good { IsFlow flow.now }
         requires at { IsNext flow.now self.old (NextMove.Explore stored) }
         requires room { self.old.finished + length self.old.path.items < MAX_EXPLORED }
-        requires told { FollowsTo flow.now (L.follows listener.old flow.now)
-            self.old.path.items self.old.current }
+        requires told { InEach self.old.kept (λ how. FollowsTo how flow.now
+            (L.follows listener.old how flow.now) self.old.path.items self.old.current) }
         ensures goes { IfOk result (λ next. IsNext flow.now self.new next) }
-        ensures told { IfOk result (λ next. FollowsNext flow.now (L.follows listener.new flow.now)
-            self.new.path.items self.new.current next) }
-        ensures stops { IfErr result (λ h. IfRefused h (StopsAt flow.now)) }
+        ensures told { InEach self.old.kept (λ how. IfOk result (λ next. FollowsNext how flow.now
+            (L.follows listener.new how flow.now) self.new.path.items self.new.current next)) }
+        ensures stops { IfErr result (λ h. IfRefused h
+            (StopsAt (precision_in self.new.kept) flow.now)) }
         ensures not_long { IfErr result (λ h. IfRefused h (λ e _. e ≢ Refusal.TooLong)) }
-        ensures ends { IfErr result (λ h. IfRefused h
-            (EndsIn flow.now (L.follows listener.new flow.now))) }
+        ensures ends { InEach self.old.kept (λ how. IfErr result (λ h. IfRefused h
+            (EndsIn flow.now (L.follows listener.new how flow.now)))) }
         ensures explored { OnOk result (self.new.finished + length self.new.path.items
             ≡ self.old.finished + length self.old.path.items + 1) }
+        ensures kept { self.new.kept ≡ self.old.kept }
     {
         let (ways, made) = match self.step(alloc, image, flow, stored, parts) {
             Ok(stepped) => stepped,
@@ -287,6 +308,7 @@ impl Search {
         alloc: Global,
         image: &Image,
         flow: &Flow<'_>,
+        is_exact: bool,
         parts: &mut Vec<Part>,
         listener: &mut L,
     ) -> Result<u32, Halt<L::Stop>>
@@ -294,24 +316,30 @@ impl Search {
         requires whole { IsImage image.now }
         requires good { IsFlow flow.now }
         requires new { IsNew self.old }
-        requires untold { (last : TheState) × L.follows listener.old flow.now [] last }
+        requires untold { (how : Precision) → (last : TheState)
+            × L.follows listener.old how flow.now [] last }
         ensures settles { IfOk result (λ n. IsNext flow.now self.new (NextMove.Done n)) }
         ensures most { IfOk result (λ n. n ≤ MAX_EXPLORED) }
-        ensures stops { IfErr result (λ h. IfRefused h (StopsAt flow.now)) }
+        ensures stops { IfErr result (λ h. IfRefused h
+            (StopsAt (precision_in self.new.kept) flow.now)) }
         ensures too_long { IfErr result (λ h. IfRefused h
             (λ e slot. e ≡ Refusal.TooLong → IsTooLong self.new slot)) }
-        ensures ends { IfErr result (λ h. IfRefused h
-            (EndsIn flow.now (L.follows listener.new flow.now))) }
+        ensures ends { InEach self.new.kept (λ how. IfErr result (λ h. IfRefused h
+            (EndsIn flow.now (L.follows listener.new how flow.now)))) }
+        ensures exact { IsTrue is_exact → self.new.kept ≡ None }
     {
         let made = match self.begin(alloc, flow) {
             Ok(made) => made,
             Err(refused) => return Err(halt(listener, &self.current, refused)),
         };
         let mut next_move = self.settle(alloc, flow, made, listener)?;
-        for _explored in 0..MAX_EXPLORED {
+        for explored in 0..MAX_EXPLORED {
             match next_move {
                 NextMove::Done(number) => return Ok(number),
                 NextMove::Explore(stored) => {
+                    let Ok(()) = lengthen(alloc, flow, explored, is_exact, &mut self.kept) else {
+                        return Err(Halt::Refused(Refusal::Memory, 0));
+                    };
                     next_move = self.advance(alloc, image, flow, stored, parts, listener)?;
                 }
             }
@@ -322,33 +350,38 @@ impl Search {
         }
     }
 
-    /// Explores all that can be reached from the start, and returns the number of the start.
+    /// Explores all that can be reached from the start, and returns the number of the start. A
+    /// search that is exact keeps all tested numbers, however long it gets.
     pub fn explore<L: Listener>(
         &mut self,
         alloc: Global,
         image: &Image,
         flow: &Flow<'_>,
+        is_exact: bool,
         listener: &mut L,
     ) -> Result<u32, Halt<L::Stop>>
         requires image { flow.now ≡ image.now }
         requires whole { IsImage image.now }
         requires good { IsFlow flow.now }
         requires new { IsNew self.old }
-        requires untold { (last : TheState) × L.follows listener.old flow.now [] last }
+        requires untold { (how : Precision) → (last : TheState)
+            × L.follows listener.old how flow.now [] last }
         ensures within { IfOk result (λ n. Within flow.now start n) }
         ensures number { IfOk result (λ n. HasNumber flow.now start n) }
         ensures some { IfOk result (λ n. 0 < n) }
         ensures most { IfOk result (λ n. n ≤ MAX_EXPLORED) }
-        ensures stops { IfErr result (λ h. IfRefused h (StopsAt flow.now)) }
+        ensures stops { IfErr result (λ h. IfRefused h
+            (StopsAt (precision_in self.new.kept) flow.now)) }
         ensures too_long { IfErr result (λ h. IfRefused h
             (λ e slot. e ≡ Refusal.TooLong → IsTooLong self.new slot)) }
 
         // A listener has followed the path to the state in which the program is refused.
-        ensures ends { IfErr result (λ h. IfRefused h
-            (EndsIn flow.now (L.follows listener.new flow.now))) }
+        ensures ends { InEach self.new.kept (λ how. IfErr result (λ h. IfRefused h
+            (EndsIn flow.now (L.follows listener.new how flow.now)))) }
+        ensures exact { IsTrue is_exact → self.new.kept ≡ None }
     {
         let mut parts = Vec::new(alloc);
-        match self.explore_all(alloc, image, flow, &mut parts, listener) {
+        match self.explore_all(alloc, image, flow, is_exact, &mut parts, listener) {
             Ok(number) => Ok(number),
             Err(Halt::Refused(refusal, slot)) => {
                 listener.refused(refusal, slot);

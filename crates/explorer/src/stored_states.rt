@@ -8,6 +8,7 @@ ghost use Rattle.explorer.specs.StoredStates.{IsStored, IsCovered, IsRepeated, S
 
 use crate::groups::FEW;
 use crate::kept::{Kept, Other, Others, PLACES};
+use crate::look_ups::{Found, Scan};
 use crate::state_trees::tree_of;
 use crate::stored_forms::stored_form;
 use control_flow::SlotMask;
@@ -21,24 +22,6 @@ use std::alloc::{AllocError, Global};
 pub struct StoredState {
     pub state: Kept,
     pub number: u32,
-}
-
-/// Says how many finished states in which this is known were scanned.
-#[derive(Clone, Copy, Drop)]
-struct Scan {
-    known: u64,
-    count: usize,
-}
-
-/// Says what a look-up found.
-#[derive(Clone, Copy, Drop)]
-struct Found {
-    /// The first finished state that covers the one that is looked up: its index and its number.
-    first: Option<(usize, u32)>,
-    /// The longest scan before it was found.
-    longest: Scan,
-    /// The shape of the state that is looked up, if another one of its slot has it.
-    own: Option<OwnShape>,
 }
 
 /// Says how many words of 8 bytes the stored states may take, shared ones not counted.
@@ -106,6 +89,17 @@ impl StoredStates {
             is_full: false,
             finished_at: vec![in alloc; 0u8; slots]?,
         })
+    }
+
+    /// No states yet, where what these took and what looking them up has cost counts.
+    pub fn anew(self, alloc: Global, slots: usize) -> Result<Self, AllocError>
+        ensures empty { IfOk result (λ stored. stored.states.items ≡ []) }
+    {
+        let StoredStates { effort, words, .. } = self;
+        let mut states = StoredStates::new(alloc, slots)?;
+        states.effort = effort;
+        states.words = words;
+        Ok(states)
     }
 
     /// Returns whether so many states of a slot are finished that others are likely to come.

@@ -3,6 +3,7 @@ use Rattle.std.proofs.Common.{◌≡◌, ◌≢◌, ◌∙◌, ℕ, zero, suc, �
 use Rattle.std.specs.Prelude.{IfSome}
 use Rattle.isa_model.specs.Code.Instructions.{Program}
 use Rattle.stack_state.specs.declared.states.State.{State}
+use Rattle.walks.specs.Forgetting.{Precision}
 use Rattle.walks.specs.Walks.{StepsTo, HasSteps}
 use Rattle.listeners.specs.declared.turns.Turns.{Turns}
 use Rattle.walks.specs.Explained.{IsTurnBefore}
@@ -121,54 +122,59 @@ further_back path turns index count e is same below length_is h =
 
 -- ---- the steps from the one to the other
 
-HasSteps-more : (p : Program) (n : ℕ) (a b s : State) → HasSteps p n a b → StepsTo p b s
-    → HasSteps p (suc n) a s
+HasSteps-more : (how : Precision) (p : Program) (n : ℕ) (a b s : State) → HasSteps how p n a b
+    → StepsTo how p b s
+    → HasSteps how p (suc n) a s
 unfolding HasSteps
-HasSteps-more p zero a b s h step = (s, subst (λ (x : State). StepsTo p x s) h step, refl)
-HasSteps-more p (suc n) a b s h step = (h.0, h.1, HasSteps-more p n h.0 b s h.2 step)
+HasSteps-more how p zero a b s h step = (s, subst (λ (x : State). StepsTo how p x s) h step, refl)
+HasSteps-more how p (suc n) a b s h step = (h.0, h.1, HasSteps-more how p n h.0 b s h.2 step)
 
-one_step : (p : Program) (e s : State) → StepsTo p e s → HasSteps p 1 e s
+one_step : (how : Precision) (p : Program) (e s : State) → StepsTo how p e s → HasSteps how p 1 e s
 unfolding HasSteps
-one_step p e s step = (s, step, refl)
+one_step how p e s step = (s, step, refl)
 
-leads_along : (p : Program) (s e : State) (after before : List State)
-    → IsWalk p (s ∷ after ++ e ∷ before) → HasSteps p (suc (length after)) e s
-leads_along p s e [] before h = one_step p e s h.0
-leads_along p s e (a ∷ after) before h =
-    HasSteps-more p (suc (length after)) e a s (leads_along p a e after before h.1) h.0
+leads_along : (how : Precision) (p : Program) (s e : State) (after before : List State)
+    → IsWalk how p (s ∷ after ++ e ∷ before) → HasSteps how p (suc (length after)) e s
+leads_along how p s e [] before h = one_step how p e s h.0
+leads_along how p s e (a ∷ after) before h =
+    HasSteps-more how p (suc (length after)) e a s (leads_along how p a e after before h.1) h.0
 
 abbrev head_or : State → List State → State
 head_or s [] = s
 head_or s (c ∷ path) = c
 
-turns_by : (p : Program) (s e : State) (path after before : List State) → IsWalk p (s ∷ path)
+turns_by : (how : Precision) (p : Program) (s e : State) (path after before : List State)
+    → IsWalk how p (s ∷ path)
     → s ∷ path ≡ after ++ e ∷ before → length before + 1 < length (s ∷ path)
-    → (more : ℕ) × HasSteps p (suc more) e s
-turns_by p s e path [] before walk split below =
+    → (more : ℕ) × HasSteps how p (suc more) e s
+turns_by how p s e path [] before walk split below =
     let same : length (s ∷ path) ≡ length (e ∷ before) =
     ap (λ (xs : List State). length xs) split in
     absurd (omega (arith, same, below))
-turns_by p s e path (c ∷ after) before walk split below =
+turns_by how p s e path (c ∷ after) before walk split below =
     let first : s ≡ c = ap (head_or s) split in
-    let along : IsWalk p (c ∷ after ++ e ∷ before) = subst (IsWalk p) split walk in (
+    let along : IsWalk how p (c ∷ after ++ e ∷ before) = subst (IsWalk how p) split walk in (
       length after,
-      subst (λ (x : State). HasSteps p (suc (length after)) e x) (sym first)
-          (leads_along p c e after before along),
+      subst (λ (x : State). HasSteps how p (suc (length after)) e x) (sym first)
+          (leads_along how p c e after before along),
     )
 
 -- a state that is further back on the path leads to its last one
-pub turned : (p : Program) (s e : State) (path : List State) → IsWalk p (s ∷ path)
-    → IsFurtherBack (s ∷ path) e → (more : ℕ) × HasSteps p (suc more) e s
-turned p s e path walk (index, at, below) =
-    turns_by p s e path at.after at.before walk at.split
+pub turned : (how : Precision) (p : Program) (s e : State) (path : List State)
+    → IsWalk how p (s ∷ path)
+    → IsFurtherBack (s ∷ path) e → (more : ℕ) × HasSteps how p (suc more) e s
+turned how p s e path walk (index, at, below) =
+    turns_by how p s e path at.after at.before walk at.split
     (subst (λ n. n + 1 < length (s ∷ path)) (sym at.index_is) below)
 
 -- the same for the state that was found, if there is one
-pub turn_before : (p : Program) (s : State) (path : List State) (found : Option State)
-    → IsWalk p (s ∷ path)
-    → IfSome found (λ e. (e.slot ≡ s.slot) × IsFurtherBack (s ∷ path) e) → IsTurnBefore p s found
-turn_before p s path None walk h = tt
-turn_before p s path (Some e) walk h = (h.0, turned p s e path walk h.1)
+pub turn_before : (how : Precision) (p : Program) (s : State) (path : List State)
+    (found : Option State)
+    → IsWalk how p (s ∷ path)
+    → IfSome found (λ e. (e.slot ≡ s.slot) × IsFurtherBack (s ∷ path) e)
+    → IsTurnBefore how p s found
+turn_before how p s path None walk h = tt
+turn_before how p s path (Some e) walk h = (h.0, turned how p s e path walk h.1)
 
 pub earlier_found : (count slot : ℕ) (path : List State) (s : State) (turns : Turns)
     (found : Option State)

@@ -3,6 +3,7 @@
 ghost use Rattle.std.specs.Prelude.{◌≡◌, ◌<◌, [], ◌∷◌, ◌++◌, drop, length, List, Err, IfSome, IsTrue};
 ghost use Rattle.isa_model.specs.Code.Instructions.{Program};
 ghost use Rattle.stack_state.specs.declared.states.State.{State as TheState};
+ghost use Rattle.walks.specs.Forgetting.{Precision};
 ghost use Rattle.walks.specs.Walks.{StepsTo};
 ghost use Rattle.walks.specs.Explained.{IsLed, IsTurnBefore, ComesThrough, Explains};
 ghost use Rattle.walks.specs.Refused.{IsRefused};
@@ -35,9 +36,9 @@ fn note(way: &mut ArrayVec<Jump, 8>, jump: Jump)
 /// Extends the last jumps of a path by a step between states at these slots, if that is a jump.
 /// None: no instruction begins at `from`.
 fn go_on(image: &Image, way: &mut ArrayVec<Jump, 8>, from: usize, to: usize) -> Option<()>
-    ensures { IfSome result (λ _. (a s : TheState) → a.slot ≡ from → s.slot ≡ to
-        → StepsTo image.now a s → IsLed image.now a way.old.items
-        → IsLed image.now s way.new.items) }
+    ensures { IfSome result (λ _. (how : Precision) (a s : TheState) → a.slot ≡ from → s.slot ≡ to
+        → StepsTo how image.now a s → IsLed how image.now a way.old.items
+        → IsLed how image.now s way.new.items) }
 {
     let insn = image.at(from)?;
     let next = from.checked_add(insn.slots())?;
@@ -64,8 +65,8 @@ impl<'a> Follower<'a> {
     fn new(alloc: Global, image: &'a Image, slot: usize) -> Self
         ensures slot { result.slot ≡ slot }
         ensures image { result.image.now ≡ image.now }
-        ensures nothing { (s : TheState) × HasFollowed result.image.now result.slots.items
-            result.slot result.turns image.now [] s }
+        ensures nothing { (how : Precision) → (s : TheState) × HasFollowed how result.image.now
+            result.slots.items result.slot result.turns image.now [] s }
     {
         Follower {
             image,
@@ -77,10 +78,11 @@ impl<'a> Follower<'a> {
 
     /// Leaves the last state of the path: then all that is kept is of the path before it.
     fn go_back(&mut self)
-        ensures { (p : Program) (s : TheState) (path : List TheState) (last : TheState)
-            → HasFollowed self.old.image.now self.old.slots.items self.old.slot self.old.turns
+        ensures { (how : Precision) (p : Program) (s : TheState) (path : List TheState)
+            (last : TheState)
+            → HasFollowed how self.old.image.now self.old.slots.items self.old.slot self.old.turns
             p (s ∷ path) last
-            → HasFollowed self.new.image.now self.new.slots.items self.new.slot self.new.turns
+            → HasFollowed how self.new.image.now self.new.slots.items self.new.slot self.new.turns
             p path last }
     {
         let _slot = self.slots.pop();
@@ -90,11 +92,12 @@ impl<'a> Follower<'a> {
     /// Returns what is known at the end of the path, which is at this slot, and whether states were
     /// no longer compared. None: another path was asked for.
     fn into_explanation(self, slot: usize, is_cut_off: bool) -> Option<Explanation>
-        ensures { IfSome result (λ x. (p : Program) (before : List TheState) (s : TheState)
-            → HasFollowed self.entry.image.now self.entry.slots.items self.entry.slot
+        ensures { IfSome result (λ x. (how : Precision) (p : Program)
+            (before : List TheState) (s : TheState)
+            → HasFollowed how self.entry.image.now self.entry.slots.items self.entry.slot
             self.entry.turns p (s ∷ before) s
-            → s.slot ≡ slot → (x.state ≡ s) × IsLed p s x.way.items
-            × IsTurnBefore p s x.earlier × ComesThrough p s x.slots.items) }
+            → s.slot ≡ slot → (x.state ≡ s) × IsLed how p s x.way.items
+            × IsTurnBefore how p s x.earlier × ComesThrough how p s x.slots.items) }
     {
         if slot != self.slot {
             return None;
@@ -123,7 +126,7 @@ impl<'a> Follower<'a> {
 impl Listener for Follower<'_> {
     type Stop = AllocError;
 
-    ghost follows = { λ f p path last. HasFollowed f.image.now f.slots.items f.slot f.turns
+    ghost follows = { λ f how p path last. HasFollowed how f.image.now f.slots.items f.slot f.turns
         p path last };
 
     fn arrives(&mut self, state: &State) -> Result<(), AllocError> {
@@ -139,6 +142,12 @@ impl Listener for Follower<'_> {
 
     fn finished(&mut self, _number: u32) -> Result<(), AllocError> {
         self.go_back();
+        Ok(())
+    }
+
+    fn begins_anew(&mut self) -> Result<(), AllocError> {
+        self.slots.clear();
+        self.turns = Turns::new();
         Ok(())
     }
 }

@@ -40,7 +40,7 @@ struct Countdown {
 impl Listener for Countdown {
     type Stop = Reached;
 
-    ghost follows = { λ _ _ _ _. Unit {0} };
+    ghost follows = { λ _ _ _ _ _. Unit {0} };
 
     fn arrives(&mut self, _state: &State) -> Result<(), Reached> {
         Ok(())
@@ -66,11 +66,15 @@ impl Listener for Countdown {
     fn finished(&mut self, _number: u32) -> Result<(), Reached> {
         Ok(())
     }
+
+    fn begins_anew(&mut self) -> Result<(), Reached> {
+        Ok(())
+    }
 }
 
-/// Verifies a program as `verify` does, but explores no more instructions than the limit. If the
-/// limit suffices, the result has each clause of `verify`'s. With a limit of `MAX_EXPLORED` or more
-/// the result is that of `verify`.
+/// Verifies a program as `verify` does, but explores no more instructions than the limit, in all.
+/// If the limit suffices, the result has each clause of `verify`'s. With a limit of `MAX_EXPLORED`
+/// or more the result is that of `verify`.
 pub fn verify_within(alloc: Global, image: Image, limit: u32) -> Result<Verified, NoBound>
     ensures program { IfOk result (λ verified. verified.program ≡ image) }
     ensures verified { IfOk result IsVerified }

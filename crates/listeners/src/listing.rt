@@ -188,7 +188,7 @@ impl Lister {
 impl Listener for Lister {
     type Stop = AllocError;
 
-    ghost follows = { λ _ _ _ _. Unit {0} };
+    ghost follows = { λ _ _ _ _ _. Unit {0} };
 
     fn arrives(&mut self, _state: &State) -> Result<(), AllocError> {
         Ok(())
@@ -219,6 +219,13 @@ impl Listener for Lister {
         }
         Ok(())
     }
+
+    fn begins_anew(&mut self) -> Result<(), AllocError> {
+        self.insns.clear();
+        self.stored_insns.clear();
+        self.path.clear();
+        Ok(())
+    }
 }
 
 /// The refusal for which there is no list, and its slot: memory ran out, if the lister stopped the
@@ -233,7 +240,8 @@ fn refusal_of(halt: Halt<AllocError>) -> (Refusal, usize)
     }
 }
 
-/// Explores a program as `verify` does. Returns all that was explored, or why and at which slot the
+/// Explores a program as `verify` does. Returns all that was explored by the search that accepted
+/// it, or why and at which slot the
 /// program is refused. The number of the first instruction is the bound.
 pub fn explore(alloc: Global, image: &Image) -> Result<Explored, (Refusal, usize)>
     ensures verified { IfOk result (λ insns. OfStart insns (λ n. IsVerified (record {

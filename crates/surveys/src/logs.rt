@@ -100,7 +100,7 @@ impl<W: Write + Drop> Log<'_, W> {
 impl<W: Write + Drop> Listener for Log<'_, W> {
     type Stop = LookError;
 
-    ghost follows = { λ _ _ _ _. Unit {0} };
+    ghost follows = { λ _ _ _ _ _. Unit {0} };
 
     fn arrives(&mut self, state: &State) -> Result<(), LookError> {
         self.arrived = state.slot;
@@ -133,6 +133,18 @@ impl<W: Write + Drop> Listener for Log<'_, W> {
 
     fn finished(&mut self, _number: u32) -> Result<(), LookError> {
         let _last = self.path.pop();
+        Ok(())
+    }
+
+    fn begins_anew(&mut self) -> Result<(), LookError> {
+        let explored = self.tally.explored;
+        let text = format!(in self.alloc;
+            "refused after {explored}, where numbers were forgotten: searched again, exactly\n"
+        )?;
+        write_bytes(&mut self.out, text.as_bytes())?;
+        self.tally = SearchTally::default();
+        self.path.clear();
+        self.stored_log_numbers.clear();
         Ok(())
     }
 

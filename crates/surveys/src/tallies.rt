@@ -11,7 +11,8 @@ use transfer::Ways;
 /// Says how many bytes a word of a stored state takes.
 const WORD: u64 = 8;
 
-/// Says what is counted in a search. A count that would overflow stays at the greatest number.
+/// Says what is counted in a search; in the last one, where a program is searched twice. A count
+/// that would overflow stays at the greatest number.
 #[derive(Clone, Copy, Default, Drop)]
 pub struct SearchTally {
     /// Says how many instructions were explored.
@@ -68,7 +69,7 @@ impl SearchTally {
 impl Listener for SearchTally {
     type Stop = Infallible;
 
-    ghost follows = { λ _ _ _ _. Unit {0} };
+    ghost follows = { λ _ _ _ _ _. Unit {0} };
 
     fn arrives(&mut self, _state: &State) -> Result<(), Infallible> {
         Ok(())
@@ -94,6 +95,11 @@ impl Listener for SearchTally {
 
     fn finished(&mut self, _number: u32) -> Result<(), Infallible> {
         self.finish();
+        Ok(())
+    }
+
+    fn begins_anew(&mut self) -> Result<(), Infallible> {
+        *self = SearchTally::default();
         Ok(())
     }
 

@@ -28,8 +28,10 @@ use Rattle.transfer.specs.Refusing.{is_unset, is_unset_in, register_refusal, rea
 use Rattle.walks.specs.declared.refusals.Refusal.{Refusal}
 use Rattle.walks.specs.declared.refusals.Refusal.TheVariants.{Flow, Step, Repeats, TooLong, Memory}
 use Rattle.walks.specs.Walks.{IsStuck, ComesBack}
+use Rattle.walks.proofs.PrecisionLaws.{IsStuck-as, ComesBack-as}
 use Rattle.walks.specs.Refused.{StartTakes, IsRefused}
 use Rattle.walks.specs.Accepting.{IsOutOfMemory}
+use Rattle.walks.specs.Forgetting.{Exact, Coarse}
 use Rattle.isa_model.specs.MustAccept.Paths.{IsPlainForm, Each, IsOneOf, needs, PathTo, IsWhole}
 
 -- ---- control flow
@@ -135,13 +137,15 @@ Flow-out_of_memory p e slot good h = absurd (IsFlow-Fails p e slot good h.fails)
 
 -- the program is refused only for memory, and for what its steps may be refused for
 pub IsRefused-want : (p : Program) (e : Refusal) (slot : ℕ) (Rest : Refusal → Type 0) → IsFlow p
-    → ((e : StepRefusal) (slot : ℕ) → IsStuck p e slot → Rest (Step e))
-    → ((slot : ℕ) → ComesBack p slot → ⊥) → (StartTakes p 1000001 → ⊥) → IsRefused p e slot
+    → ((e : StepRefusal) (slot : ℕ) → IsStuck Coarse p e slot → Rest (Step e))
+    → ((slot : ℕ) → ComesBack Coarse p slot → ⊥) → (StartTakes p 1000001 → ⊥) → IsRefused p e slot
     → IsOutOfMemory e ⊎ Rest e
 IsRefused-want p (Flow e) slot Rest good stuck back long h =
     inl (Flow-out_of_memory p e slot good h)
-IsRefused-want p (Step e) slot Rest good stuck back long h = inr (stuck e slot h.1)
-IsRefused-want p Repeats slot Rest good stuck back long h = absurd (back slot h.1)
+IsRefused-want p (Step e) slot Rest good stuck back long h = inr
+    (stuck e slot (IsStuck-as Coarse Exact p e slot tt h.1))
+IsRefused-want p Repeats slot Rest good stuck back long h = absurd
+    (back slot (ComesBack-as Coarse Exact p slot tt h.1))
 IsRefused-want p TooLong slot Rest good stuck back long h = absurd (long h.1.1)
 IsRefused-want p Memory slot Rest good stuck back long h = inl tt
 

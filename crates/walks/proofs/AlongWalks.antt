@@ -28,7 +28,7 @@ use Rattle.transfer.specs.declared.Ways.TheVariants as ways
 use Rattle.walks.specs.Walks.{IsAmong, StepsTo, HasSteps}
 use Rattle.control_flow.specs.Liveness.{IsLive, IsSlotLive, IsHomeLive}
 use Rattle.control_flow.specs.TestedNumbers.{MayForgetNumbers, TakesInput}
-use Rattle.walks.specs.Forgetting.{DeadForgotten, Forgets}
+use Rattle.walks.specs.Forgetting.{Coarse, DeadForgotten, Forgets}
 use Rattle.walks.specs.Counts.{AreForgotten, StepsInto}
 use Rattle.walks.proofs.DeadForgottenLaws.{DeadForgotten-slot, DeadForgotten-depth, DeadForgotten-live, DeadForgotten-stack_slot_live}
 use Rattle.walks.proofs.Forgotten.{Forgets-dead}
@@ -77,7 +77,7 @@ known_stack_slots p a b t f h = record {
 
 -- what is forgotten is dead, so the state stays beside the run's
 pub Along-forgets : (p : Program) (steps : ℕ) (d : IsDetermined p steps) (k : ℕ) (a b : State)
-    (t : Machine.State) → Forgets p a b
+    (t : Machine.State) → Forgets Coarse p a b
     → Along p steps d k a t → Along p steps d k b t
 Along-forgets p steps d k a b t forgets along =
     let f = Forgets-dead p a b (numbers_known p steps d) forgets in
@@ -116,7 +116,8 @@ into_along p steps d k s t w a b along step =
 -- each step of a walk stays beside the run
 pub to_along : (p : Program) (steps : ℕ) (d : IsDetermined p steps) (k : ℕ) (s c : State)
     (t : Machine.State)
-    → Along p steps d k s t → StepsTo p s c → (u : Machine.State) × Along p steps d (suc k) c u
+    → Along p steps d k s t → StepsTo Coarse p s c → (u : Machine.State)
+    × Along p steps d (suc k) c u
 to_along p steps d k s c t along step =
     of step.taken step.first step.other
     (step_along p steps d k s t step.insn step.taken step.first step.other along step.here
@@ -133,7 +134,8 @@ to_along p steps d k s c t along step =
 
 pub walk_along : (p : Program) (steps : ℕ) (d : IsDetermined p steps) (n k : ℕ) (a b : State)
     (t : Machine.State)
-    → Along p steps d k a t → HasSteps p n a b → (u : Machine.State) × Along p steps d (k + n) b u
+    → Along p steps d k a t → HasSteps Coarse p n a b → (u : Machine.State)
+    × Along p steps d (k + n) b u
 unfolding HasSteps
 walk_along p steps d zero k a b t along h = (
   t,

@@ -34,6 +34,7 @@ use Rattle.walks.proofs.Beside.{first, Along}
 use Rattle.walks.proofs.StillBeside.{NextAlong}
 use Rattle.walks.proofs.Along.{step_along}
 use Rattle.walks.proofs.AlongWalks.{into_along, to_along, start_along}
+use Rattle.walks.specs.Forgetting.{Coarse}
 use Rattle.walks.proofs.NeverStuck.{first_along, takes_along, steps_leads, walks_along, never_stuck}
 
 -- ---- members of the states
@@ -130,7 +131,7 @@ ends_on p clock v x (suc m) h goes = (m, refl, subst (After (λ y. Ends p clock 
 -- a step to the only state that there is
 one_to : (p : Program) (steps : ℕ) (d : IsDetermined p steps) (k : ℕ) (s c : State)
     (t : Machine.State)
-    → Along p steps d k s t → StepsTo p s c → (b : State) × StepsInto p s ways.One c b
+    → Along p steps d k s t → StepsTo Coarse p s c → (b : State) × StepsInto p s ways.One c b
 one_to p steps d k s c t along step =
     of step.taken step.first step.other step.makes
     (step_along p steps d k s t step.insn step.taken step.first step.other along step.here
@@ -153,7 +154,7 @@ one_to p steps d k s c t along step =
 
 walk_members : (p : Program) (steps : ℕ) (d : IsDetermined p steps) (j k n : ℕ) (a b : State)
     (t : Machine.State)
-    → IsProgram p → Along p steps d k a t → HasSteps p j a b
+    → IsProgram p → Along p steps d k a t → HasSteps Coarse p j a b
     → (clock : ℕ → ℕ) → IsClock clock → (v : Machine.State) → Means p a v → Ends p clock v n
     → Later p b j n
 unfolding HasSteps
@@ -192,7 +193,7 @@ walk_members p steps d (suc j) k n a b t program along h = λ clock answers v me
 
 no_end : (p : Program) (steps : ℕ) (d : IsDetermined p steps) (k j : ℕ) (a b : State)
     (t : Machine.State)
-    → IsProgram p → Along p steps d k a t → HasSteps p (suc j) a b → Covers p a b
+    → IsProgram p → Along p steps d k a t → HasSteps Coarse p (suc j) a b → Covers p a b
     → (fuel n : ℕ) → n ≤ fuel → (clock : ℕ → ℕ) → IsClock clock → (v : Machine.State) → Means p a v
     → Ends p clock v n → ⊥
 unfolding Covers
@@ -210,7 +211,7 @@ no_end p steps d k j a b t program along h covers (suc fuel) n le clock answers 
     (covers later.state later.meant) later.ends
 
 ComesBack-determined : (p : Program) (steps : ℕ) (d : IsDetermined p steps) (slot : ℕ) → IsProgram p
-    → ComesBack p slot → ⊥
+    → ComesBack Coarse p slot → ⊥
 ComesBack-determined p steps d slot program h =
     let from = first p steps d in
     let means = Means-start p d.run.head d.run.packet d.run.contents program d.run.given in

@@ -22,35 +22,39 @@ use Rattle.transfer.specs.declared.Ways.{Ways}
 use Rattle.transfer.specs.declared.Ways.TheVariants as ways
 use Rattle.transfer.specs.Leading.{LeadsTo, InSome}
 use Rattle.transfer.specs.Following.{returns_of, GoesOnTo}
-use Rattle.walks.specs.Forgetting.{IsDeadAt, IsKept, IsSlotDeadAt, IsSlotKept, IsCallerKept, slots_in, DeadForgotten, NumbersForgotten, Forgets, IsForgotten}
+use Rattle.walks.specs.Forgetting.{IsDeadAt, IsKept, IsSlotDeadAt, IsSlotKept, IsCallerKept, slots_in, DeadForgotten, Precision, NumbersForgotten, Forgets, IsForgotten}
 use Rattle.walks.specs.Counts.{AreForgotten}
 use Rattle.walks.proofs.DeadForgottenLaws.{DeadForgotten-slot, DeadForgotten-callers, DeadForgotten-depth, DeadForgotten-returns, DeadForgotten-each, DeadForgotten-live, DeadForgotten-alone, DeadForgotten-forgotten, Means-dead}
 use Rattle.walks.proofs.NumbersForgottenLaws.{NumbersForgotten-slot, NumbersForgotten-callers, NumbersForgotten-depth, NumbersForgotten-caller, NumbersForgotten-returns, NumbersForgotten-number, NumbersForgotten-other, NumbersForgotten-alone, AreNumbersKept-none, AreSpilledNumbersKept-none, NumbersForgotten-written, NumbersForgotten-twice, Means-numbers}
 
 -- ---- what stays
 
-pub Forgets-slot : (p : Program) (a b : State) → Forgets p a b → b.slot ≡ a.slot
+pub Forgets-slot : {how : Precision} (p : Program) (a b : State) → Forgets how p a b
+    → b.slot ≡ a.slot
 Forgets-slot p a b f =
     NumbersForgotten-slot p f.middle b f.numbers ∙ DeadForgotten-slot p a f.middle f.dead
 
-pub Forgets-callers : (p : Program) (a b : State) → Forgets p a b
+pub Forgets-callers : {how : Precision} (p : Program) (a b : State) → Forgets how p a b
     → length b.callers.items ≡ length a.callers.items
 Forgets-callers p a b f =
     ap (λ (x : State). length x.callers.items) f.numbers.rest
     ∙ DeadForgotten-callers p a f.middle f.dead
 
-pub Forgets-depth : (p : Program) (a b : State) → Forgets p a b → depth b ≡ depth a
+pub Forgets-depth : {how : Precision} (p : Program) (a b : State) → Forgets how p a b
+    → depth b ≡ depth a
 Forgets-depth p a b f =
     NumbersForgotten-depth p f.middle b f.numbers ∙ DeadForgotten-depth p a f.middle f.dead
 
-pub Forgets-returns : (p : Program) (a b : State) → Forgets p a b → returns_of b ≡ returns_of a
+pub Forgets-returns : {how : Precision} (p : Program) (a b : State) → Forgets how p a b
+    → returns_of b ≡ returns_of a
 Forgets-returns p a b f =
     NumbersForgotten-returns p f.middle b f.numbers ∙ DeadForgotten-returns p a f.middle f.dead
 
 -- ---- what is known of registers
 
 -- where no paths meet, every register is known as before
-pub Forgets-alone : (p : Program) (a b : State) (r : Reg) → Forgets p a b → r ≢ R10
+pub Forgets-alone : {how : Precision} (p : Program) (a b : State) (r : Reg) → Forgets how p a b
+    → r ≢ R10
     → (IsJoin p a.slot → ⊥) → kind_of b r ≡ kind_of a r
 Forgets-alone p a b r f own alone =
     let slot = DeadForgotten-slot p a f.middle f.dead in
@@ -58,7 +62,8 @@ Forgets-alone p a b r f own alone =
     ∙ DeadForgotten-alone p a f.middle r f.dead own alone
 
 -- a number stays a number, or its register is dead
-pub Forgets-number : (p : Program) (a b : State) (r : Reg) → Forgets p a b → r ≢ R10
+pub Forgets-number : {how : Precision} (p : Program) (a b : State) (r : Reg) → Forgets how p a b
+    → r ≢ R10
     → IsNumberKind (kind_of a r) → IsDeadAt p a.slot r ⊎ IsNumberKind (kind_of b r)
 Forgets-number p a b r f own number = elim (DeadForgotten-each p a f.middle r f.dead own) [
   | inl same ↦
@@ -68,7 +73,8 @@ Forgets-number p a b r f own number = elim (DeadForgotten-each p a f.middle r f.
 ]
 
 -- a register that is live, and no number, is known as before
-pub Forgets-pointer : (p : Program) (a b : State) (r : Reg) → Forgets p a b → r ≢ R10
+pub Forgets-pointer : {how : Precision} (p : Program) (a b : State) (r : Reg) → Forgets how p a b
+    → r ≢ R10
     → IsLive p r a.slot → (IsNumberKind (kind_of a r) → ⊥) → kind_of b r ≡ kind_of a r
 Forgets-pointer p a b r f own live pointer =
     let same = DeadForgotten-live p a f.middle r f.dead own live in
@@ -78,7 +84,7 @@ Forgets-pointer p a b r f own live pointer =
 
 -- ---- programs whose numbers stay known
 
-callers_forgotten : (p : Program) (a b : State) (k : ℕ) → (f : Forgets p a b)
+callers_forgotten : {how : Precision} (p : Program) (a b : State) (k : ℕ) → (f : Forgets how p a b)
     → k < length a.callers.items
     → IsCallerKept p (abstract_frame_at a (k + 1)).return_slot (abstract_frame_at a k)
     (abstract_frame_at b k)
@@ -91,7 +97,8 @@ callers_forgotten p a b k f below =
     (f.dead.callers.each k below)
 
 -- only what is dead is forgotten
-pub Forgets-dead : (p : Program) (a b : State) → (MayForgetNumbers p → ⊥) → Forgets p a b
+pub Forgets-dead : {how : Precision} (p : Program) (a b : State) → (MayForgetNumbers p → ⊥)
+    → Forgets how p a b
     → DeadForgotten p a b
 Forgets-dead p a b none f =
     let over : State → State = λ x. record x {
@@ -126,8 +133,9 @@ Forgets-dead p a b none f =
 -- ---- further numbers
 
 -- more numbers are forgotten afterwards
-pub Forgets-further : (p : Program) (a b c : State) → Forgets p a b → NumbersForgotten p b c
-    → Forgets p a c
+pub Forgets-further : {how : Precision} (p : Program) (a b c : State) → Forgets how p a b
+    → NumbersForgotten how p b c
+    → Forgets how p a c
 Forgets-further p a b c f more = record {
   middle = f.middle;
   dead = f.dead;
@@ -137,12 +145,14 @@ Forgets-further p a b c f more = record {
 -- ---- meanings
 
 -- whatever the state means, it means once what is dead and some numbers are forgotten
-pub Means-forgets : (p : Program) (a b : State) (w : Machine.State) → Forgets p a b → Means p a w
+pub Means-forgets : {how : Precision} (p : Program) (a b : State) (w : Machine.State)
+    → Forgets how p a b → Means p a w
     → Means p b w
 Means-forgets p a b w f means =
     Means-numbers p f.middle b w f.numbers (Means-dead p a f.middle w f.dead means)
 
-pub Forgets-covers : (p : Program) (a b : State) → Forgets p a b → Covers p b a
+pub Forgets-covers : {how : Precision} (p : Program) (a b : State) → Forgets how p a b
+    → Covers p b a
 unfolding Covers
 Forgets-covers p a b f = λ w means. Means-forgets p a b w f means
 
@@ -162,7 +172,8 @@ LeadsTo-forgets p s w a b first other f leads = λ clock answers v means.
     After-weaker (InSome p w a b) (InSome p w first other) (step p clock v)
     (λ x h. some_forgotten p w a b first other x f h) (leads clock answers v means)
 
-pub GoesOnTo-forgets : (p : Program) (s a b : State) → Forgets p a b → GoesOnTo p s a
+pub GoesOnTo-forgets : {how : Precision} (p : Program) (s a b : State) → Forgets how p a b
+    → GoesOnTo p s a
     → GoesOnTo p s b
 GoesOnTo-forgets p s a b f (inl h) = inl (record {
   follows = subst (λ n. Follows p s.slot n) (sym (Forgets-slot p a b f)) h.follows;
@@ -184,7 +195,8 @@ GoesOnTo-forgets p s a b f (inr (inr h)) = inr (inr (record {
 -- ---- stack slots that are dead
 
 -- nothing is known of dead stack slots
-pub Forgets-forgotten : (p : Program) (a b : State) → Forgets p a b → IsForgotten p b
+pub Forgets-forgotten : {how : Precision} (p : Program) (a b : State) → Forgets how p a b
+    → IsForgotten p b
 Forgets-forgotten p a b f =
     let slot = NumbersForgotten-slot p f.middle b f.numbers in (
       f.numbers.slots.all,

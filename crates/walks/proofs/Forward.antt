@@ -30,6 +30,7 @@ use Rattle.walks.proofs.Exits.{exits_not_two}
 use Rattle.walks.proofs.OnNumbers.{StepsToWays-performs}
 use Rattle.walks.specs.Walks.{StepsTo, HasSteps, WalksTo, ComesBack, IsAmong}
 use Rattle.walks.specs.Counts.{StepsInto, HasNumber, LeadsNowhere, LeadsToOne, LeadsToTwo, IsCoveredBy, Takes, Nothing, ItsOwn, OneMore, BothMore}
+use Rattle.walks.specs.Forgetting.{Coarse}
 use Rattle.isa_model.specs.MustAccept.Paths.{is_conditional, IsForward}
 
 -- ---- without calls there is one call frame
@@ -75,13 +76,13 @@ StepsToWays-follows p s t i w a b free one here makes among =
     (GoesOnTo-alone p s t free one (StepsToWays-goes p s t i w a b here makes among)).follows
 
 -- and each after what does not matter is forgotten
-pub StepsTo-goes : (p : Program) (a c : State) → StepsTo p a c → GoesOnTo p a c
+pub StepsTo-goes : (p : Program) (a c : State) → StepsTo Coarse p a c → GoesOnTo p a c
 StepsTo-goes p a c step =
     GoesOnTo-forgets p a step.next c step.forgets
     (StepsToWays-goes p a step.next step.insn step.taken step.first step.other step.here
     step.makes step.among)
 
-pub StepsTo-alone : (p : Program) (a c : State) → HasNoCalls p → depth a ≡ 1 → StepsTo p a c
+pub StepsTo-alone : (p : Program) (a c : State) → HasNoCalls p → depth a ≡ 1 → StepsTo Coarse p a c
     → StaysAlone p a c
 StepsTo-alone p a c free one step = GoesOnTo-alone p a c free one (StepsTo-goes p a c step)
 
@@ -90,13 +91,14 @@ unfolding start
 one_frame-start = refl
 
 pub HasSteps-alone : (p : Program) (n : ℕ) (a b : State) → HasNoCalls p → depth a ≡ 1
-    → HasSteps p n a b → depth b ≡ 1
+    → HasSteps Coarse p n a b → depth b ≡ 1
 unfolding HasSteps
 HasSteps-alone p zero a b free one h = ap depth h ∙ one
 HasSteps-alone p (suc n) a b free one h =
     HasSteps-alone p n h.0 b free (StepsTo-alone p a h.0 free one h.1).one h.2
 
-pub WalksTo-alone : (p : Program) (n : ℕ) (s : State) → HasNoCalls p → WalksTo p n s → depth s ≡ 1
+pub WalksTo-alone : (p : Program) (n : ℕ) (s : State) → HasNoCalls p → WalksTo Coarse p n s
+    → depth s ≡ 1
 WalksTo-alone p n s free walk =
     HasSteps-alone p n walk.first s free
     (Forgets-depth p start walk.first walk.starts ∙ one_frame-start) walk.leads
@@ -326,7 +328,7 @@ StartTakes-few p free forward (first, begins, takes) =
 -- ---- no path comes back
 
 pub HasSteps-up : (p : Program) (n : ℕ) (a b : State) → HasNoCalls p → IsForward p → depth a ≡ 1
-    → HasSteps p n a b → a.slot + n ≤ b.slot
+    → HasSteps Coarse p n a b → a.slot + n ≤ b.slot
 unfolding HasSteps
 HasSteps-up p zero a b free forward one h =
     let same = ap (λ (x : State). x.slot) h in omega (arith, same)
@@ -335,7 +337,8 @@ HasSteps-up p (suc n) a b free forward one h =
     let rest = HasSteps-up p n h.0 b free forward step.one h.2 in
     omega (arith, step.up, rest)
 
-pub ComesBack-forward : (p : Program) (slot : ℕ) → HasNoCalls p → IsForward p → ComesBack p slot → ⊥
+pub ComesBack-forward : (p : Program) (slot : ℕ) → HasNoCalls p → IsForward p
+    → ComesBack Coarse p slot → ⊥
 ComesBack-forward p slot free forward h =
     let one = WalksTo-alone p h.before h.first free h.walk in
     let up = HasSteps-up p (suc h.between) h.first h.again free forward one h.leads_back in

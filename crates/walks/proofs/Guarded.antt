@@ -35,6 +35,7 @@ use Rattle.walks.proofs.OnPackets.{packet_from, field_goes, copy_goes, ahead_goe
 use Rattle.walks.proofs.GuardedParts.{AtPacket, AtEnd, AtCopy, AtAhead, AtTest, InBody, AtAnswer, AtExit, GuardedPart, part_at, one_insn, IsGuarded-no_calls}
 use Rattle.walks.proofs.Guards.{Guards, free_own}
 use Rattle.walks.proofs.GuardedBody.{numbers_needed, body_needs}
+use Rattle.walks.specs.Forgetting.{Coarse}
 use Rattle.walks.proofs.GuardedWalks.{plain_form, load_parts, WalksTo-guards}
 
 -- ---- what is not refused
@@ -164,7 +165,7 @@ guards_accepted p len g s i here h = of (part_at p len s.slot i g here) where
       (on_numbers Exit (here ∙ ap Some (sym one)) tt (tt, tt) (λ e. absurd (cc e)))
 
 stuck_unshown : (p : Program) (len : ℕ) (g : IsGuarded p len) (e : StepRefusal) (slot : ℕ)
-    → IsStuck p e slot → ShowsNoAction p.version e
+    → IsStuck Coarse p e slot → ShowsNoAction p.version e
 stuck_unshown p len g e slot h =
     let passes =
     guards_accepted p len g h.state h.insn h.here

@@ -33,6 +33,7 @@ use Rattle.walks.proofs.OnPackets.{packet_from, GivesKind, packet_gives, packet_
 use Rattle.walks.proofs.Plain.{PathTo-more}
 use Rattle.walks.proofs.GuardedParts.{AtPacket, AtEnd, AtCopy, AtAhead, AtTest, InBody, AtAnswer, AtExit, GuardedPart, part_at, one_insn, IsGuarded-no_calls}
 use Rattle.walks.proofs.Guards.{put_of, known_aside, Guards, start_guards, none_known, prologue, Guards-forgets}
+use Rattle.walks.specs.Forgetting.{Coarse}
 use Rattle.walks.proofs.GuardedBody.{numbers_needed, body_needs, body_free, plain_step, load_step, body_keeps}
 
 -- ---- steps
@@ -303,14 +304,15 @@ makes_guards p len g s t insn taken first other there makes among h =
           let here : fetch p s.slot ≡ Some Exit = there ∙ ap Some (sym one) in
           last_step Exit (omega (arith, at)) here tt (tt, tt) made
 
-step_guards : (p : Program) (len : ℕ) (g : IsGuarded p len) (s t : State) → StepsTo p s t
+step_guards : (p : Program) (len : ℕ) (g : IsGuarded p len) (s t : State) → StepsTo Coarse p s t
     → Guards p len g s → Guards p len g t
 step_guards p len g s t step h =
     Guards-forgets p len g step.next t step.forgets
     (makes_guards p len g s step.next step.insn step.taken step.first step.other step.here
     step.makes step.among h)
 
-walk_guards : (p : Program) (len : ℕ) (g : IsGuarded p len) (n : ℕ) (a b : State) → HasSteps p n a b
+walk_guards : (p : Program) (len : ℕ) (g : IsGuarded p len) (n : ℕ) (a b : State)
+    → HasSteps Coarse p n a b
     → Guards p len g a → Guards p len g b
 unfolding HasSteps
 walk_guards p len g zero a b h guards = subst (Guards p len g) (sym h) guards
@@ -319,7 +321,7 @@ walk_guards p len g (suc n) a b h guards =
 
 -- what is known at each state that a walk from the start reaches
 pub WalksTo-guards : (p : Program) (len : ℕ) (g : IsGuarded p len) (n : ℕ) (s : State)
-    → WalksTo p n s → Guards p len g s
+    → WalksTo Coarse p n s → Guards p len g s
 WalksTo-guards p len g n s walk =
     walk_guards p len g n walk.first s walk.leads
     (Guards-forgets p len g start walk.first walk.starts (start_guards p len g))

@@ -17,7 +17,7 @@ use Rattle.stack_state.specs.Starts.{start}
 use Rattle.branch_refine.specs.Refining.{IsNumberKind}
 use Rattle.transfer.specs.declared.Ways.{Ways}
 use Rattle.control_flow.specs.Liveness.{IsLive}
-use Rattle.walks.specs.Forgetting.{Forgets}
+use Rattle.walks.specs.Forgetting.{Coarse, Forgets}
 use Rattle.walks.specs.Walks.{IsAmong}
 use Rattle.walks.proofs.Forgotten.{Forgets-slot, Forgets-pointer, Forgets-alone}
 use Rattle.walks.proofs.Living.{live_before, KnowsNumbers-forgets}
@@ -163,7 +163,8 @@ prologue p len g s t d i h below here written falls slot not_free knows pointers
 
 -- in the first five slots nothing is forgotten, since they are no joins; after them numbers that
 -- are live stay numbers, and the pointer is known as before
-pub Guards-forgets : (p : Program) (len : ℕ) (g : IsGuarded p len) (a b : State) → Forgets p a b
+pub Guards-forgets : (p : Program) (len : ℕ) (g : IsGuarded p len) (a b : State)
+    → Forgets Coarse p a b
     → Guards p len g a → Guards p len g b
 Guards-forgets p len g a b f h =
     let slot : b.slot ≡ a.slot = Forgets-slot p a b f in

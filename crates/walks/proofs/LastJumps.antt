@@ -8,13 +8,14 @@ use Rattle.stack_state.specs.declared.states.State.{State}
 use Rattle.stack_state.specs.Starts.{start}
 use Rattle.walks.specs.declared.explained.Jump.{Jump}
 use Rattle.walks.specs.declared.explained.TheConstants.{MOST_JUMPS}
-use Rattle.walks.specs.Forgetting.{Forgets}
+use Rattle.walks.specs.Forgetting.{Precision, Forgets}
 use Rattle.walks.specs.Walks.{StepsTo}
 use Rattle.walks.specs.Explained.{jump_of, IsStart, OneMore, last, IsLed}
 
 -- no jump leads to a state with which a walk begins
-pub led_start : (p : Program) (s : State) (way : List Jump) → Forgets p start s → way ≡ []
-    → IsLed p s way
+pub led_start : {how : Precision} (p : Program) (s : State) (way : List Jump)
+    → Forgets how p start s → way ≡ []
+    → IsLed how p s way
 unfolding last
 led_start p s way at none = record { jumps = []; comes = IsStart s [] at refl; last_are = none }
 
@@ -70,11 +71,12 @@ noted jumps way new j is room full =
 
 -- ---- one more step
 
-by_jump : (p : Program) (a s : State) (i : Insn) (way new : List Jump) → fetch p a.slot ≡ Some i
-    → StepsTo p a s → s.slot ≢ a.slot + slots_filled i
+by_jump : {how : Precision} (p : Program) (a s : State) (i : Insn) (way new : List Jump)
+    → fetch p a.slot ≡ Some i
+    → StepsTo how p a s → s.slot ≢ a.slot + slots_filled i
     → (length way < MOST_JUMPS → new ≡ way ++ record { from = a.slot; to = s.slot } ∷ [])
     → (length way ≡ MOST_JUMPS → new ≡ drop 1 way ++ record { from = a.slot; to = s.slot } ∷ [])
-    → IsLed p a way → IsLed p s new
+    → IsLed how p a way → IsLed how p s new
 by_jump p a s i way new here step away room full h =
     let j : Jump = record { from = a.slot; to = s.slot } in
     let is : j ∷ [] ≡ jump_of a i s =
@@ -88,8 +90,9 @@ by_jump p a s i way new here step away room full h =
       last_are = noted h.jumps way new j h.last_are room full;
     }
 
-by_next : (p : Program) (a s : State) (i : Insn) (way : List Jump) → fetch p a.slot ≡ Some i
-    → StepsTo p a s → s.slot ≡ a.slot + slots_filled i → IsLed p a way → IsLed p s way
+by_next : {how : Precision} (p : Program) (a s : State) (i : Insn) (way : List Jump)
+    → fetch p a.slot ≡ Some i
+    → StepsTo how p a s → s.slot ≡ a.slot + slots_filled i → IsLed how p a way → IsLed how p s way
 by_next p a s i way here step next h =
     let j : Jump = record { from = a.slot; to = s.slot } in
     let none : h.jumps ++ jump_of a i s ≡ h.jumps =
@@ -103,11 +106,12 @@ by_next p a s i way here step next h =
 
 -- the same, where the slots are `from` and `to`
 
-pub led_by_jump : (p : Program) (a s : State) (i : Insn) (from to : ℕ) (way new : List Jump)
+pub led_by_jump : {how : Precision} (p : Program) (a s : State) (i : Insn) (from to : ℕ)
+    (way new : List Jump)
     → fetch p from ≡ Some i → to ≢ from + slots_filled i
     → (length way < MOST_JUMPS → new ≡ way ++ record { from = from; to = to } ∷ [])
     → (length way ≡ MOST_JUMPS → new ≡ drop 1 way ++ record { from = from; to = to } ∷ [])
-    → a.slot ≡ from → s.slot ≡ to → StepsTo p a s → IsLed p a way → IsLed p s new
+    → a.slot ≡ from → s.slot ≡ to → StepsTo how p a s → IsLed how p a way → IsLed how p s new
 led_by_jump p a s i from to way new here away room full at_from at_to step h =
     let j : Jump = record { from = from; to = to } in
     let k : Jump = record { from = a.slot; to = s.slot } in
@@ -119,9 +123,10 @@ led_by_jump p a s i from to way new here away room full at_from at_to step h =
     (λ few. room few ∙ ap (λ (x : Jump). way ++ x ∷ []) same)
     (λ many. full many ∙ ap (λ (x : Jump). drop 1 way ++ x ∷ []) same) h
 
-pub led_by_next : (p : Program) (a s : State) (i : Insn) (from to : ℕ) (way : List Jump)
+pub led_by_next : {how : Precision} (p : Program) (a s : State) (i : Insn) (from to : ℕ)
+    (way : List Jump)
     → fetch p from ≡ Some i → to ≡ from + slots_filled i
-    → a.slot ≡ from → s.slot ≡ to → StepsTo p a s → IsLed p a way → IsLed p s way
+    → a.slot ≡ from → s.slot ≡ to → StepsTo how p a s → IsLed how p a way → IsLed how p s way
 led_by_next p a s i from to way here next at_from at_to step h =
     by_next p a s i way (subst (λ x. fetch p x ≡ Some i) (sym at_from) here) step
     (at_to ∙ (next ∙ ap (λ x. x + slots_filled i) (sym at_from))) h

@@ -1,9 +1,11 @@
+pub mod PrecisionLaws
 pub mod Accepted
 pub mod DeadForgottenLaws
 pub mod NumbersForgottenLaws
 pub mod Forgotten
 pub mod ForgettingLoops
 pub mod NumberLoops
+pub mod KeptNumbersLaws
 pub mod Living
 pub mod Exits
 pub mod OnNumbers

@@ -14,7 +14,7 @@ use Rattle.control_flow.specs.Graph.{call_distance}
 use Rattle.control_flow.specs.Accesses.{read_registers, written_registers}
 use Rattle.control_flow.specs.Liveness.{IsLive}
 use Rattle.control_flow.proofs.LivenessLaws.{IsLive-read, IsLive-back}
-use Rattle.walks.specs.Forgetting.{Forgets}
+use Rattle.walks.specs.Forgetting.{Coarse, Forgets}
 use Rattle.walks.proofs.Forgotten.{Forgets-depth, Forgets-number}
 use Rattle.walks.proofs.OnNumbers.{NumbersIn}
 use Rattle.walks.proofs.KnowsNumbers.{KnowsNumbers}
@@ -120,7 +120,7 @@ one_kept p a b q known number rest = record {
   none = λ e. absurd (cc e);
 }
 
-remaining : (p : Program) (a b : State) (known : List Reg) → Forgets p a b
+remaining : (p : Program) (a b : State) (known : List Reg) → Forgets Coarse p a b
     → ((r : Reg) → IsOneOf known r → NumbersIn a r) → Remaining p a b known
 remaining p a b [] f numbers =
     record {
@@ -147,7 +147,7 @@ pub record KnowsLeft (p : Program) (a b : State) (known : List Reg) : Type 0 whe
   pub live : (r : Reg) → IsLive p r a.slot → IsOneOf known r → IsOneOf left r
   pub none : known ≡ [] → left ≡ []
 
-pub KnowsNumbers-forgets : (p : Program) (a b : State) (known : List Reg) → Forgets p a b
+pub KnowsNumbers-forgets : (p : Program) (a b : State) (known : List Reg) → Forgets Coarse p a b
     → KnowsNumbers a known → KnowsLeft p a b known
 KnowsNumbers-forgets p a b known f h =
     let rest = remaining p a b known f h.numbers in record {

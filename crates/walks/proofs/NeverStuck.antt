@@ -38,7 +38,7 @@ use Rattle.transfer.specs.Exact.{ResultKind, StepsForm, StepsToWays, StoresAt}
 use Rattle.transfer.proofs.ExactLaws.{Steps-leads}
 use Rattle.control_flow.specs.Liveness.{IsLive, IsHomeLive}
 use Rattle.control_flow.proofs.LivenessLaws.{IsSlotLive-read}
-use Rattle.walks.specs.Forgetting.{Forgets}
+use Rattle.walks.specs.Forgetting.{Coarse, Forgets}
 use Rattle.walks.specs.Walks.{WalksTo, IsStuck}
 use Rattle.walks.specs.Counts.{Takes, Nothing, ItsOwn, OneMore, BothMore}
 use Rattle.walks.proofs.Accepted.{Each-more, sets_pass, number_set}
@@ -52,7 +52,7 @@ use Rattle.walks.proofs.AlongWalks.{Along-forgets, into_along, walk_along, start
 
 -- the state in which paths begin
 pub first_along : (p : Program) (steps : ℕ) (d : IsDetermined p steps) (s : State)
-    → Forgets p start s → Along p steps d 0 s (first p steps d)
+    → Forgets Coarse p start s → Along p steps d 0 s (first p steps d)
 first_along p steps d s begins =
     Along-forgets p steps d 0 start s (first p steps d) begins (start_along p steps d)
 
@@ -223,13 +223,13 @@ goes_along_run p steps d k s t i e b c along here form set h = absurd form
 
 -- a walk from the start stays beside the run
 pub walks_along : (p : Program) (steps : ℕ) (d : IsDetermined p steps) (n : ℕ) (s : State)
-    → WalksTo p n s → (u : Machine.State) × Along p steps d (0 + n) s u
+    → WalksTo Coarse p n s → (u : Machine.State) × Along p steps d (0 + n) s u
 walks_along p steps d n s walk =
     walk_along p steps d n 0 walk.first s (first p steps d)
     (first_along p steps d walk.first walk.starts) walk.leads
 
 pub never_stuck : (p : Program) (steps : ℕ) (d : IsDetermined p steps) (e : StepRefusal) (slot : ℕ)
-    → IsStuck p e slot → ⊥
+    → IsStuck Coarse p e slot → ⊥
 never_stuck p steps d e slot h =
     let (t, along) = walks_along p steps d h.steps h.state h.walk in
     let form = d.forms h.state.slot h.insn h.here in

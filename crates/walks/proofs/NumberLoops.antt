@@ -24,7 +24,7 @@ use Rattle.control_flow.specs.Masks.{HasRegister, HasSlot, no_registers}
 use Rattle.control_flow.specs.Flows.{IsJoin}
 use Rattle.control_flow.specs.Liveness.{InRegister, InSlot, IsSlotLive}
 use Rattle.control_flow.specs.TestedNumbers.{MayForgetNumbers, IsNumberTested}
-use Rattle.walks.specs.Forgetting.{slots_in, IsSlotDeadAt, MayForgetAll, MayForgetNumber, AreNumbersKept, AreSpilledNumbersKept, DeadForgotten, NumbersForgotten, Forgets, KnowsTestedNumbers, KnowsNoNumber, ForgetsNumber, ForgetsSpilled, ForgetsUnless, ForgetsIf, ForgetsNumbersBeside, ForgetsNumbersIn}
+use Rattle.walks.specs.Forgetting.{slots_in, IsSlotDeadAt, MayForgetAll, Precision, Exact, MayForgetNumber, AreNumbersKept, AreSpilledNumbersKept, DeadForgotten, NumbersForgotten, Forgets, KnowsTestedNumbers, KnowsNoNumber, ForgetsNumber, ForgetsSpilled, ForgetsUnless, ForgetsIf, ForgetsNumbersBeside, ForgetsNumbersIn}
 use Rattle.walks.proofs.DeadForgottenLaws.{DeadForgotten-forgotten}
 use Rattle.walks.proofs.NumbersForgottenLaws.{numbers_stay}
 
@@ -220,9 +220,10 @@ chosen_of_tested p slot live tested chosen lives tests those j = (
 -- ---- what is left
 
 -- what is not kept may be forgotten
-pub AreNumbersKept-beside : (p : Program) (s : State) (Kept : Reg → Type 0) (new : List Kind)
-    → ((r : Reg) → (Kept r → ⊥) → MayForgetNumber p s (InRegister r))
-    → ForgetsNumbersBeside Kept (registers_of s) new → AreNumbersKept p s new
+pub AreNumbersKept-beside : {how : Precision} (p : Program) (s : State) (Kept : Reg → Type 0)
+    (new : List Kind)
+    → ((r : Reg) → (Kept r → ⊥) → MayForgetNumber how p s (InRegister r))
+    → ForgetsNumbersBeside Kept (registers_of s) new → AreNumbersKept how p s new
 AreNumbersKept-beside p s Kept new may h = record {
   ten = h.ten;
   each = λ r own. elim (h.each r own) [
@@ -234,10 +235,10 @@ AreNumbersKept-beside p s Kept new may h = record {
   ];
 }
 
-pub AreSpilledNumbersKept-in : (p : Program) (s : State) (Chosen : ℕ → Type 0)
+pub AreSpilledNumbersKept-in : {how : Precision} (p : Program) (s : State) (Chosen : ℕ → Type 0)
     (new : List StackSlot)
-    → ((j : ℕ) → Chosen j → MayForgetNumber p s (InSlot j))
-    → ForgetsNumbersIn Chosen (slots_in s) new → AreSpilledNumbersKept p s new
+    → ((j : ℕ) → Chosen j → MayForgetNumber how p s (InSlot j))
+    → ForgetsNumbersIn Chosen (slots_in s) new → AreSpilledNumbersKept how p s new
 AreSpilledNumbersKept-in p s Chosen new may h = record {
   all = h.all;
   each = λ j below. elim (h.each j below) [
@@ -294,7 +295,7 @@ untested_left p slot old new join dead h j below free number = elim (h.each j be
 
 -- ---- states
 
-abbrev with_frame : State → List Kind → List StackSlot → State
+abbrev pub with_frame : State → List Kind → List StackSlot → State
 with_frame m ks slots = record m {
   innermost = record m.innermost { registers = ks; stack = record { slots = slots } };
 }
@@ -305,7 +306,7 @@ pub forgets_both : (p : Program) (a m : State) (ks : List Kind) (slots : List St
     → ForgetsNumbersBeside (λ r. IsNumberTested p (InRegister r) m.slot) (registers_of m) ks
     → ForgetsNumbersIn (λ j. IsSlotLive p j m.slot × (IsNumberTested p (InSlot j) m.slot → ⊥))
     (slots_in m) slots
-    → Forgets p a (with_frame m ks slots)
+    → Forgets Exact p a (with_frame m ks slots)
 forgets_both p a m ks slots may join dead registers own = record {
   middle = m;
   dead = dead;
@@ -333,7 +334,8 @@ knows_tested p a m ks slots dead registers own = λ may join. (
 )
 
 -- only what is dead is forgotten
-pub forgets_dead : (p : Program) (a b : State) → DeadForgotten p a b → Forgets p a b
+pub forgets_dead : {how : Precision} (p : Program) (a b : State) → DeadForgotten p a b
+    → Forgets how p a b
 forgets_dead p a b dead = record {
   middle = b;
   dead = dead;
@@ -345,7 +347,7 @@ pub all_forgotten : (p : Program) (m : State) (kept : RegisterMask) (ks : List K
     (slots : List StackSlot) (Chosen : ℕ → Type 0) → MayForgetAll p m
     → ForgetsNumbersBeside (HasRegister kept) (registers_of m) ks
     → ForgetsNumbersIn Chosen (slots_in m) slots
-    → NumbersForgotten p m (with_frame m ks slots)
+    → NumbersForgotten Exact p m (with_frame m ks slots)
 all_forgotten p m kept ks slots Chosen all registers own = record {
   rest = refl;
   registers =

@@ -28,31 +28,36 @@ use Rattle.control_flow.specs.Endings.{EndsPlainly}
 use Rattle.control_flow.specs.Liveness.{Home, InRegister, InSlot, IsLive}
 use Rattle.control_flow.specs.TestedNumbers.{MayForgetNumbers, IsNumberTested}
 use Rattle.transfer.specs.Following.{returns_of}
-use Rattle.walks.specs.Forgetting.{IsNumberKept, IsSpilledNumberKept, slots_in, MayForgetAll, MayForgetNumber, NumbersForgotten}
+use Rattle.walks.specs.Forgetting.{IsNumberKept, IsSpilledNumberKept, slots_in, MayForgetAll, Precision, Exact, Coarse, MayBeLost, MayForgetNumber, NumbersForgotten}
 use Rattle.walks.proofs.DeadForgottenLaws.{frame_keeps, frames_keep}
 
 -- ---- what stays
 
-pub NumbersForgotten-slot : (p : Program) (a b : State) → NumbersForgotten p a b → b.slot ≡ a.slot
+pub NumbersForgotten-slot : {how : Precision} (p : Program) (a b : State)
+    → NumbersForgotten how p a b → b.slot ≡ a.slot
 NumbersForgotten-slot p a b f = ap (λ (x : State). x.slot) f.rest
 
-pub NumbersForgotten-callers : (p : Program) (a b : State) → NumbersForgotten p a b
+pub NumbersForgotten-callers : {how : Precision} (p : Program) (a b : State)
+    → NumbersForgotten how p a b
     → b.callers ≡ a.callers
 NumbersForgotten-callers p a b f = ap (λ (x : State). x.callers) f.rest
 
-pub NumbersForgotten-depth : (p : Program) (a b : State) → NumbersForgotten p a b
+pub NumbersForgotten-depth : {how : Precision} (p : Program) (a b : State)
+    → NumbersForgotten how p a b
     → depth b ≡ depth a
 NumbersForgotten-depth p a b f = ap depth f.rest
 
 -- each caller stays as it is
-pub NumbersForgotten-caller : (p : Program) (a b : State) (k : ℕ) → NumbersForgotten p a b
+pub NumbersForgotten-caller : {how : Precision} (p : Program) (a b : State) (k : ℕ)
+    → NumbersForgotten how p a b
     → k < length a.callers.items → abstract_frame_at b k ≡ abstract_frame_at a k
 NumbersForgotten-caller p a b k f below =
     abstract_frame_at-caller b k (omega (arith, below, NumbersForgotten-depth p a b f))
     ∙ ap (λ (x : State). get_or x.callers.items k no_frame) f.rest
     ∙ sym (abstract_frame_at-caller a k (omega (arith, below)))
 
-pub NumbersForgotten-returns : (p : Program) (a b : State) → NumbersForgotten p a b
+pub NumbersForgotten-returns : {how : Precision} (p : Program) (a b : State)
+    → NumbersForgotten how p a b
     → returns_of b ≡ returns_of a
 NumbersForgotten-returns p a b f =
     let slot : AbstractFrame → ℕ = λ x. x.return_slot in
@@ -61,11 +66,12 @@ NumbersForgotten-returns p a b f =
 
 -- ---- what is known of registers
 
-pub NumbersForgotten-each : (p : Program) (a b : State) (r : Reg) → NumbersForgotten p a b
-    → r ≢ R10 → IsNumberKept p a r (kind_of a r) (kind_of b r)
-NumbersForgotten-each p a b r f own =
-    subst (λ k. IsNumberKept p a r k (kind_of b r)) (sym (kind_of-registers a r own))
-    (subst (λ k. IsNumberKept p a r (kind_at (registers_of a) (reg_number r)) k)
+pub NumbersForgotten-each : {how : Precision} (p : Program) (a b : State) (r : Reg)
+    → NumbersForgotten how p a b
+    → r ≢ R10 → IsNumberKept how p a r (kind_of a r) (kind_of b r)
+NumbersForgotten-each {how = how} p a b r f own =
+    subst (λ k. IsNumberKept how p a r k (kind_of b r)) (sym (kind_of-registers a r own))
+    (subst (λ k. IsNumberKept how p a r (kind_at (registers_of a) (reg_number r)) k)
     (sym (kind_of-registers b r own)) (f.registers.each r own))
 
 any_number : (k : Kind) → IsAnyNumber k → IsNumberKind k
@@ -73,7 +79,8 @@ any_number (Number numbers) any = tt
 any_number k any = absurd any
 
 -- a number stays a number
-pub NumbersForgotten-number : (p : Program) (a b : State) (r : Reg) → NumbersForgotten p a b
+pub NumbersForgotten-number : {how : Precision} (p : Program) (a b : State) (r : Reg)
+    → NumbersForgotten how p a b
     → r ≢ R10 → IsNumberKind (kind_of a r) → IsNumberKind (kind_of b r)
 NumbersForgotten-number p a b r f own number = elim (NumbersForgotten-each p a b r f own) [
   | inl same ↦ subst IsNumberKind (sym same) number
@@ -81,7 +88,8 @@ NumbersForgotten-number p a b r f own number = elim (NumbersForgotten-each p a b
 ]
 
 -- and all else is known as before
-pub NumbersForgotten-other : (p : Program) (a b : State) (r : Reg) → NumbersForgotten p a b
+pub NumbersForgotten-other : {how : Precision} (p : Program) (a b : State) (r : Reg)
+    → NumbersForgotten how p a b
     → r ≢ R10 → (IsNumberKind (kind_of a r) → ⊥) → kind_of b r ≡ kind_of a r
 NumbersForgotten-other p a b r f own other = elim (NumbersForgotten-each p a b r f own) [
   | inl same ↦ same
@@ -89,7 +97,8 @@ NumbersForgotten-other p a b r f own other = elim (NumbersForgotten-each p a b r
 ]
 
 -- where no paths meet, every register is known as before
-pub NumbersForgotten-alone : (p : Program) (a b : State) (r : Reg) → NumbersForgotten p a b
+pub NumbersForgotten-alone : {how : Precision} (p : Program) (a b : State) (r : Reg)
+    → NumbersForgotten how p a b
     → r ≢ R10 → (IsJoin p a.slot → ⊥) → kind_of b r ≡ kind_of a r
 NumbersForgotten-alone p a b r f own alone = elim (NumbersForgotten-each p a b r f own) [
   | inl same ↦ same
@@ -97,7 +106,8 @@ NumbersForgotten-alone p a b r f own alone = elim (NumbersForgotten-each p a b r
 ]
 
 -- and so it is in a program whose numbers may not be forgotten
-pub AreNumbersKept-none : (p : Program) (a b : State) (r : Reg) → NumbersForgotten p a b
+pub AreNumbersKept-none : {how : Precision} (p : Program) (a b : State) (r : Reg)
+    → NumbersForgotten how p a b
     → (MayForgetNumbers p → ⊥) → r ≢ R10
     → kind_at (registers_of b) (reg_number r) ≡ kind_at (registers_of a) (reg_number r)
 AreNumbersKept-none p a b r f none own = elim (f.registers.each r own) [
@@ -107,7 +117,8 @@ AreNumbersKept-none p a b r f none own = elim (f.registers.each r own) [
 
 -- ---- what is known of stack slots
 
-pub AreSpilledNumbersKept-none : (p : Program) (a b : State) (j : ℕ) → NumbersForgotten p a b
+pub AreSpilledNumbersKept-none : {how : Precision} (p : Program) (a b : State) (j : ℕ)
+    → NumbersForgotten how p a b
     → (MayForgetNumbers p → ⊥) → j < 64 → slot_at (slots_in b) j ≡ slot_at (slots_in a) j
 AreSpilledNumbersKept-none p a b j f none below = elim (f.slots.each j below) [
   | inl same ↦ same
@@ -115,7 +126,8 @@ AreSpilledNumbersKept-none p a b j f none below = elim (f.slots.each j below) [
 ]
 
 -- where no value was spilled, the stack slot stays as it is
-pub NumbersForgotten-written : (p : Program) (a b : State) (j marks : ℕ) → NumbersForgotten p a b
+pub NumbersForgotten-written : {how : Precision} (p : Program) (a b : State) (j marks : ℕ)
+    → NumbersForgotten how p a b
     → j < 64 → slot_at (slots_in a) j ≡ Written marks → slot_at (slots_in b) j ≡ Written marks
 NumbersForgotten-written p a b j marks f below written = elim (f.slots.each j below) [
   | inl same ↦ same ∙ written
@@ -133,10 +145,11 @@ number_allows e (Number old) (Number new) v number any h = (h.0, h.1, any h.0 h.
 number_allows e (Number old) after v number any h = absurd any
 number_allows e before after v number any h = absurd number
 
-kept_allows : (p : Program) (s : State) (r : Reg) (e : Assigned) (before after : Kind) (v : Value)
-    → IsNumberKept p s r before after → Allows e before v → Allows e after v
-kept_allows p s r e before after v (inl same) h = subst (λ k. Allows e k v) (sym same) h
-kept_allows p s r e before after v (inr gone) h =
+kept_allows : (how : Precision) (p : Program) (s : State) (r : Reg) (e : Assigned)
+    (before after : Kind) (v : Value)
+    → IsNumberKept how p s r before after → Allows e before v → Allows e after v
+kept_allows how p s r e before after v (inl same) h = subst (λ k. Allows e k v) (sym same) h
+kept_allows how p s r e before after v (inr gone) h =
     number_allows e before after v gone.1 gone.2 h
 
 -- the cells of a spilled number are number bytes
@@ -147,24 +160,27 @@ spilled_means e (Spilled (Number numbers)) cs number h =
 spilled_means e (Spilled k) cs number h = absurd number
 spilled_means e (Written marks) cs number h = absurd number
 
-stack_slot_kept_means : (p : Program) (s : State) (j : ℕ) (e : Assigned) (before after : StackSlot)
+stack_slot_kept_means : (how : Precision) (p : Program) (s : State) (j : ℕ) (e : Assigned)
+    (before after : StackSlot)
     (cs : List Cell)
-    → IsSpilledNumberKept p s j before after → SlotMeans e before cs → SlotMeans e after cs
-stack_slot_kept_means p s j e before after cs (inl same) h =
+    → IsSpilledNumberKept how p s j before after → SlotMeans e before cs → SlotMeans e after cs
+stack_slot_kept_means how p s j e before after cs (inl same) h =
     subst (λ x. SlotMeans e x cs) (sym same) h
-stack_slot_kept_means p s j e before after cs (inr gone) h =
+stack_slot_kept_means how p s j e before after cs (inr gone) h =
     subst (λ x. SlotMeans e x cs) (sym gone.2) (spilled_means e before cs gone.1 h)
 
-innermost_keeps : (p : Program) (a b : State) (e : Assigned) → NumbersForgotten p a b
+innermost_keeps : {how : Precision} (p : Program) (a b : State) (e : Assigned)
+    → NumbersForgotten how p a b
     → FrameKeeps e e a.innermost b.innermost
-innermost_keeps p a b e f =
+innermost_keeps {how = how} p a b e f =
     frame_keeps a.innermost b.innermost e f.registers.ten
-    (λ r v own. kept_allows p a r e (kind_at (registers_of a) (reg_number r))
+    (λ r v own. kept_allows how p a r e (kind_at (registers_of a) (reg_number r))
     (kind_at (registers_of b) (reg_number r)) v (f.registers.each r own))
-    (λ k cs within. stack_slot_kept_means p a k e (slot_at (slots_in a) k)
+    (λ k cs within. stack_slot_kept_means how p a k e (slot_at (slots_in a) k)
     (slot_at (slots_in b) k) cs (f.slots.each k within))
 
-caller_keeps : (p : Program) (a b : State) (e : Assigned) → NumbersForgotten p a b
+caller_keeps : {how : Precision} (p : Program) (a b : State) (e : Assigned)
+    → NumbersForgotten how p a b
     → (j : ℕ) → j < length a.callers.items
     → FrameKeeps e e (abstract_frame_at a j) (abstract_frame_at b j)
 caller_keeps p a b e f j below =
@@ -173,7 +189,8 @@ caller_keeps p a b e f j below =
     (record { registers = λ k v h. h; slots = λ k cs within h. h })
 
 -- whatever the state means, it means once numbers are forgotten
-pub Means-numbers : (p : Program) (a b : State) (w : Machine.State) → NumbersForgotten p a b
+pub Means-numbers : {how : Precision} (p : Program) (a b : State) (w : Machine.State)
+    → NumbersForgotten how p a b
     → Means p a w → Means p b w
 unfolding Means
 Means-numbers p a b w f (e, m) = (
@@ -185,8 +202,8 @@ Means-numbers p a b w f (e, m) = (
 )
 
 -- where nothing is forgotten
-pub numbers_stay : (p : Program) (a : State) → length (registers_of a) ≡ 10
-    → length (slots_in a) ≡ 64 → NumbersForgotten p a a
+pub numbers_stay : {how : Precision} (p : Program) (a : State) → length (registers_of a) ≡ 10
+    → length (slots_in a) ≡ 64 → NumbersForgotten how p a a
 numbers_stay p a ten all = record {
   rest = refl;
   registers = record { ten = ten; each = λ r own. inl refl };
@@ -196,7 +213,8 @@ numbers_stay p a ten all = record {
 -- ---- twice
 
 -- a live register that is a number once numbers are forgotten was one before
-MayForgetAll-before : (p : Program) (a b : State) → NumbersForgotten p a b → MayForgetAll p b
+MayForgetAll-before : {how : Precision} (p : Program) (a b : State) → NumbersForgotten how p a b
+    → MayForgetAll p b
     → MayForgetAll p a
 MayForgetAll-before p a b f all =
     let slot = NumbersForgotten-slot p a b f in record {
@@ -211,20 +229,26 @@ MayForgetAll-before p a b f all =
           ];
     }
 
-MayForgetNumber-before : (p : Program) (a b : State) (h : Home) → NumbersForgotten p a b
-    → MayForgetNumber p b h → MayForgetNumber p a h
-MayForgetNumber-before p a b h f (may, join, why) =
-    let slot = NumbersForgotten-slot p a b f in (
-      may,
-      subst (IsJoin p) slot join,
-      elim why [
-        | inl free ↦ inl (λ tested. free (subst (IsNumberTested p h) (sym slot) tested))
-        | inr all ↦ inr (MayForgetAll-before p a b f all)
-      ],
-    )
+MayBeLost-before : (how : Precision) (p : Program) (a b : State) (h : Home)
+    → NumbersForgotten how p a b → MayBeLost how p b h → MayBeLost how p a h
+MayBeLost-before Exact p a b h f (inl free) =
+    let slot = NumbersForgotten-slot p a b f in
+    inl (λ tested. free (subst (IsNumberTested p h) (sym slot) tested))
+MayBeLost-before Exact p a b h f (inr all) = inr (MayForgetAll-before p a b f all)
+MayBeLost-before Coarse p a b h f why = tt
 
-number_kept_twice : (p : Program) (s t : State) (r : Reg) (a b c : Kind) → NumbersForgotten p s t
-    → IsNumberKept p s r a b → IsNumberKept p t r b c → IsNumberKept p s r a c
+MayForgetNumber-before : {how : Precision} (p : Program) (a b : State) (h : Home)
+    → NumbersForgotten how p a b
+    → MayForgetNumber how p b h → MayForgetNumber how p a h
+MayForgetNumber-before {how = how} p a b h f (may, join, why) = (
+  may,
+  subst (IsJoin p) (NumbersForgotten-slot p a b f) join,
+  MayBeLost-before how p a b h f why,
+)
+
+number_kept_twice : {how : Precision} (p : Program) (s t : State) (r : Reg) (a b c : Kind)
+    → NumbersForgotten how p s t
+    → IsNumberKept how p s r a b → IsNumberKept how p t r b c → IsNumberKept how p s r a c
 number_kept_twice p s t r a b c f (inl same) (inl again) = inl (again ∙ same)
 number_kept_twice p s t r a b c f (inl same) (inr gone) =
     inr (
@@ -236,9 +260,10 @@ number_kept_twice p s t r a b c f (inr gone) (inl again) =
     inr (gone.0, gone.1, subst IsAnyNumber (sym again) gone.2)
 number_kept_twice p s t r a b c f (inr gone) (inr more) = inr (gone.0, gone.1, more.2)
 
-spilled_kept_twice : (p : Program) (s t : State) (j : ℕ) (a b c : StackSlot)
-    → NumbersForgotten p s t → IsSpilledNumberKept p s j a b → IsSpilledNumberKept p t j b c
-    → IsSpilledNumberKept p s j a c
+spilled_kept_twice : {how : Precision} (p : Program) (s t : State) (j : ℕ) (a b c : StackSlot)
+    → NumbersForgotten how p s t → IsSpilledNumberKept how p s j a b
+    → IsSpilledNumberKept how p t j b c
+    → IsSpilledNumberKept how p s j a c
 spilled_kept_twice p s t j a b c f (inl same) (inl again) = inl (again ∙ same)
 spilled_kept_twice p s t j a b c f (inl same) (inr gone) =
     inr (
@@ -250,8 +275,9 @@ spilled_kept_twice p s t j a b c f (inr gone) (inl again) = inr (gone.0, gone.1,
 spilled_kept_twice p s t j a b c f (inr gone) (inr more) = inr (gone.0, gone.1, more.2)
 
 -- what is forgotten in two steps
-pub NumbersForgotten-twice : (p : Program) (a b c : State) → NumbersForgotten p a b
-    → NumbersForgotten p b c → NumbersForgotten p a c
+pub NumbersForgotten-twice : {how : Precision} (p : Program) (a b c : State)
+    → NumbersForgotten how p a b
+    → NumbersForgotten how p b c → NumbersForgotten how p a c
 NumbersForgotten-twice p a b c f g = record {
   rest =
       g.rest ∙ ap (λ (x : State). record x {

@@ -16,7 +16,7 @@ use Rattle.walks.specs.Counts.{HasNumber}
 use Rattle.walks.specs.Refused.{IsRefused}
 use Rattle.walks.specs.Accepting.{IsOutOfMemory, IsUnanswered}
 use Rattle.control_flow.specs.Liveness.{IsLive}
-use Rattle.walks.specs.Forgetting.{Forgets}
+use Rattle.walks.specs.Forgetting.{Coarse, Forgets}
 use Rattle.walks.proofs.Forgotten.{Forgets-slot}
 use Rattle.walks.proofs.Living.{plain_calls, needs_live, live_before, KnowsNumbers-forgets, known_further}
 use Rattle.walks.proofs.Forward.{StepsToWays-follows, one_frame-start, HasNumber-forward, StartTakes-few, ComesBack-forward}
@@ -62,7 +62,8 @@ unfolding PathTo
 PathTo-more p n from slot written i path here on = (from, written, i, path, here, on, refl)
 
 -- also once dead registers and some numbers are forgotten
-known_forgets : (p : Program) (a b : State) → Forgets p a b → KnowsWritten p a → KnowsWritten p b
+known_forgets : (p : Program) (a b : State) → Forgets Coarse p a b → KnowsWritten p a
+    → KnowsWritten p b
 known_forgets p a b f h =
     let rest = KnowsNumbers-forgets p a b h.known f h.knows in
     let slot : a.slot ≡ b.slot = sym (Forgets-slot p a b f) in record {
@@ -76,7 +77,7 @@ known_forgets p a b f h =
           rest.live r before (h.live r before among);
     }
 
-step_known : (p : Program) (s t : State) → IsPlain p → StepsTo p s t → KnowsWritten p s
+step_known : (p : Program) (s t : State) → IsPlain p → StepsTo Coarse p s t → KnowsWritten p s
     → KnowsWritten p t
 step_known p s t plain step h =
     let i = step.insn in
@@ -101,7 +102,8 @@ step_known p s t plain step h =
           [ inl is ↦ inl is | inr was_live ↦ inr (h.live r was_live) ]) among;
     })
 
-walk_known : (p : Program) (n : ℕ) (a b : State) → IsPlain p → HasSteps p n a b → KnowsWritten p a
+walk_known : (p : Program) (n : ℕ) (a b : State) → IsPlain p → HasSteps Coarse p n a b
+    → KnowsWritten p a
     → KnowsWritten p b
 unfolding HasSteps
 walk_known p zero a b plain h there = subst (KnowsWritten p) (sym h) there
@@ -121,7 +123,7 @@ start_known p = record {
 
 -- ---- what is accepted
 
-stuck_unshown : (p : Program) (e : StepRefusal) (slot : ℕ) → IsPlain p → IsStuck p e slot
+stuck_unshown : (p : Program) (e : StepRefusal) (slot : ℕ) → IsPlain p → IsStuck Coarse p e slot
     → ShowsNoAction p.version e
 stuck_unshown p e slot plain h =
     let walk = h.walk in

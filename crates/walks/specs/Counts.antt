@@ -8,14 +8,14 @@ use Rattle.control_flow.specs.Graph.{BeginsInsn}
 use Rattle.transfer.specs.declared.Ways.{Ways}
 use Rattle.transfer.specs.declared.Ways.TheVariants as ways
 use Rattle.transfer.specs.Exact.{StepsToWays}
-use Rattle.walks.specs.Forgetting.{Forgets}
+use Rattle.walks.specs.Forgetting.{Coarse, Forgets}
 use Rattle.walks.specs.Walks.{WalksTo}
 
 -- the successors are these states, after what does not matter was forgotten
 abbrev pub AreForgotten : Program → Ways → State → State → State → State → Type 0
 AreForgotten p ways.None a b first other = Unit {0}
-AreForgotten p ways.One a b first other = Forgets p a first
-AreForgotten p ways.Two a b first other = Forgets p a first × Forgets p b other
+AreForgotten p ways.One a b first other = Forgets Coarse p a first
+AreForgotten p ways.Two a b first other = Forgets Coarse p a first × Forgets Coarse p b other
 
 -- the instruction at a state's slot has this number of successors, and they are these states after
 -- what does not matter was forgotten
@@ -35,7 +35,8 @@ pub data HasNumber (p : Program) : State → ℕ → Type 0 where
       → HasNumber p s n
   LeadsToTwo : (s a b : State) (j k n : ℕ) → StepsInto p s ways.Two a b → HasNumber p a j
       → HasNumber p b k → n ≡ max j k + 1 → HasNumber p s n
-  IsCoveredBy : (s e : State) (steps n : ℕ) → WalksTo p steps e → e.slot ≡ s.slot → Covers p e s
+  IsCoveredBy : (s e : State) (steps n : ℕ) → WalksTo Coarse p steps e → e.slot ≡ s.slot
+      → Covers p e s
       → HasNumber p e n → HasNumber p s n
 
 -- at least n instructions are explored from a state, if no state covers another

@@ -17,7 +17,8 @@ use Rattle.stack_state.specs.Slots.{slot_at, kind_in, IsAnyNumber}
 use Rattle.stack_state.specs.Meaning.{abstract_frame_at, registers_of, kind_at}
 use Rattle.branch_refine.specs.Refining.{IsNumberKind}
 use Rattle.control_flow.specs.declared.masks.RegisterMask.{RegisterMask}
-use Rattle.control_flow.specs.Masks.{HasRegister}
+use Rattle.control_flow.specs.declared.slot_masks.SlotMask.{SlotMask}
+use Rattle.control_flow.specs.Masks.{HasRegister, HasSlot}
 use Rattle.control_flow.specs.Flows.{IsJoin}
 use Rattle.control_flow.specs.Liveness.{Home, InRegister, InSlot, IsLive, IsSlotLive}
 use Rattle.control_flow.specs.TestedNumbers.{MayForgetNumbers, IsNumberTested}
@@ -111,51 +112,70 @@ pub record MayForgetAll (p : Program) (s : State) : Type 0 where
   pub numbers : (r : Reg) → IsLive p r s.slot
       → (r ≢ R10) × IsNumberKind (kind_at (registers_of s) (reg_number r))
 
--- the state is at a join, from which no path tests the number that is there, or all numbers of the
--- state may be forgotten
-abbrev pub MayForgetNumber : Program → State → Home → Type 0
-MayForgetNumber p s h =
-    MayForgetNumbers p × IsJoin p s.slot × ((¬ IsNumberTested p h s.slot) ⊎ MayForgetAll p s)
+-- how much is forgotten: exact walks keep each number that a path tests, and coarse ones may forget
+-- any number at a join
+pub data Precision : Type 0 where
+  Exact : Precision
+  Coarse : Precision
+
+-- no path from the state tests the number that is there, or all numbers of the state may be
+-- forgotten; in coarse walks any number may be
+abbrev pub MayBeLost : Precision → Program → State → Home → Type 0
+MayBeLost Exact p s h = (¬ IsNumberTested p h s.slot) ⊎ MayForgetAll p s
+MayBeLost Coarse p s h = Unit {0}
+
+-- the state is at a join, and the number that is there may be forgotten
+abbrev pub MayForgetNumber : Precision → Program → State → Home → Type 0
+MayForgetNumber how p s h = MayForgetNumbers p × IsJoin p s.slot × MayBeLost how p s h
+
+-- what walks of the second precision forget, those of the first may forget too
+abbrev pub IsNoFiner : Precision → Precision → Type 0
+IsNoFiner Coarse how = Unit {0}
+IsNoFiner Exact Exact = Unit {0}
+IsNoFiner Exact Coarse = ⊥
 
 -- what is known of a register of a state stays known; or it is a number, and may be any number
-abbrev pub IsNumberKept : Program → State → Reg → Kind → Kind → Type 0
-IsNumberKept p s r before after =
+abbrev pub IsNumberKept : Precision → Program → State → Reg → Kind → Kind → Type 0
+IsNumberKept how p s r before after =
     (after ≡ before)
-    ⊎ (MayForgetNumber p s (InRegister r) × IsNumberKind before × IsAnyNumber after)
+    ⊎ (MayForgetNumber how p s (InRegister r) × IsNumberKind before × IsAnyNumber after)
 
 -- what is known of a stack slot stays known; or a number was spilled there, and it is eight bytes
 -- of any number
-abbrev pub IsSpilledNumberKept : Program → State → ℕ → StackSlot → StackSlot → Type 0
-IsSpilledNumberKept p s j before after =
+abbrev pub IsSpilledNumberKept : Precision → Program → State → ℕ → StackSlot → StackSlot → Type 0
+IsSpilledNumberKept how p s j before after =
     (after ≡ before)
-    ⊎ (MayForgetNumber p s (InSlot j) × IsNumberKind (kind_in before) × (after ≡ Written 255))
+    ⊎ (MayForgetNumber how p s (InSlot j) × IsNumberKind (kind_in before) × (after ≡ Written 255))
 
-pub record AreNumbersKept (p : Program) (s : State) (new : List Kind) : Type 0 where
+pub record AreNumbersKept (how : Precision) (p : Program) (s : State)
+    (new : List Kind) : Type 0 where
   pub ten : length new ≡ 10
   pub each : (r : Reg) → r ≢ R10
-      → IsNumberKept p s r (kind_at (registers_of s) (reg_number r)) (kind_at new (reg_number r))
+      → IsNumberKept how p s r (kind_at (registers_of s) (reg_number r))
+      (kind_at new (reg_number r))
 
-pub record AreSpilledNumbersKept (p : Program) (s : State) (new : List StackSlot) : Type 0 where
+pub record AreSpilledNumbersKept (how : Precision) (p : Program) (s : State)
+    (new : List StackSlot) : Type 0 where
   pub all : length new ≡ 64
   pub each : (j : ℕ) → j < 64
-      → IsSpilledNumberKept p s j (slot_at (slots_in s) j) (slot_at new j)
+      → IsSpilledNumberKept how p s j (slot_at (slots_in s) j) (slot_at new j)
 
 -- b is a without some numbers of the innermost call frame that do not matter
-pub record NumbersForgotten (p : Program) (a b : State) : Type 0 where
+pub record NumbersForgotten (how : Precision) (p : Program) (a b : State) : Type 0 where
   pub rest : b ≡ record a {
     innermost =
         record a.innermost { registers = registers_of b; stack = record { slots = slots_in b } };
   }
-  pub registers : AreNumbersKept p a (registers_of b)
-  pub slots : AreSpilledNumbersKept p a (slots_in b)
+  pub registers : AreNumbersKept how p a (registers_of b)
+  pub slots : AreSpilledNumbersKept how p a (slots_in b)
 
 -- ---- both
 
 -- b is a without what is dead, and without some numbers that do not matter
-pub record Forgets (p : Program) (a b : State) : Type 0 where
+pub record Forgets (how : Precision) (p : Program) (a b : State) : Type 0 where
   pub middle : State
   pub dead : DeadForgotten p a middle
-  pub numbers : NumbersForgotten p middle b
+  pub numbers : NumbersForgotten how p middle b
 
 -- no number is known there that no path tests
 abbrev pub KnowsTestedNumbers : Program → State → Type 0
@@ -175,6 +195,26 @@ KnowsNoNumber s =
     ((r : Reg) → r ≢ R10 → IsNumberKind (kind_at (registers_of s) (reg_number r))
     → IsAnyNumber (kind_at (registers_of s) (reg_number r)))
     × ((j : ℕ) → j < 64 → ¬ IsNumberKind (kind_in (slot_at (slots_in s) j)))
+
+-- ---- all numbers but those that are kept
+
+-- at a join no number is known but in these registers and stack slots
+abbrev pub KnowsNumbersOf : RegisterMask → SlotMask → Program → State → Type 0
+KnowsNumbersOf registers slots p s =
+    MayForgetNumbers p → IsJoin p s.slot
+    → ((r : Reg) → r ≢ R10 → (¬ HasRegister registers r)
+    → IsNumberKind (kind_at (registers_of s) (reg_number r))
+    → IsAnyNumber (kind_at (registers_of s) (reg_number r)))
+    × ((j : ℕ) → j < 64 → (¬ HasSlot slots j) → ¬ IsNumberKind (kind_in (slot_at (slots_in s) j)))
+
+-- what is known of these registers and stack slots of a stays known in b, or they are dead
+abbrev pub KeepsNumbersOf : RegisterMask → SlotMask → Program → State → State → Type 0
+KeepsNumbersOf registers slots p a b =
+    ((r : Reg) → r ≢ R10 → HasRegister registers r
+    → IsKept p a.slot r (kind_at (registers_of a) (reg_number r))
+    (kind_at (registers_of b) (reg_number r)))
+    × ((j : ℕ) → j < 64 → HasSlot slots j
+    → IsSlotKept p a.slot j (slot_at (slots_in a) j) (slot_at (slots_in b) j))
 
 -- ---- how numbers are forgotten
 

@@ -7,7 +7,7 @@ use Rattle.control_flow.specs.Flows.{IsFlow}
 use Rattle.control_flow.specs.Flows as flow
 use Rattle.stack_state.specs.declared.states.State.{State}
 use Rattle.transfer.specs.Exact.{RefusesStep}
-use Rattle.walks.specs.Forgetting.{Forgets}
+use Rattle.walks.specs.Forgetting.{Precision, Exact, Coarse, Forgets}
 use Rattle.walks.specs.Walks.{IsReached, IsStuck, ComesBack}
 use Rattle.walks.specs.Counts.{Takes}
 use Rattle.isa_model.specs.declared.limits.TheConstants.{MAX_EXPLORED}
@@ -16,16 +16,21 @@ use Rattle.walks.specs.declared.refusals.Refusal.TheVariants.{Flow, Step, Repeat
 
 -- at least this many instructions are explored from the state in which a path begins
 abbrev pub StartTakes : Program → ℕ → Type 0
-StartTakes p n = (first : State) × Forgets p start first × Takes p first n
+StartTakes p n = (first : State) × Forgets Coarse p start first × Takes p first n
+
+-- the walks that a refusal is about: those to the limit of explored instructions may be coarse
+abbrev pub precision_of : Refusal → Precision
+precision_of TooLong = Coarse
+precision_of e = Exact
 
 -- where the search stops with a refusal; with `TooLong`, one instruction after the most that are
 -- explored
-abbrev pub StopsAt : Program → Refusal → ℕ → Type 0
-StopsAt p (Flow e) slot = ⊥
-StopsAt p (Step e) slot = IsStuck p e slot
-StopsAt p Repeats slot = ComesBack p slot
-StopsAt p TooLong slot = IsReached p slot × StartTakes p (MAX_EXPLORED + 1)
-StopsAt p Memory slot = slot ≡ 0
+abbrev pub StopsAt : Precision → Program → Refusal → ℕ → Type 0
+StopsAt how p (Flow e) slot = ⊥
+StopsAt how p (Step e) slot = IsStuck how p e slot
+StopsAt how p Repeats slot = ComesBack how p slot
+StopsAt how p TooLong slot = IsReached Coarse p slot × StartTakes p (MAX_EXPLORED + 1)
+StopsAt how p Memory slot = slot ≡ 0
 
 -- why the search stops in a state: its step is refused, the path was in one before where each covers the
 -- other, or the limit of explored instructions is reached
@@ -39,4 +44,4 @@ StopsIn p s Memory = ⊥
 -- control flow comes first, and all other refusals are of programs whose control flow is good
 abbrev pub IsRefused : Program → Refusal → ℕ → Type 0
 IsRefused p (Flow e) slot = flow.IsRefusal p e slot
-IsRefused p e slot = IsFlow p × StopsAt p e slot
+IsRefused p e slot = IsFlow p × StopsAt Exact p e slot

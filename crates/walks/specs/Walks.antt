@@ -11,7 +11,7 @@ use Rattle.transfer.specs.declared.Ways.{Ways}
 use Rattle.transfer.specs.declared.Ways.TheVariants as ways
 use Rattle.transfer.specs.declared.refusals.Refusal.{Refusal}
 use Rattle.transfer.specs.Exact.{StepsToWays, RefusesStep}
-use Rattle.walks.specs.Forgetting.{Forgets}
+use Rattle.walks.specs.Forgetting.{Precision, Forgets}
 
 abbrev pub IsAmong : Ways → State → State → State → Type 0
 IsAmong ways.None a b s = ⊥
@@ -19,7 +19,7 @@ IsAmong ways.One a b s = s ≡ a
 IsAmong ways.Two a b s = (s ≡ a) ⊎ (s ≡ b)
 
 -- b is one of a's successors, after what does not matter was forgotten
-pub record StepsTo (p : Program) (a b : State) : Type 0 where
+pub record StepsTo (how : Precision) (p : Program) (a b : State) : Type 0 where
   pub insn : Insn
   pub here : fetch p a.slot ≡ Some insn
   pub taken : Ways
@@ -28,34 +28,34 @@ pub record StepsTo (p : Program) (a b : State) : Type 0 where
   pub makes : StepsToWays p a insn taken first other
   pub next : State
   pub among : IsAmong taken first other next
-  pub forgets : Forgets p next b
+  pub forgets : Forgets how p next b
 
 -- n steps lead from a to b
-unfoldable pub HasSteps : Program → ℕ → State → State → Type 0
-HasSteps p zero a b = b ≡ a
-HasSteps p (suc n) a b = (c : State) × StepsTo p a c × HasSteps p n c b
+unfoldable pub HasSteps : Precision → Program → ℕ → State → State → Type 0
+HasSteps how p zero a b = b ≡ a
+HasSteps how p (suc n) a b = (c : State) × StepsTo how p a c × HasSteps how p n c b
 
 -- a walk of n steps from the start reaches a state
-pub record WalksTo (p : Program) (n : ℕ) (s : State) : Type 0 where
+pub record WalksTo (how : Precision) (p : Program) (n : ℕ) (s : State) : Type 0 where
   pub first : State
-  pub starts : Forgets p start first
-  pub leads : HasSteps p n first s
+  pub starts : Forgets how p start first
+  pub leads : HasSteps how p n first s
 
 -- ---- where walks stop
 
 -- some walk from the start reaches a state at this slot, at which an instruction begins
-pub record IsReached (p : Program) (slot : ℕ) : Type 0 where
+pub record IsReached (how : Precision) (p : Program) (slot : ℕ) : Type 0 where
   pub state : State
   pub steps : ℕ
-  pub walk : WalksTo p steps state
+  pub walk : WalksTo how p steps state
   pub slot_is : slot ≡ state.slot
   pub begins : BeginsInsn p slot
 
 -- some walk from the start reaches a state at this slot, and its step gets this refusal
-pub record IsStuck (p : Program) (e : Refusal) (slot : ℕ) : Type 0 where
+pub record IsStuck (how : Precision) (p : Program) (e : Refusal) (slot : ℕ) : Type 0 where
   pub state : State
   pub steps : ℕ
-  pub walk : WalksTo p steps state
+  pub walk : WalksTo how p steps state
   pub slot_is : slot ≡ state.slot
   pub begins : BeginsInsn p slot
   pub insn : Insn
@@ -63,14 +63,14 @@ pub record IsStuck (p : Program) (e : Refusal) (slot : ℕ) : Type 0 where
   pub refused : RefusesStep p state insn e
 
 -- some walk from the start reaches this join twice, in two states that cover one another
-pub record ComesBack (p : Program) (slot : ℕ) : Type 0 where
+pub record ComesBack (how : Precision) (p : Program) (slot : ℕ) : Type 0 where
   pub join : IsJoin p slot
   pub first : State
   pub again : State
   pub before : ℕ
   pub between : ℕ
-  pub walk : WalksTo p before first
-  pub leads_back : HasSteps p (suc between) first again
+  pub walk : WalksTo how p before first
+  pub leads_back : HasSteps how p (suc between) first again
   pub first_slot : first.slot ≡ slot
   pub again_slot : again.slot ≡ slot
   pub covers : Covers p first again

@@ -3,7 +3,7 @@
 ghost use Rattle.std.specs.Prelude.{◌≡◌, ◌↔◌, ℕ, ◌<◌, IsTrue};
 ghost use Rattle.stack_state.specs.Slots.{AreKnownFrom};
 ghost use Rattle.control_flow.specs.Masks.{HasSlot};
-ghost use Rattle.walks.specs.Forgetting.{AreKept, AreSlotsLeft, AreSlotsKept, CallersForgotten, DeadForgotten, Forgets, IsSlotDeadAt, KnowsNoNumber, KnowsTestedNumbers, MayForgetAll, NumbersForgotten};
+ghost use Rattle.walks.specs.Forgetting.{AreKept, AreSlotsLeft, AreSlotsKept, CallersForgotten, DeadForgotten, Exact, Coarse, Forgets, IsSlotDeadAt, KeepsNumbersOf, KnowsNoNumber, KnowsNumbersOf, KnowsTestedNumbers, MayForgetAll, NumbersForgotten};
 
 use crate::numbers::{are_numbers, forget_registers_beside, forget_slots_of, forget_untested};
 use control_flow::{Flow, RegisterMask, SlotMask};
@@ -108,13 +108,35 @@ fn forget_dead(flow: &Flow<'_>, has_called: bool, state: &mut State)
 /// tests. States that differ only in that become one. `has_called`: the step to the state called a
 /// function, and dead stack slots of the caller are forgotten too.
 pub fn forget(flow: &Flow<'_>, has_called: bool, state: &mut State)
-    ensures forgets { Forgets flow.now state.old state.new }
+    ensures forgets { Forgets Exact flow.now state.old state.new }
     ensures all { KnowsTestedNumbers flow.now state.new }
 {
     forget_dead(flow, has_called, state);
     if flow.forgets_numbers() && flow.is_join(state.slot) {
         let frame = &mut state.innermost;
         forget_untested(flow, state.slot, &mut frame.registers, &mut frame.stack);
+    }
+}
+
+/// Forgets what is dead at a state's slot, and at a join all numbers of the innermost call frame
+/// but those in these registers and stack slots, also numbers that some path tests. More states
+/// become one so, and some steps may be refused that the forgotten numbers would allow.
+pub fn forget_beside(
+    flow: &Flow<'_>,
+    registers: RegisterMask,
+    slots: SlotMask,
+    has_called: bool,
+    state: &mut State,
+)
+    ensures forgets { Forgets Coarse flow.now state.old state.new }
+    ensures all { KnowsNumbersOf registers slots flow.now state.new }
+    ensures keeps { KeepsNumbersOf registers slots flow.now state.old state.new }
+{
+    forget_dead(flow, has_called, state);
+    if flow.forgets_numbers() && flow.is_join(state.slot) {
+        let frame = &mut state.innermost;
+        forget_registers_beside(registers, &mut frame.registers);
+        forget_slots_of(SlotMask::all().without(slots), &mut frame.stack);
     }
 }
 
@@ -132,7 +154,7 @@ pub fn may_forget_all(flow: &Flow<'_>, state: &State) -> bool
 /// Forgets all numbers of a state's innermost call frame, which [`may_forget_all`] allows.
 pub fn forget_all(flow: &Flow<'_>, state: &mut State)
     requires { MayForgetAll flow.now state.old }
-    ensures forgets { NumbersForgotten flow.now state.old state.new }
+    ensures forgets { NumbersForgotten Exact flow.now state.old state.new }
     ensures all { KnowsNoNumber state.new }
 {
     let frame = &mut state.innermost;

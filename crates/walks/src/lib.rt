@@ -13,5 +13,5 @@ mod numbers;
 pub mod refusals;
 
 pub use explained::{Explanation, Jump, MOST_JUMPS};
-pub use forgetting::{forget, forget_all, kept_slots, may_forget_all};
+pub use forgetting::{forget, forget_all, forget_beside, kept_slots, may_forget_all};
 pub use refusals::Refusal;

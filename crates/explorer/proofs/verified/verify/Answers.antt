@@ -6,7 +6,7 @@ use Rattle.stack_state.specs.Starts.{start}
 use Rattle.explorer.proofs.verified.verify.Goals as goal
 
 pub verify_with-requires : goal.verify_with-requires
-verify_with-requires c = record { untold = (start, tt) }
+verify_with-requires c = record { untold = λ how. (start, tt) }
 
 pub returns-in-Ok-clause-program : goal.returns-in-Ok-clause-program
 returns-in-Ok-clause-program c = c.in-Ok.ensures.program

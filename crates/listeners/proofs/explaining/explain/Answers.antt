@@ -5,12 +5,13 @@ use Rattle.isa_model.specs.Code.Instructions.{Program}
 use Rattle.walks.specs.declared.explained.Explanation.{Explanation}
 use Rattle.image.proofs.Programs.{IsProgram-IsImage}
 use Rattle.walks.specs.declared.refusals.Refusal.{Refusal}
+use Rattle.walks.specs.Forgetting.{Precision}
 use Rattle.walks.specs.Refused.{IsRefused}
 use Rattle.walks.specs.Accepting.{AcceptsAll}
 use Rattle.walks.proofs.AcceptingLaws.{AcceptsAll-refused}
 use Rattle.walks.specs.Explained.{Explains}
 use Rattle.listeners.specs.Followed.{HasFollowed}
-use Rattle.explorer.specs.Listening.{EndsIn}
+use Rattle.explorer.specs.Listening.{EndsAsPrecise}
 use Rattle.listeners.proofs.Following.{explains_by}
 use Rattle.listeners.proofs.Stops.{refused_with}
 use Rattle.listeners.proofs.explaining.explain.Goals as goal
@@ -56,14 +57,14 @@ returns-in-Some-clause-explains c =
     let p = c.args.image.now in
     let searched = c.search_with-searched in
     let f = searched.new.listener in
-    let tale : Program → List State → State
-    → Type 0 = λ r path last. HasFollowed f.image.now f.slots.items f.slot f.turns r path
-    last in
+    let tale : Precision → Program → List State → State → Type 0 =
+    λ how r path last. HasFollowed how f.image.now f.slots.items f.slot f.turns r path last in
     let e = c.in-Some.found in
     let at = c.in-Some.at in
     let refused = refused_with searched.result.result e at (IsRefused p) c.in-Some.ensures
     searched.ensures.refused in
-    let ends = refused_with searched.result.result e at (EndsIn p (tale p)) c.in-Some.ensures
+    let ends = refused_with searched.result.result e at
+    (EndsAsPrecise p (λ how. tale how p)) c.in-Some.ensures
     searched.ensures.follows in
     let is : e ≡ c.args.refusal = search rules in
     let here : at ≡ c.args.slot = search rules in

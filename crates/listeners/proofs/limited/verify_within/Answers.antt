@@ -6,7 +6,7 @@ use Rattle.explorer.specs.Listening.{IfRefused}
 use Rattle.listeners.proofs.limited.verify_within.Goals as goal
 
 pub verify_with-requires : goal.verify_with-requires
-verify_with-requires c = record { untold = (start, tt) }
+verify_with-requires c = record { untold = λ how. (start, tt) }
 
 pub returns-in-Ok : goal.returns-in-Ok
 returns-in-Ok c = record {

@@ -6,7 +6,7 @@ use Rattle.surveys.proofs.Verdicts.{says_of, sizes_kept}
 use Rattle.surveys.proofs.judging.judge_image.Goals as goal
 
 pub verify_with-found-requires : goal.verify_with-found-requires
-verify_with-found-requires g c = record { untold = (start, tt) }
+verify_with-found-requires g c = record { untold = λ how. (start, tt) }
 
 pub returns-in-Ok-clause-says : goal.returns-in-Ok-clause-says
 returns-in-Ok-clause-says g c =

@@ -2,7 +2,10 @@ use Rattle.std.proofs.Common.{ℕ, Option, None, ◌≡◌, ◌∙◌, ◌++◌,
 use Rattle.explorer.specs.declared.trail.Visit.{Visit}
 use Rattle.stack_state.specs.declared.states.State.{State}
 use Rattle.explorer.specs.Trail.{TakesLastPending}
-use Rattle.explorer.specs.Search.{Settles, HasSpent, Path}
+use Rattle.explorer.specs.Search.{Settles, HasSpent, Path, precision_in}
+use Rattle.stack_state.specs.Starts.{start}
+use Rattle.walks.specs.Forgetting.{Coarse}
+use Rattle.walks.proofs.PrecisionLaws.{Forgets-as}
 use Rattle.explorer.proofs.StoredStatesLaws.{Settles-start}
 use Rattle.explorer.proofs.Paths.{LastVisit, Path-pop, Path-none}
 use Rattle.explorer.proofs.Unfinished.{OnPath-pop}
@@ -21,10 +24,12 @@ none_taken (Some s) n old new none on = absurd (none s refl)
 -- nothing is pending there: the last visit is taken
 taken : (c : In-Some-pop)
     → c.args.self.now.path.items ≡ c.pop.new.self.items ++ c.in-Some-pop.visit ∷ []
-taken c = sym (none_taken _ _ _ _ c.in_default-taken.not-Some c.in-Ok.ensures).0 ∙ c.in-Some-pop.ensures.items
+taken c = sym (none_taken _ _ _ _ c.in_default-taken.not-Some c.in-Ok.ensures).0 ∙
+    c.in-Some-pop.ensures.items
 
 last_of : (c : In-Some-pop)
-    → LastVisit c.args.flow.now c.args.self.now.finished c.args.self.now.states.states.items
+    → LastVisit (precision_in c.args.self.now.kept) c.args.flow.now c.args.self.now.finished
+    c.args.self.now.states.states.items
     c.requires.at.at.first c.pop.new.self.items c.in-Some-pop.visit c.requires.at.state
 last_of c =
     let p = c.args.flow.now in
@@ -32,12 +37,15 @@ last_of c =
     let at = c.requires.at in
     Path-pop p search.finished search.states.states.items c.pop.new.self.items
     c.in-Some-pop.visit at.at.first at.state
-    (subst (λ (x : List Visit). Path p search.finished search.states.states.items at.at.first x
+    (subst (λ (x : List Visit). Path (precision_in search.kept) p search.finished
+    search.states.states.items at.at.first x
     at.state) (taken c) at.at.path)
 
 pub come-requires-clause-comes : goal.come-requires-clause-comes
 come-requires-clause-comes c =
-    let on = subst (λ o. TakesLastPending c.args.ended c.args.self.now.path.items o c.take_last_pending.new.self.items) c.in-Some.is c.in-Ok.ensures in
+    let on = subst
+    (λ o. TakesLastPending c.args.ended c.args.self.now.path.items o
+    c.take_last_pending.new.self.items) c.in-Some.is c.in-Ok.ensures in
     comes_aside c.args.flow.now c.args.self.now on.path on.visit _ c.take_last_pending.new.self
     c.args.ended c.restore.new.state c.requires.at on.was
     (on.pending ∙ ap Some (sym c.restore.ensures)) refl on.now
@@ -48,12 +56,19 @@ returns-in_default-pop-clause-moves c =
     let search = c.args.self.now in
     let at = c.requires.at in
     let none : length search.path.items ≡ 0 =
-    ap length (sym (none_taken _ _ _ _ c.in_default-taken.not-Some c.in-Ok.ensures).0) ∙ c.in_default-pop.ensures.cases.0 in
+    ap length (sym (none_taken _ _ _ _ c.in_default-taken.not-Some c.in-Ok.ensures).0) ∙
+    c.in_default-pop.ensures.cases.0 in
     let same =
-    Path-none p search.finished search.states.states.items search.path.items at.at.first
+    Path-none (precision_in search.kept) p search.finished search.states.states.items
+    search.path.items at.at.first
     at.state none at.at.path in
-    let settled = subst (λ x. Settles p x c.args.ended) same at.settled in
-    (Settles-start p at.at.first c.args.ended at.at.begins settled, at.some, at.most)
+    let settled = subst (λ x. Settles p x c.args.ended) same at.settled in (
+      Settles-start p at.at.first c.args.ended
+          (Forgets-as Coarse (precision_in search.kept) p start at.at.first tt at.at.begins)
+          settled,
+      at.some,
+      at.most,
+    )
 
 pub overflow_add-number : goal.overflow_add-number
 overflow_add-number c =
@@ -80,9 +95,15 @@ returns-clause-moves c =
     let back = goes_back p search.finished states c.finish.new.self.states.items at.at.first path
     visit at.state c.args.ended c.max-number.result
     at.at.begins at.at.fine last on_path at.settled at.most
-    ((none_taken _ _ _ _ c.in_default-taken.not-Some c.in-Ok.ensures).1 path visit items) c.max-number.ensures c.finish.ensures in
+    ((none_taken _ _ _ _ c.in_default-taken.not-Some c.in-Ok.ensures).1 path visit items)
+    c.max-number.ensures c.finish.ensures in
     let same : search.finished + length search.path.items ≡ search.finished + 1 + length path =
-    omega (arith, c.in-Some-pop.ensures.cases, ap length (none_taken _ _ _ _ c.in_default-taken.not-Some c.in-Ok.ensures).0) in
+    omega (
+      arith,
+      c.in-Some-pop.ensures.cases,
+      ap length (none_taken _ _ _ _ c.in_default-taken.not-Some
+          c.in-Ok.ensures).0,
+    ) in
     record {
       state = back.state;
       at =

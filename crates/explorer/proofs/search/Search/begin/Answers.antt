@@ -1,8 +1,10 @@
-use Rattle.std.proofs.Common.{◌+◌, List, arith, refl, length, ap, subst}
+use Rattle.std.proofs.Common.{◌+◌, List, arith, refl, length, ap, sym, subst, ◌∙◌}
 use Rattle.std.proofs.lemmas.Result.{IfErr-weaker}
 use Rattle.explorer.specs.declared.trail.Visit.{Visit}
 use Rattle.explorer.specs.Listening.{ComesBackAt, BeginFails}
-use Rattle.walks.specs.Forgetting.{Forgets}
+use Rattle.stack_state.specs.Starts.{start}
+use Rattle.walks.specs.Forgetting.{Exact, Forgets}
+use Rattle.explorer.specs.Search.{precision_in}
 use Rattle.walks.proofs.Forgotten.{Forgets-forgotten}
 use Rattle.explorer.proofs.Counting.{CountsTo-here}
 use Rattle.explorer.proofs.Paths.{Path-here}
@@ -19,14 +21,16 @@ come-requires-clause-comes c =
     let path = search.path.items in
     let s = c.forget.new.state in
     let new = c.requires.new in
-    let begins = subst (λ x. Forgets p x s) new.current c.forget.ensures.forgets in
+    let exact = subst (λ x. Forgets Exact p x s) new.current c.forget.ensures.forgets in
+    let begins = subst (λ k. Forgets (precision_in k) p start s) (sym new.kept) exact in
     record {
       at =
           record {
             fine = empty_fine p search.finished states new.states;
             first = s;
             begins = begins;
-            path = Path-here p search.finished states path s s new.path refl;
+            path = Path-here (precision_in search.kept) p search.finished states path s s new.path
+                refl;
           };
       on_path = OnPath-start states path new.states new.path;
       counts =
@@ -48,6 +52,10 @@ returns-clause-fails c =
     let p = c.args.flow.now in
     let s = c.forget.new.state in
     let now = c.come.new.self.current in
-    let begins = subst (λ x. Forgets p x s) c.requires.new.current c.forget.ensures.forgets in
-    IfErr-weaker c.come.result (λ r. ComesBackAt s r.0 r.1) (λ r. BeginFails p now r.0 r.1)
-    (λ r at. begin_fails p s now r.0 r.1 c.come.ensures.current begins at) c.come.ensures.fails
+    let begins = subst (λ x. Forgets Exact p x s) c.requires.new.current c.forget.ensures.forgets in
+    IfErr-weaker c.come.result (λ r. ComesBackAt s r.0 r.1) (λ r. BeginFails Exact p now r.0 r.1)
+    (λ r at. begin_fails Exact p s now r.0 r.1 c.come.ensures.current begins at)
+    c.come.ensures.fails
+
+pub returns-clause-kept : goal.returns-clause-kept
+returns-clause-kept c = c.come.ensures.kept ∙ c.requires.new.kept

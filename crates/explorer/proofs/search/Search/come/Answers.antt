@@ -1,6 +1,6 @@
 use Rattle.std.proofs.lemmas.Result.{IfOk-weaker, IfErr-weaker}
 use Rattle.walks.specs.Refused.{StopsAt}
-use Rattle.explorer.specs.Search.{Arrives, RefusesArrival, AfterMove}
+use Rattle.explorer.specs.Search.{Arrives, RefusesArrival, AfterMove, precision_in}
 use Rattle.explorer.proofs.SearchMoves.{comes_to}
 use Rattle.explorer.proofs.Walking.{arrival_refused}
 use Rattle.explorer.proofs.search.Search.come.Goals as goal
@@ -23,7 +23,7 @@ returns-clause-stops c =
     let old = c.args.self.now in
     let at = c.requires.comes.at in
     IfErr-weaker c.arrive.result (λ r. RefusesArrival p old.states.states.items old.current r.0 r.1)
-    (λ r. StopsAt p r.0 r.1)
+    (λ r. StopsAt (precision_in old.kept) p r.0 r.1)
     (λ r refuses. arrival_refused p old.finished old.states.states.items old.path.items at.first
     old.current r.0 r.1 at.begins at.path c.requires.comes.on_path refuses)
     c.arrive.ensures.refused

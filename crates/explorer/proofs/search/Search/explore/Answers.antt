@@ -1,6 +1,7 @@
 use Rattle.std.proofs.Common.{subst}
 use Rattle.walks.specs.Refused.{StopsAt}
 use Rattle.explorer.specs.Listening.{IfRefused}
+use Rattle.explorer.specs.Search.{precision_in}
 use Rattle.explorer.proofs.search.Search.explore.Goals as goal
 
 pub explore_all-requires : goal.explore_all-requires
@@ -22,10 +23,12 @@ returns-in-Ok g c =
       most = c.in-Ok.ensures.most;
       stops = tt;
       too_long = tt;
-      ends = tt;
+      ends = λ how fine. tt;
+      exact = c.explore_all.ensures.exact;
     }
 
 pub returns-in-Err-Refused-clause-stops : goal.returns-in-Err-Refused-clause-stops
 returns-in-Err-Refused-clause-stops g c =
-    subst (λ h. IfRefused h (StopsAt c.args.flow.now)) c.in-Err-Refused.field-0-is
+    subst (λ h. IfRefused h (StopsAt (precision_in c.explore_all.new.self.kept) c.args.flow.now))
+    c.in-Err-Refused.field-0-is
     c.in-Err-Refused.ensures.stops

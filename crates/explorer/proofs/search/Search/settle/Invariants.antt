@@ -1,5 +1,5 @@
 use Rattle.std.proofs.Common.{◌≡◌, ◌+◌, length}
-use Rattle.explorer.specs.Search.{AfterMove}
+use Rattle.explorer.specs.Search.{AfterMove, InEach}
 use Rattle.explorer.specs.Listening.{IsToTell}
 use Rattle.explorer.proofs.Telling.{weight}
 use Rattle.explorer.proofs.search.Search.settle.Given as goal
@@ -7,8 +7,9 @@ use Rattle.explorer.proofs.search.Search.settle.Given as goal
 abbrev pub invariant-moves : goal.invariant-moves
 invariant-moves g l = record {
   moves : AfterMove l.flow l.self l.made;
-  untold : IsToTell l.flow
-      (g.L.Listener.follows l.listener l.flow) l.self.path.items l.self.current l.made;
+  untold : InEach l.initial.self.kept (λ how. IsToTell how l.flow
+      (g.L.Listener.follows l.listener how l.flow) l.self.path.items l.self.current l.made);
+  kept : l.self.kept ≡ l.initial.self.kept;
   explored : l.self.finished + length l.self.path.items
       ≡ l.initial.self.finished + length l.initial.self.path.items;
 }

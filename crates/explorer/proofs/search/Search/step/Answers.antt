@@ -7,6 +7,7 @@ use Rattle.stack_state.specs.declared.states.State.{State}
 use Rattle.explorer.specs.declared.search.Search.{Search}
 use Rattle.explorer.specs.declared.trail.Visit.{Visit}
 use Rattle.explorer.specs.Trail.{Visits}
+use Rattle.explorer.specs.Search.{precision_in}
 use Rattle.walks.specs.Walks.{StepsTo}
 use Rattle.walks.specs.Forgetting.{Forgets}
 use Rattle.walks.proofs.Forgotten.{Forgets-forgotten}
@@ -82,10 +83,12 @@ returns-in-None-clause-moves c =
 -- ---- where the path continues
 
 entered_of : (c : After-push)
-    → Entered c.args.flow.now c.args.self.now.finished c.args.self.now.states.states.items
+    → Entered (precision_in c.args.self.now.kept) c.args.flow.now c.args.self.now.finished
+    c.args.self.now.states.states.items
     (record { pending = c.match-ways.pending; best = 0; stored = c.args.stored })
     c.args.self.now.current c.forget_at.new.state
 entered_of c =
+    let how = precision_in c.args.self.now.kept in
     let p = c.args.flow.now in
     let q = c.args.image.now in
     let m = c.args.self.now.finished in
@@ -98,20 +101,20 @@ entered_of c =
     let pending = c.match-ways.pending in
     elim c.match-ways.branch [
       | in-One w ↦
-          let forgets : Forgets p a first =
-          subst (λ (x : Search). Forgets p x.current first) w.self-is
+          let forgets : Forgets how p a first =
+          subst (λ (x : Search). Forgets (precision_in x.kept) p x.current first) w.self-is
           c.in-Ok-forget_at.ensures.forgets in
           one_way p q m states c.args.stored s a b first c.in-Ok.ways pending
           c.requires.image c.requires.good at.ready at.stored_at c.in-Ok.ensures.leads
           c.in-Ok.ensures.steps c.in-Ok.ensures.follows forgets w.in-One.is w.pending-is
       | in-Two+in-Ok-of_forgotten w ↦
-          let other = w.forget.new.state in
-          let forgets : Forgets p a first =
-          subst (λ (x : Search). Forgets p x.current first) w.self-is
+          let other = w.forget_by.new.state in
+          let forgets : Forgets how p a first =
+          subst (λ (x : Search). Forgets (precision_in x.kept) p x.current first) w.self-is
           c.in-Ok-forget_at.ensures.forgets in
           two_ways p q m states c.args.stored s a b first other c.in-Ok.ways pending
           c.requires.image c.requires.good at.ready at.stored_at c.in-Ok.ensures.leads
-          c.in-Ok.ensures.steps c.in-Ok.ensures.follows forgets w.forget.ensures.forgets
+          c.in-Ok.ensures.steps c.in-Ok.ensures.follows forgets w.forget_by.ensures.forgets
           w.in-Two.is (w.pending-is ∙ ap Some w.in-Ok-of_forgotten.ensures)
     ]
 
@@ -135,14 +138,14 @@ come-requires-clause-comes c =
     (c.forget_at.ensures.same ∙ ap (λ (x : Search). x.states.states.items) same)
     (ap (λ (x : Search). x.finished) same)
     (c.in-Ok-push.ensures.items ∙ ap (λ (x : Search). x.path.items ++ visit ∷ []) same) refl
-    c.requires.at
+    (ap (λ (x : Search). x.kept) same) c.requires.at
     (entered_of w)
 
 pub of_forgotten-requires : goal.of_forgotten-requires
 of_forgotten-requires c = λ j below none.
     let forgotten =
-    Forgets-forgotten c.args.flow.now c.step_in_place.new.other c.forget.new.state
-    c.forget.ensures.forgets in
+    Forgets-forgotten c.args.flow.now c.step_in_place.new.other c.forget_by.new.state
+    c.forget_by.ensures.forgets in
     forgotten.1 j below (c.kept_slots-mask.ensures j below none)
 
 pub come-requires-clause-forgotten : goal.come-requires-clause-forgotten
@@ -156,7 +159,8 @@ returns-in_err-made-clause-fails c =
     let refusal = c.in_err-made.field-0.0 in
     let given = err_from_is_err_and c.from_residual.result c.from_residual.ensures.1 in
     rw (given.1, given.2)
-    (step_fails c.args.flow.now c.args.self.now.current c.forget_at.new.state
+    (step_fails (precision_in c.args.self.now.kept) c.args.flow.now c.args.self.now.current
+    c.forget_at.new.state
     c.come.new.self.current refusal.0 refusal.1 c.come.ensures.current
     (entered_of w).waiting.steps c.in_err-made.ensures.fails)
 
@@ -167,7 +171,8 @@ returns-clause-steps c =
     record { pending = c.match-ways.pending; best = 0; stored = c.args.stored } in
     let (scratch, same) = search_of w in
     let entered = entered_of w in
-    steps_by_arrival c.args.flow.now c.args.self.now.current c.args.self.now.path.items
+    steps_by_arrival (precision_in c.args.self.now.kept) c.args.flow.now c.args.self.now.current
+    c.args.self.now.path.items
     c.come.new.self.path.items c.come.new.self.current c.in_ok-made.made
     c.in_ok-made.ensures.arrival (record {
       visit = visit;
@@ -175,7 +180,13 @@ returns-clause-steps c =
           ap (λ (x : Visits). x.items) c.come.ensures.path
           ∙ (c.in-Ok-push.ensures.items ∙ ap (λ (x : Search). x.path.items ++ visit ∷ []) same);
       steps =
-          subst (StepsTo c.args.flow.now c.args.self.now.current)
+          subst
+          (StepsTo (precision_in c.args.self.now.kept) c.args.flow.now c.args.self.now.current)
           (sym c.come.ensures.current) entered.waiting.steps;
       aside = entered.waiting.steps_aside;
     })
+
+pub returns-clause-kept : goal.returns-clause-kept
+returns-clause-kept c =
+    let (scratch, same) = search_of (goal.at.returns-clause-kept c).After-push in
+    c.come.ensures.kept ∙ ap (λ (x : Search). x.kept) same

@@ -3,8 +3,8 @@ use Rattle.listeners.proofs.Following.{went_back}
 use Rattle.listeners.proofs.explaining.Follower.go_back.Goals as goal
 
 pub returns : goal.returns
-returns c = λ p s path last.
-    went_back _ p c.args.self.now.slots.items _ c.pop-slot.result _ _ _ s path last
+returns c = λ how p s path last.
+    went_back how _ p c.args.self.now.slots.items _ c.pop-slot.result _ _ _ s path last
     c.pop-slot.ensures.items
     (λ some. c.pop-slot.ensures.variant.1 (omega (arith, some, c.args.self.now.slots.ok.0)))
     c.leave.ensures.last

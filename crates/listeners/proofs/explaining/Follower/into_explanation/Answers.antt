@@ -9,11 +9,11 @@ use Rattle.listeners.proofs.explaining.Follower.into_explanation.Goals as goal
 
 pub loop-index-init : goal.loop-index-init
 loop-index-init c =
-    λ path last h. LedAt-first c.args.self.image.now path c.new-way.result.items h.walk
+    λ how path last h. LedAt-first how c.args.self.image.now path c.new-way.result.items h.walk
     c.new-way.ensures
 
 pub loop-index-preserved : goal.loop-index-preserved
-loop-index-preserved c = λ path last h.
+loop-index-preserved c = λ how path last h.
     let slots = c.args.self.slots.items in
     let k = c.loop-index.index in
     let some : 1 ≤ k = c.loop-index.auto.index in
@@ -25,20 +25,20 @@ loop-index-preserved c = λ path last h.
     let to : slice_get slots k ≡ Some c.index-in-loop-index.result.now =
     slice_get-get_or slots k c.index-in-loop-index.result.now inside
     ∙ ap Some (sym c.index-in-loop-index.ensures) in
-    LedAt-next c.args.self.image.now path slots k c.index.result.now
+    LedAt-next how c.args.self.image.now path slots k c.index.result.now
     c.index-in-loop-index.result.now c.loop-index.way.items c.go_on.new.way.items h.walk
     h.slots_are some from to
-    c.in_ok-go_on.ensures (c.loop-index.invariant path last h)
+    (c.in_ok-go_on.ensures how) (c.loop-index.invariant how path last h)
 
 pub returns : goal.returns
-returns c = λ p before s h at.
+returns c = λ how p before s h at.
     let image = c.args.self.image.now in
     let slots = c.args.self.slots.items in
     let k = c.loop-index.index in
     let way = c.loop-index.way.items in
     let turns = c.args.self.turns in
     let own =
-    subst (λ q. HasFollowed image slots c.args.self.slot turns q (s ∷ before) s)
+    subst (λ q. HasFollowed how image slots c.args.self.slot turns q (s ∷ before) s)
     (sym h.program) h in
     let some : 1 ≤ length slots = slots_some slots s before h.slots_are in
     let count : k ≡ length slots =
@@ -50,15 +50,15 @@ returns c = λ p before s h at.
       c.loop-index-test.false,
       c.loop-index.auto.index-end,
     ) in
-    let length_is = count_of image p slots c.args.self.slot turns (s ∷ before) s h in
+    let length_is = count_of how image p slots c.args.self.slot turns (s ∷ before) s h in
     let further =
     earlier_found _ _
     (s ∷ before) s turns c.into_earlier-earlier.result c.into_earlier-earlier.ensures at
     (search rules) h.turns_are in (
       search rules,
-      subst (λ q. IsLed q s way) h.program
-          (LedAt-last image before slots s k way h.slots_are count
-          (c.loop-index.invariant (s ∷ before) s own)),
-      turn_before p s before c.into_earlier-earlier.result h.walk further,
-      subst (ComesThrough p s) (sym h.slots_are) (came_through p before s h.walk),
+      subst (λ q. IsLed how q s way) h.program
+          (LedAt-last how image before slots s k way h.slots_are count
+          (c.loop-index.invariant how (s ∷ before) s own)),
+      turn_before how p s before c.into_earlier-earlier.result h.walk further,
+      subst (ComesThrough how p s) (sym h.slots_are) (came_through how p before s h.walk),
     )

@@ -1,5 +1,6 @@
 use Rattle.std.proofs.Common.{List}
 use Rattle.stack_state.specs.declared.states.State.{State}
+use Rattle.walks.specs.Forgetting.{Precision}
 use Rattle.listeners.specs.Followed.{HasFollowed}
 use Rattle.listeners.proofs.Following.{LedAt}
 use Rattle.listeners.proofs.explaining.Follower.into_explanation.Given as goal
@@ -7,6 +8,6 @@ use Rattle.listeners.proofs.explaining.Follower.into_explanation.Given as goal
 -- the last jumps lead to the state before that of the index, along any path that was followed
 abbrev pub invariant-loop-index : goal.invariant-loop-index
 invariant-loop-index l =
-    (path : List State) (last : State)
-    → HasFollowed l.self.image.now l.self.slots.items l.self.slot l.self.turns l.self.image.now
-    path last → LedAt l.self.image.now path l.index l.way.items
+    (how : Precision) (path : List State) (last : State)
+    → HasFollowed how l.self.image.now l.self.slots.items l.self.slot l.self.turns l.self.image.now
+    path last → LedAt how l.self.image.now path l.index l.way.items

@@ -2,7 +2,7 @@ use Rattle.std.proofs.Common.{refl}
 use Rattle.listeners.proofs.explaining.Follower.new.Goals as goal
 
 pub returns-clause-nothing : goal.returns-clause-nothing
-returns-clause-nothing c = (
+returns-clause-nothing c = λ how. (
   c.new-2.result.last,
   record {
     program = refl;
