@@ -20,15 +20,6 @@ settled_held p (Some held) (Some left) bytes read settled = ap (table_read p) re
 
 -- ---- texts
 
-abbrev pub SpellsTheSame : Option (List ℕ) → List ℕ → Type 0
-SpellsTheSame source bytes = IfSome source (λ held. assembled held ≡ assembled bytes)
-
-pub settled_text : (old new : Option (List ℕ)) (bytes : List ℕ)
-    → Consumes old new bytes → IsTextSettled bytes → SpellsTheSame old bytes
-settled_text None new bytes read settled = tt
-settled_text (Some held) None bytes read settled = absurd read
-settled_text (Some held) (Some left) bytes read settled = ap assembled read ∙ settled left
-
 -- a text whose front is settled is settled
 pub settled_front : (front bytes : List ℕ) → front ≡ take (length front) bytes
     → IsTextSettled front → IsTextSettled bytes
