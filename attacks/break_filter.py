@@ -146,6 +146,7 @@ def prepare() -> None:
 
 def main() -> None:
     program = common.program("xdpvm_filter")
+    common.need(program)
     given: Counter[tuple[str, str | None]] = Counter()
     with tempfile.TemporaryDirectory() as folder:
         os.chdir(folder)

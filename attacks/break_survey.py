@@ -128,6 +128,7 @@ def prepare() -> None:
 
 def main() -> None:
     program = common.program("xdpvm_survey")
+    common.need(program)
     runs = list(runs_of(os.path.abspath(sys.argv[2]))) if len(sys.argv) > 2 else RUNS
     with tempfile.TemporaryDirectory() as folder:
         os.chdir(folder)

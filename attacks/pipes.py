@@ -24,7 +24,7 @@ import time
 from typing import Optional
 
 sys.path.insert(0, os.path.join(os.path.dirname(os.path.abspath(__file__)), "../checks"))
-from common import TOP, program, write
+from common import TOP, need, program, write
 
 PROGRAM = program()
 IMAGE = os.path.join(TOP, "examples/filter.image")
@@ -192,6 +192,7 @@ def tell_unwatched(folder: str) -> bool:
 
 
 def main() -> int:
+    need(PROGRAM)
     with tempfile.TemporaryDirectory() as folder:
         told = [tell_prompt(folder, command, name) for command in ("run", "trace") for name in ("a pipe", "a named pipe", "a file")]
         told += [tell_slow(), tell_unwatched(folder)]

@@ -30,7 +30,7 @@ import time
 from typing import BinaryIO
 
 sys.path.insert(0, os.path.join(os.path.dirname(os.path.abspath(__file__)), "../checks"))
-from common import CANNOT, TOP, branches, bytes_of, program, there, write
+from common import CANNOT, TOP, branches, bytes_of, need, program, there, write
 
 PROGRAM, SURVEY = program(), program("xdpvm_survey", 2)
 Output = int | BinaryIO  # a file of a command
@@ -215,6 +215,7 @@ def tell(what: str, got: object, wanted: object) -> bool:
 
 
 def main() -> int:
+    need(PROGRAM, SURVEY)
     try:
         reading, terminal = os.openpty()
     except OSError as error:

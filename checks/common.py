@@ -27,6 +27,14 @@ def program(name: str = "xdpvm", at: int = 1) -> str:
     return os.path.abspath(sys.argv[at] if len(sys.argv) > at else built(name))
 
 
+def need(*programs: str) -> None:
+    """Ends with a message where a program is not there."""
+    for path in programs:
+        if not os.access(path, os.X_OK):
+            script = os.path.basename(sys.argv[0])
+            sys.exit(f"{script}: there is no program {path}: give one, or build it as README.md says")
+
+
 def compiler() -> str:
     """The C compiler: the one that CC names, or else one that is installed."""
     return os.environ.get("CC") or shutil.which("cc") or shutil.which("clang") or "cc"

@@ -37,6 +37,15 @@ xdpvm-table --help > help
 xdpvm-expression --help > help
 grep -q "^usage: xdpvm-expression EXPRESSION" help
 xdpvm-kernel --help > help
+# where the kernel can be asked, it runs a capture alike; elsewhere the status is 77
+status=0
+xdpvm-kernel "$top/examples/firewall.text" "$top/examples/firewall.pcapng" > compared 2> said || status=$?
+if [[ $status == 0 ]]; then
+    grep -q '; alike$' compared
+elif [[ $status != 77 ]]; then
+    cat said >&2
+    exit 1
+fi
 [[ ! -e bin/xdpvm-limits && ! -e bin/xdpvm-filter && ! -e bin/frames.py && -s share/xdpvm/docs/GUIDE.md && -s include/xdpvm.h && -s lib/libxdpvm_c.a ]]
 refused bash "$top/install.sh" "$work/wrong" /bin/true
 [[ ! -e $work/wrong ]]

@@ -424,9 +424,7 @@ EXPRESSIONS = (
 
 
 def main() -> int:
-    for path, crate in ((PROGRAM, "xdpvm"), (FILTER, "xdpvm_filter")):
-        if not os.access(path, os.X_OK):
-            sys.exit(f"messages.py: there is no program {path}; `rt run` in crates/{crate} builds it")
+    common.need(PROGRAM, FILTER)
     count = wrong = 0
     with tempfile.TemporaryDirectory() as folder:
         for tried, wanted, found in rows(folder):

@@ -215,24 +215,49 @@ class Messages(unittest.TestCase):
                 self.assertEqual(ran.returncode, 0)
                 self.assertRegex(ran.stdout, r"(?s)usage:.*\nexamples?:\n    .*exit status is ")
 
+    def test_names_are_shown_without_control_characters(self) -> None:
+        name = "x\n\033[31m\x9b.text"
+        for tool, *words in (
+            ("frames", name, "x.frames"),
+            ("image", name, "x.image"),
+            ("filter", "udp", f"none/{name}"),
+            ("table", "show", name),
+            ("object", name, "x.o"),
+            ("xdp", "--xdpvm", sys.executable, name),
+            ("xdp", "--xdpvm", name, "pass.image"),
+            ("survey", "--survey", name, "pass.image"),
+            ("frames", f"--{name}", "a", "b"),
+        ):
+            with self.subTest(tool):
+                said = self.said(os.path.join(HERE, f"{tool}.py"), *words)
+                self.assertIn(r"x\x0a\x1b[31m\x9b.text", said)
+                self.assertNotRegex(said, "[\x00-\x09\x0b-\x1f\x7f-\x9f]")
+
+    def test_the_reason_comes_before_the_usage(self) -> None:
+        for tool in ("frames", "image", "filter", "kernel", "object", "survey", "xdp", "table"):
+            with self.subTest(tool):
+                first, second = self.said(os.path.join(HERE, f"{tool}.py"), "--none").splitlines()[:2]
+                self.assertRegex(first, rf"^{tool}\.py: ")
+                self.assertRegex(second, "^usage: ")
+
     def test_frames(self) -> None:
         tool = os.path.join(HERE, "frames.py")
-        self.assertEqual(self.said(tool, "none.pcap", "x.frames"), "none.pcap: No such file or directory\n")
-        self.assertEqual(self.said(tool, "filters", "x.frames"), "filters: Is a directory\n")
-        self.assertEqual(self.said(tool, "firewall.pcapng", "filters"), "filters: Is a directory\n")
+        self.assertEqual(self.said(tool, "none.pcap", "x.frames"), "none.pcap: no such file or folder\n")
+        self.assertEqual(self.said(tool, "filters", "x.frames"), "filters: it is a folder\n")
+        self.assertEqual(self.said(tool, "firewall.pcapng", "filters"), "filters: it is a folder\n")
         self.assertEqual(
             self.said(tool, "firewall.pcapng", "firewall.pcapng"), "firewall.pcapng: it is one of the files that are read\n"
         )
         for number in ("-1", "4294967296", "x"):
-            self.assertIn("a number from 0 to 4294967295", self.said(tool, "--interface", number, "firewall.pcapng", "x", status=2))
+            self.assertIn("a number from 0 to 4294967295", self.said(tool, "--interface", number, "firewall.pcapng", "x"))
         if os.path.exists("/dev/full"):
-            self.assertEqual(self.said(tool, "firewall.pcapng", "/dev/full"), "/dev/full: No space left on device\n")
+            self.assertEqual(self.said(tool, "firewall.pcapng", "/dev/full"), "/dev/full: no space is left\n")
 
     def test_xdp(self) -> None:
         tool = [os.path.join(HERE, "xdp.py"), "--xdpvm", sys.executable]
         self.assertIn("no.where: OUT has to end in", self.said(*tool, "pass.image", "firewall.pcapng", "no.where"))
-        self.assertEqual(self.said(*tool, "filters"), "xdp.py: filters: Is a directory\n")
-        self.assertEqual(self.said(*tool, "none.text"), "xdp.py: none.text: No such file or directory\n")
+        self.assertEqual(self.said(*tool, "filters"), "xdp.py: filters: it is a folder\n")
+        self.assertEqual(self.said(*tool, "none.text"), "xdp.py: none.text: no such file or folder\n")
         self.assertIn("the filter comes first", self.said(*tool, "firewall.pcapng"))
         self.assertIn("there is no program nowhere", self.said(tool[0], "--xdpvm", "nowhere", "pass.image"))
 
@@ -240,7 +265,7 @@ class Messages(unittest.TestCase):
         tool = os.path.join(HERE, "image.py")
         self.assertEqual(self.said(tool, "pass.image", "x.image"), "pass.image: this is no object file\n")
         self.assertEqual(self.said(tool, "--source", "f.c", "pass.image", "x.image"), "f.c: this is no object file\n")
-        self.assertIn("IMAGE is missing", self.said(tool, "pass.image", status=2))
+        self.assertIn("IMAGE is missing", self.said(tool, "pass.image"))
 
     @unittest.skipUnless(os.path.exists("/proc/self/status"), "there is no /proc")
     def test_a_long_capture_is_a_stream(self) -> None:

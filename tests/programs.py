@@ -17,7 +17,7 @@ from collections.abc import Sequence
 from pathlib import Path
 
 sys.path.insert(0, os.path.join(os.path.dirname(os.path.abspath(__file__)), "../checks"))
-from common import TOP, built, there
+from common import TOP, built, need, there
 
 Field = tuple[str, str, str]  # its line, its name and its text
 STREAMED = ("image", "frames", "out")
@@ -151,6 +151,7 @@ def main() -> None:
     words = [os.path.abspath(it) for it in sys.argv[1:]]
     given = [it for it in words if it.endswith(".cases")]
     program = [it for it in words if it not in given] or [built()]
+    need(*program)
     files = [Path(it) for it in given] or sorted(Path(TOP, "tests/programs").glob("*.cases"))
     cases = [case for path in files for case in cases_of(path)]
     with tempfile.TemporaryDirectory() as folder, concurrent.futures.ThreadPoolExecutor() as pool:

@@ -32,8 +32,9 @@ while [[ $# -gt 0 ]]; do
     esac
     shift
 done
-[[ ${#files[@]} -eq 2 ]] || { usage >&2 && exit 1; }
+[[ ${#files[@]} -eq 2 ]] || { echo "compile.sh: SOURCE.c and IMAGE are wanted" >&2 && usage >&2 && exit 1; }
 source=${files[0]}
+[[ -e $source ]] || { printf 'compile.sh: %q: no such file or folder\n' "$source" >&2 && exit 1; }
 command -v "$clang" > /dev/null || { echo "compile.sh: there is no $clang to compile $source (Debian: apt-get install clang)" >&2 && exit 1; }
 folder=$(mktemp -d)
 trap 'rm -rf "$folder"' EXIT

@@ -8,6 +8,7 @@ import functools
 import struct
 from typing import NamedTuple
 
+from failures import cause
 from objects import Refused
 from type_information import ARRAY, ENUM, ENUM64, INT, STRUCT, UNION, Access, Types
 
@@ -153,7 +154,7 @@ class Kernel:
                 return Types(file.read())
         except OSError as why:
             raise Refused(
-                f"the kernel's type information is needed, and {self.path} cannot be read: {why.strerror} (--btf)"
+                f"the kernel's type information is needed, and {self.path} cannot be read: {cause(why)} (--btf)"
             ) from None
         except (struct.error, IndexError, ValueError):
             raise Refused(f"{self.path} is no type information") from None

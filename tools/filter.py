@@ -32,6 +32,7 @@ from typing import Callable
 
 from classic import Failed, classic_program
 from expressions import TURNS, Options, of_expression, translated
+from failures import Words, end, said
 from inputs import named
 from outputs import IsRead, end_by_signal, write_whole
 from program_text import ACTIONS, SENT
@@ -55,7 +56,7 @@ def number_to(most: int) -> Callable[[str], int]:
 def arguments() -> argparse.Namespace:
     text = named(__doc__ or "")
     usage = text.split("\n\n")[1].removeprefix("usage: ")
-    parser = argparse.ArgumentParser(description=text, usage=usage, formatter_class=argparse.RawDescriptionHelpFormatter)
+    parser = Words(description=text, usage=usage, formatter_class=argparse.RawDescriptionHelpFormatter)
     parser.add_argument("words", nargs="*", help=argparse.SUPPRESS)
     parser.add_argument("--classic", metavar="FILE")
     parser.add_argument("--match", choices=ACTIONS, default="PASS")
@@ -95,9 +96,9 @@ def main() -> int:
         os.dup2(os.open(os.devnull, os.O_WRONLY), 1)
         return 1
     except OSError as why:
-        sys.exit(f"filter.py: {why.filename or 'standard output'}: {why.strerror or why}")
+        end(f"filter.py: {said(why, 'standard output')}")
     except (Failed, IsRead) as why:
-        sys.exit(f"filter.py: {why}")
+        end(f"filter.py: {why}")
     return 0
 
 

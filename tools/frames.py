@@ -51,6 +51,7 @@ from collections.abc import Callable, Iterable, Iterator
 from dataclasses import dataclass
 from typing import Any, NamedTuple, Protocol
 
+from failures import Words, end, said
 from inputs import NoText, named, text_lines
 from outputs import IsRead, Output, end_by_signal
 
@@ -519,7 +520,7 @@ def convert(words: argparse.Namespace, source: Source, met: Met) -> None:
 
 
 def main() -> None:
-    parser = argparse.ArgumentParser(
+    parser = Words(
         description=named(__doc__ or ""),
         formatter_class=argparse.RawDescriptionHelpFormatter,
         usage=named(
@@ -546,13 +547,13 @@ def main() -> None:
         os.dup2(os.open(os.devnull, os.O_WRONLY), 1)
         sys.exit(1)
     except OSError as error:
-        sys.exit(f"{error.filename or path}: {error.strerror or error}")
+        end(f"{said(error, path)}")
     except IsRead as error:
-        sys.exit(f"{error}")
+        end(f"{error}")
     except NoText as why:
-        sys.exit(f"{path}: " + ("it is no pcap, no pcapng, no frame stream and no text" if why.number == 1 else f"{why}"))
+        end(f"{path}: " + ("it is no pcap, no pcapng, no frame stream and no text" if why.number == 1 else f"{why}"))
     except Damaged as error:
-        sys.exit(f"{path}: {error}")
+        end(f"{path}: {error}")
     if met.cut:
         tell(f"{met.cut} frames were cut when they were captured: only those bytes are here")
     if met.ends:

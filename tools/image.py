@@ -37,6 +37,7 @@ from typing import BinaryIO
 
 from core_relocations import Kernel
 from image_link import Image, Linker
+from failures import Words, end, said, tell
 from inputs import named
 from map_files import NotIts, write_beside
 from objects import EXECUTABLE, Object, Refused, Symbol
@@ -133,7 +134,7 @@ def arguments() -> argparse.Namespace:
     """The words of the command line."""
     text = named(__doc__ or "")
     usage = text.split("usage: ")[1].split("\n\n")[0]
-    words = argparse.ArgumentParser(description=text, usage=usage, formatter_class=argparse.RawDescriptionHelpFormatter)
+    words = Words(description=text, usage=usage, formatter_class=argparse.RawDescriptionHelpFormatter)
     words.add_argument("object")
     words.add_argument("image", nargs="?")
     for name in ("section", "program", "source", "btf"):
@@ -160,15 +161,15 @@ def main() -> None:
         image = made(data, Wanted(given.section, given.program, given.btf, given.lru_as_hash))
         write_beside(given.image, bytes_of(image), image.fill, [given.object, given.source, given.btf])
         for note in image.notes:
-            print(f"{given.source or given.object}: {note}", file=sys.stderr)
+            tell(f"{given.source or given.object}: {note}")
     except OSError as why:
-        sys.exit(f"{why.filename or 'standard output'}: {why.strerror or why}")
+        end(f"{said(why, 'standard output')}")
     except (IsRead, NotIts) as why:
-        sys.exit(f"{why}")
+        end(f"{why}")
     except Refused as why:
-        sys.exit(f"{given.source or given.object}: {why}")
+        end(f"{given.source or given.object}: {why}")
     except (struct.error, IndexError, ValueError, KeyError, TypeError):
-        sys.exit(f"{given.source or given.object}: {DAMAGED}")
+        end(f"{given.source or given.object}: {DAMAGED}")
 
 
 if __name__ == "__main__":

@@ -40,11 +40,12 @@ from dataclasses import dataclass
 from pathlib import Path
 
 import sources
+from failures import Words, said, tell
 from inputs import named
 from kernel_calls import LEAST, MOST, Entry, Kernel, NoKernel, parsed, without_perfmon
 from map_files import Filling, filling
 
-HERE = os.path.dirname(os.path.abspath(__file__))
+HERE = os.path.dirname(os.path.realpath(__file__))
 ACTIONS = ["ABORTED", "DROP", "PASS", "TX", "REDIRECT"]
 TIME = 10**9  # in nanoseconds, where both are given the same
 Frame = tuple[int, bytes]  # time and body
@@ -224,7 +225,7 @@ def arguments() -> argparse.Namespace:
     """The words of the command line."""
     words, text = sys.argv[1:], named(__doc__ or "")
     usage = text.split("usage: ")[1].split("\n\n")[0]
-    parser = argparse.ArgumentParser(description=text, usage=usage, formatter_class=argparse.RawDescriptionHelpFormatter)
+    parser = Words(description=text, usage=usage, formatter_class=argparse.RawDescriptionHelpFormatter)
     parser.add_argument("filter", metavar="FILTER")
     parser.add_argument("frames", metavar="FRAMES")
     parser.add_argument("--maps")
@@ -288,23 +289,23 @@ def main() -> int:
     """Compares, and says where that cannot be done; the exit status."""
     given = arguments()
     if not shutil.which(given.xdpvm):
-        print(f"kernel.py: there is no program {given.xdpvm}", file=sys.stderr)
+        tell(f"kernel.py: there is no program {given.xdpvm}; `bash install.sh FOLDER` makes one")
         return 2
     try:
         with tempfile.TemporaryDirectory() as folder:
             return compared(given, folder)
     except NoKernel as error:
-        print(f"kernel.py: {error}: this needs Linux on x86-64 and root", file=sys.stderr)
+        tell(f"kernel.py: {error}: this needs Linux on x86-64 and root")
         return 77
     except sources.TextRefused as refused:
         print(refused.out, end="")
         print(refused.err, end="", file=sys.stderr)
         return 2
     except OSError as error:
-        print(f"kernel.py: {error.filename or given.filter}: {error.strerror or error}", file=sys.stderr)
+        tell(f"kernel.py: {said(error, given.filter)}")
         return 2
     except (sources.Failed, ValueError, struct.error) as error:
-        print(f"kernel.py: {error}", file=sys.stderr)
+        tell(f"kernel.py: {error}")
         return 2
 
 

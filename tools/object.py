@@ -50,6 +50,7 @@ import object_check
 import object_link
 import object_load
 import object_maps
+from failures import Words, end, said
 from inputs import named
 from map_files import NotIts, lines_beside, path_of
 from object_image import Program, Refused, map_names, tags
@@ -217,7 +218,7 @@ def arguments() -> argparse.Namespace:
     """The words of the command line."""
     text = named(__doc__ or "")
     usage = text.split("\n\n")[1].removeprefix("usage: ")
-    words = argparse.ArgumentParser(description=text, usage=usage, formatter_class=argparse.RawDescriptionHelpFormatter)
+    words = Words(description=text, usage=usage, formatter_class=argparse.RawDescriptionHelpFormatter)
     words.add_argument("files", nargs="*", help=argparse.SUPPRESS)
     action = words.add_mutually_exclusive_group()
     for name in ("load", "read", "unload"):
@@ -257,11 +258,11 @@ def main() -> int:
         os.dup2(os.open(os.devnull, os.O_WRONLY), 1)
         return 1
     except OSError as why:
-        sys.exit(f"object.py: {why.filename}: {why.strerror}" if why.filename else f"object.py: {why}")
+        end(f"object.py: {said(why)}")
     except (Failed, NotTaken, NotIts, IsRead) as why:
-        sys.exit(f"object.py: {why}")
+        end(f"object.py: {why}")
     except Refused as why:
-        sys.exit(f"object.py: {why}" if given.fill and str(why).startswith(given.fill) else f"{given.image}: {why}")
+        end(f"object.py: {why}" if given.fill and str(why).startswith(given.fill) else f"{given.image}: {why}")
 
 
 if __name__ == "__main__":

@@ -11,6 +11,7 @@ from dataclasses import dataclass, field
 from typing import Mapping
 
 import image as images
+from failures import tell
 from image_link import Image
 from map_files import NotIts, lines_beside
 from objects import Refused
@@ -173,5 +174,5 @@ def linked(called: str, path: str, choice: Choice) -> Image:
     except Refused as why:
         raise Failed(f"{called}: {why}") from None
     for note in image.notes:
-        print(f"{called}: {note}", file=sys.stderr)
+        tell(f"{called}: {note}")
     return image

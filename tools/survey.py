@@ -32,6 +32,7 @@ from dataclasses import replace
 from typing import Iterator, NamedTuple
 
 from image import chosen, programs
+from failures import Words, end, said, shown
 from inputs import named
 from objects import Object, Refused
 from outputs import end_by_signal
@@ -168,9 +169,9 @@ def show(rows: list[Row], columns: list[str], given: argparse.Namespace) -> None
     if given.format == "csv":
         csv.writer(sys.stdout, lineterminator="\n").writerows(cells)
         return
-    shown = [[cell.encode("unicode_escape").decode() if not cell.isprintable() else cell for cell in row] for row in cells]
-    widths = [max((len(row[at]) for row in shown), default=0) for at in range(len(columns))]
-    for line in shown:
+    table = [[shown(cell) for cell in row] for row in cells]
+    widths = [max((len(row[at]) for row in table), default=0) for at in range(len(columns))]
+    for line in table:
         print("  ".join(cell.ljust(width) for cell, width in zip(line, widths)).rstrip())
 
 
@@ -186,7 +187,7 @@ def arguments() -> argparse.Namespace:
     """The words of the command line."""
     words = sys.argv[1:]
     cut = words.index("--") if "--" in words else len(words)
-    parser = argparse.ArgumentParser(
+    parser = Words(
         description=named(__doc__ or ""),
         formatter_class=argparse.RawDescriptionHelpFormatter,
         usage=named("python3 tools/survey.py FILTER|FOLDER .. [OPTION ..]"),
@@ -212,7 +213,7 @@ def main() -> int:
     given = arguments()
     for program in (given.survey, given.xdpvm):
         if not shutil.which(program):
-            sys.exit(f"survey.py: there is no program {program}; `bash install.sh FOLDER` makes one")
+            end(f"survey.py: there is no program {program}; `bash install.sh FOLDER` makes one")
     end_by_signal()
     choice = Choice(given.xdpvm, clang=given.clang, flags=given.flags, btf=given.btf, lru_as_hash=given.lru_as_hash)
     try:
@@ -235,8 +236,10 @@ def main() -> int:
     except BrokenPipeError:
         os.dup2(os.open(os.devnull, os.O_WRONLY), 1)
         return 1
-    except (Failed, OSError, UnicodeDecodeError) as why:
-        sys.exit(f"survey.py: {why}")
+    except OSError as why:
+        end(f"survey.py: {said(why)}")
+    except (Failed, UnicodeDecodeError) as why:
+        end(f"survey.py: {why}")
 
 
 if __name__ == "__main__":

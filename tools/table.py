@@ -43,6 +43,7 @@ import sys
 from collections.abc import Iterable, Iterator
 from typing import Any, BinaryIO
 
+from failures import end, said, usage_of
 from inputs import NoText, named, text_lines
 from outputs import IsRead, end_by_signal, write_whole
 
@@ -381,7 +382,7 @@ def main(words: list[str]) -> None:
     elif words in (["--help"], ["-h"]):
         print(named(__doc__))
     else:
-        sys.exit(named(__doc__))
+        end(f"table.py: `show TABLE` or `make TEXT TABLE` is wanted\n{usage_of(named(__doc__))}")
 
 
 if __name__ == "__main__":
@@ -393,6 +394,6 @@ if __name__ == "__main__":
         os.dup2(os.open(os.devnull, os.O_WRONLY), 1)
         sys.exit(1)
     except OSError as why:
-        sys.exit(f"table.py: {why.filename or 'standard output'}: {why.strerror or why}")
+        end(f"table.py: {said(why, 'standard output')}")
     except (IsRead, NoText, Refused, Wrong) as why:
-        sys.exit(f"table.py: {why}")
+        end(f"table.py: {why}")

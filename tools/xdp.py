@@ -47,6 +47,7 @@ import tempfile
 from classic import Failed as NotTranslated
 from classic import asks_for_length, classic_program, compiled
 from expressions import Options, translated
+from failures import Words, end, said
 from inputs import named
 from map_files import filling
 from outputs import IsRead, end_by_signal, is_plain, refuse_inputs
@@ -134,7 +135,7 @@ def arguments() -> argparse.Namespace:
     """The words of the command line."""
     words, text = sys.argv[1:], named(__doc__ or "")
     flags = words[words.index("--") + 1 :] if "--" in words else []
-    parser = argparse.ArgumentParser(
+    parser = Words(
         description=text,
         usage=text.split("usage: ")[1].split("\n\n")[0],
         formatter_class=argparse.RawDescriptionHelpFormatter,
@@ -204,7 +205,7 @@ def main() -> int:
     """Tries the filter; the exit status."""
     given = arguments()
     if not shutil.which(given.xdpvm):
-        sys.exit(f"xdp.py: there is no program {given.xdpvm}; `bash install.sh FOLDER` makes one")
+        end(f"xdp.py: there is no program {given.xdpvm}; `bash install.sh FOLDER` makes one")
     end_by_signal()
     try:
         judge_files(given)
@@ -217,9 +218,9 @@ def main() -> int:
         os.dup2(os.open(os.devnull, os.O_WRONLY), 1)
         return 1
     except OSError as why:
-        sys.exit(f"xdp.py: {why.filename}: {why.strerror}" if why.filename else f"xdp.py: {why}")
+        end(f"xdp.py: {said(why)}")
     except (Failed, NotTranslated, IsRead, struct.error) as why:
-        sys.exit(f"xdp.py: {why}")
+        end(f"xdp.py: {why}")
 
 
 if __name__ == "__main__":
