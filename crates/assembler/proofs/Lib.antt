@@ -27,3 +27,7 @@ pub mod SpellsTexts
 pub mod SpellsTokens
 pub mod SettledTexts
 pub mod PassedLexemes
+pub mod ShiftedOffsets
+pub mod FrontLaws
+pub mod PositionLaws
+pub mod IdleParts

@@ -1,5 +1,5 @@
 -- Lines of loads, stores and atomic instructions are read as their instructions.
-use Rattle.std.proofs.Common.{◌≡◌, ◌<◌, List, [], ◌∷◌, ◌++◌, drop, refl, ap, ◌∙◌, append_assoc, lit<}
+use Rattle.std.proofs.Common.{◌≡◌, List, [], ◌∷◌, ◌++◌, drop, refl, ap, ◌∙◌, append_assoc, lit<}
 use Rattle.std.specs.Prelude.{codes, true, false, ℤ, pos, negsuc}
 use Rattle.std.specs.Int.{w16, w32}
 use Rattle.std.specs.Int.RustNames.{FitsSigned}

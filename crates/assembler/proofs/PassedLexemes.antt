@@ -9,7 +9,8 @@ use Rattle.assembler.specs.Assembling.{ReadSoFar, read_on}
 use Rattle.assembler.specs.Drafts.{ChangesNothing}
 use Rattle.assembler.proofs.LongStatements.{pushed-full}
 use Rattle.assembler.proofs.ReadingLoop.{loop_turn-taken}
-use Rattle.assembler.proofs.SettledTexts.{GoesOn, goes-on}
+use Rattle.assembler.specs.Fronts.{GoesOn}
+use Rattle.assembler.proofs.SettledTexts.{goes-on}
 
 -- a space or a tab
 pub blank-passes : (s : ReadSoFar) (bs : List ℕ) (b : ℕ) → Some b ≡ slice_get bs 0

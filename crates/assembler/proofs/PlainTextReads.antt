@@ -17,7 +17,7 @@ use Rattle.assembler.specs.Naming.{NameUse}
 use Rattle.assembler.specs.Assembling.{ReadSoFar, TokenSpan, at_end, accept, read_on}
 use Rattle.assembler.proofs.PlainTexts.{plain_statement, added, added_row, added_version}
 use Rattle.assembler.proofs.PlainTexts as plain
-use Rattle.assembler.proofs.PlainReads.{none, version-agrees, same_some, ReadsPlainly, shadow, row-agrees, never, Bare, statement-agrees}
+use Rattle.assembler.proofs.PlainReads.{version-agrees, same_some, ReadsPlainly, shadow, row-agrees, never, Bare, statement-agrees}
 
 -- ---- the end of any statement
 

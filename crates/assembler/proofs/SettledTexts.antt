@@ -28,6 +28,7 @@ use Rattle.assembler.specs.Positions.{line_behind, column_behind}
 use Rattle.assembler.specs.Assembling.{TokenSpan, ReadSoFar, start, offset_or, begins_at, refused_at, unless_wrong, unless_refused, with_insn, with_use, name_span, added, named_by, named, is_first, ended, at_end, read_on, error_in, program_in, assembled, finished}
 use Rattle.assembler.specs.Drafts.{accept_short, shortened, pushed, cut}
 use Rattle.assembler.specs.Settled.{IsTextSettled}
+use Rattle.assembler.specs.Fronts.{GoesOn}
 use Rattle.assembler.proofs.ReadingLoop.{loop_turn-none, loop_turn-refused, loop_turn-taken}
 
 -- ---- where a statement is refused: at one of its tokens, or at the start of the text
@@ -167,10 +168,6 @@ accept-within m s End span h g = at_end-within m s h
 accept-within m s (Solid t) span h g = solid-within m s t span h g
 
 -- ---- texts that are settled
-
-abbrev pub GoesOn : List ℕ → List ℕ → ℕ → ReadSoFar → Type 0
-GoesOn text rest at s =
-    (more : List ℕ) → read_on (text ++ more) 0 0 start ≡ read_on (rest ++ more) 0 at s
 
 abbrev refused : Refusal → Result ReadSoFar Refusal
 refused e = Err e

@@ -12,3 +12,5 @@ pub mod Spells
 pub mod Hints
 pub mod Shown
 pub mod Settled
+pub mod Fronts
+pub mod Gaps

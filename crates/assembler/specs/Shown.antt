@@ -1,5 +1,5 @@
 -- The line in which a text is refused, and a caret under the column.
-use Rattle.std.specs.Prelude.{ℕ, zero, suc, ◌-◌, ◌==◌, nat_le, nat_lt, Bool, ◌&&◌, ◌||◌, List, [], ◌++◌, map, length, take, drop, codes, if◌then◌else◌}
+use Rattle.std.specs.Prelude.{ℕ, zero, suc, ◌-◌, ◌==◌, nat_le, nat_lt, ◌&&◌, ◌||◌, List, [], ◌++◌, map, length, take, drop, codes, if◌then◌else◌}
 use Rattle.std.specs.List.{prefix_len}
 use Rattle.lexer.specs.Lexing.{is_line_byte}
 use Rattle.assembler.specs.declared.errors.AsmError.{AsmError}

@@ -11,6 +11,8 @@ mod assignments;
 mod code;
 mod draft;
 pub mod errors;
+mod fronts;
+mod gaps;
 mod hints;
 mod map_lines;
 mod map_tests;
@@ -26,5 +28,6 @@ mod wrong;
 
 pub use assembly::assemble;
 pub use errors::{AsmError, AsmErrorKind};
+pub use gaps::{Gap, IdlePart, idle_part};
 pub use settling::is_text_settled;
 pub use showing::shown;

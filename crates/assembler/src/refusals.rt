@@ -12,7 +12,7 @@ pub struct Refusal {
     pub offset: usize,
 }
 
-fn line_behind(front: &[u8]) -> usize
+pub fn line_behind(front: &[u8]) -> usize
     ensures { result ≡ line_behind front.now }
 {
     let mut line: usize = 1;
@@ -25,7 +25,7 @@ fn line_behind(front: &[u8]) -> usize
 }
 
 #[tactic(auto, using(crate::proofs::ColumnCounts::columns))]
-fn column_behind(front: &[u8]) -> usize
+pub fn column_behind(front: &[u8]) -> usize
     ensures { result ≡ column_behind front.now }
 {
     let mut column: usize = 1;

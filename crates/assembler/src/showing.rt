@@ -13,7 +13,7 @@ use std::alloc::{AllocError, Global};
 const MAX_SHOWN: usize = 160;
 
 /// The most bytes on each side of a column that a hint looks at.
-const MAX_SEARCHED: usize = 1024;
+pub const MAX_SEARCHED: usize = 1024;
 
 // What follows the first line feed.
 fn after_line(text: &[u8]) -> &[u8]

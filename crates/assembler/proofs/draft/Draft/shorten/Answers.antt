@@ -2,7 +2,6 @@ use Rattle.std.proofs.Common.{◌≡◌, ◌<◌, List, ap, ap₂, ◌∙◌, sy
 use Rattle.std.proofs.lemmas.List.{take-map}
 use Rattle.lexer.specs.declared.tokens.Token.{Token}
 use Rattle.assembler.specs.declared.draft.Span.{Span}
-use Rattle.assembler.specs.Assembling.{TokenSpan}
 use Rattle.assembler.specs.Drafts.{span_of, progress_of, with_statement}
 use Rattle.assembler.proofs.LongStatements.{shortened-long}
 use Rattle.assembler.proofs.draft.Draft.shorten.Goals as goal
