@@ -335,7 +335,7 @@ def rows(folder: str) -> Iterator[Row]:
 
 
 def expressions() -> Iterator[Row]:
-    """What filter.py says, and what xdp.py says of an expression: with a tcpdump that refuses, or without any."""
+    """What the tools say of files and words, and filter.py and xdp.py of an expression: with a tcpdump that refuses, or without."""
     path = os.environ["PATH"]
     for words, given, line in EXPRESSIONS:
         with tempfile.TemporaryDirectory() as folder:
@@ -350,14 +350,15 @@ def expressions() -> Iterator[Row]:
                 ran = subprocess.run([sys.executable, tool, *words[1:]], input=given, capture_output=True, text=True, check=False)
             finally:
                 os.environ["PATH"] = path
-        yield words, (line, ""), (ran.stderr.splitlines()[-1], "")
+        said = ran.stderr.splitlines()
+        yield words, (line, ""), (said[0 if "\nusage: " in ran.stderr else -1], "")
 
 
 CLASSIC = ("filter", "--classic", "-")
 ON_CUT = ("xdp", "--xdpvm", PROGRAM, "-e", "an expression", "FOLDER/cut.pcap")
 CUT = struct.pack("<IHHiIIIIIII", 0xA1B2C3D4, 2, 4, 0, 0, 65535, 1, 1, 1, 20, 100) + bytes(20)  # 20 of 100 bytes
 # What filter.py or xdp.py is asked for, with what is on its standard input (a tcpdump that refuses says a line that begins
-# with its name; one for xdp.py says a classic program), and the last line of standard error.
+# with its name; one for xdp.py says a classic program), and the last line of standard error, or what comes before the usage.
 EXPRESSIONS = (
     (
         ("filter", "udp prt 53"),
@@ -412,14 +413,19 @@ EXPRESSIONS = (
         "filter.py: the tag that a card has removed is not known here: compile without an interface",
     ),
     (CLASSIC, "2\n48 0 0 4294963201\n22 0 0 0\n", "filter.py: instruction 0 asks the kernel for field 1"),
-    (("filter",), "", "filter.py: error: one EXPRESSION is wanted, in quotes, or --classic FILE, and then at most one TEXT"),
+    (("filter",), "", "filter.py: one EXPRESSION is wanted, in quotes, or --classic FILE, and then at most one TEXT"),
     (
         ("filter", "--reason", "7", "--other", "TX", "ip"),
         "",
-        "filter.py: error: --reason says why a frame is dropped, and --other sends it on",
+        "filter.py: --reason says why a frame is dropped, and --other sends it on",
     ),
-    (("filter", "--turns", "1153", "ip"), "", "filter.py: error: argument --turns: '1153': a number from 0 to 1152 is wanted"),
-    (("filter", "--classic", "/nowhere/it"), "", "filter.py: /nowhere/it: No such file or directory"),
+    (("filter", "--turns", "1153", "ip"), "", "filter.py: argument --turns: '1153': a number from 0 to 1152 is wanted"),
+    (("filter", "--classic", "/nowhere/it"), "", "filter.py: /nowhere/it: no such file or folder"),
+    (("frames", "/nowhere/it", "it"), "", "/nowhere/it: no such file or folder"),
+    (("image", "/nowhere/\033[31m\nit", "it"), "", r"/nowhere/\x1b[31m\x0ait: no such file or folder"),
+    (("object", TOP, "it"), "", f"object.py: {TOP}: it is a folder"),
+    (("table", "show"), "", "table.py: `show TABLE` or `make TEXT TABLE` is wanted"),
+    (("frames", "it"), "", "frames.py: --show takes one file, and else there are two"),
 )
 
 
