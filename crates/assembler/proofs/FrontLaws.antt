@@ -5,7 +5,7 @@ use Rattle.lexer.specs.declared.tokens.Lexeme.{Lexeme}
 use Rattle.assembler.specs.declared.refusals.Refusal.{Refusal}
 use Rattle.assembler.specs.Assembling.{ReadSoFar, start, read_on}
 use Rattle.assembler.specs.Drafts.{accept_short, ChangesNothing}
-use Rattle.assembler.specs.Fronts.{shifted, IsBelow, GoesOn}
+use Rattle.assembler.specs.Fronts.{shifted, IsBelow, ReadsOn}
 use Rattle.assembler.proofs.ShiftedOffsets.{onward, accept_short-shifted}
 use Rattle.assembler.proofs.PassedLexemes.{goes-on-passed}
 
@@ -28,9 +28,6 @@ ends-next text rest n few ends less =
     ∙ ap (drop (n - 1)) (sym (drop-drop 1 at text) ∙ ap (drop 1) ends)
 
 -- ---- offsets
-
-pub below-start : IsBelow 0 start
-below-start f fixes = refl
 
 pub below-more : (n m : ℕ) (s : ReadSoFar) → IsBelow n s → n ≤ m → IsBelow m s
 below-more n m s below more f fixes = below f (λ o h. fixes o (omega (arith, h, more)))
@@ -55,8 +52,8 @@ below-taken n m s t x bytes below more accepted f fixes =
 -- ---- a text whose first bytes were read
 
 pub goes-on-whole : (text rest : List ℕ) (g from : ℕ) (s : ReadSoFar)
-    → GoesOn (take g text) rest from s → drop from (take g text) ≡ rest
-    → from ≤ length (take g text) → GoesOn text (drop from text) from s
+    → ReadsOn (take g text) rest from s → drop from (take g text) ≡ rest
+    → from ≤ length (take g text) → ReadsOn text (drop from text) from s
 goes-on-whole text rest g from s on ends within more =
     let whole : take g text ++ drop g text ≡ text = take-append-drop g text in
     let left : drop from text ≡ rest ++ drop g text =
@@ -73,10 +70,10 @@ goes-on-whole text rest g from s on ends within more =
 
 -- what is left after one more of them
 pub onward-passed : (text rest left : List ℕ) (from n : ℕ) (s : ReadSoFar)
-    → (GoesOn text (drop from text) from s → GoesOn text rest (length text - length rest) s)
+    → (ReadsOn text (drop from text) from s → ReadsOn text rest (length text - length rest) s)
     → length rest ≤ length text - from → drop (length text - length rest) text ≡ rest
     → 4 ≤ length rest → n < length rest → ChangesNothing s rest n → left ≡ next rest n
-    → (GoesOn text (drop from text) from s → GoesOn text left (length text - length left) s)
+    → (ReadsOn text (drop from text) from s → ReadsOn text left (length text - length left) s)
     × (length left ≤ length text - from)
     × (drop (length text - length left) text ≡ left)
 onward-passed text rest left from n s on few ends some less passed is =
@@ -85,7 +82,7 @@ onward-passed text rest left from n s on few ends some less passed is =
     let size : length (next rest n) ≡ length (drop 1 rest) - (n - 1) =
     length-drop (n - 1) (drop 1 rest) in
     let shorter : length left ≤ length rest = omega (arith, ap length is, one, size) in (
-      λ h. subst (λ (r : List ℕ). GoesOn text r (length text - length r) s) (sym is)
+      λ h. subst (λ (r : List ℕ). ReadsOn text r (length text - length r) s) (sym is)
           (goes-on-passed text rest s n (on h) some within less passed),
       omega (arith, shorter, few),
       subst (λ (r : List ℕ). drop (length text - length r) text ≡ r) (sym is)
@@ -94,9 +91,9 @@ onward-passed text rest left from n s on few ends some less passed is =
 
 -- the offset of what is left
 pub goes-on-there : (text left : List ℕ) (at : ℕ) (s : ReadSoFar)
-    → GoesOn text left (length text - length left) s
+    → ReadsOn text left (length text - length left) s
     → drop (length text - length left) text ≡ left → at ≡ length text - length left
-    → GoesOn text (drop at text) at s
+    → ReadsOn text (drop at text) at s
 goes-on-there text left at s on ends is =
-    subst (λ (k : ℕ). GoesOn text (drop k text) k s) (sym is)
-    (subst (λ (r : List ℕ). GoesOn text r (length text - length left) s) (sym ends) on)
+    subst (λ (k : ℕ). ReadsOn text (drop k text) k s) (sym is)
+    (subst (λ (r : List ℕ). ReadsOn text r (length text - length left) s) (sym ends) on)

@@ -7,7 +7,7 @@ use Rattle.isa_model.specs.Code.Instructions.{Program}
 use Rattle.assembler.specs.declared.refusals.Refusal.{Refusal}
 use Rattle.assembler.specs.declared.errors.AsmError.{AsmError}
 use Rattle.assembler.specs.Assembling.{ReadSoFar, start, read_on, program_in, error_in, assembled}
-use Rattle.assembler.specs.Fronts.{shifted, IsBelow, GoesOn}
+use Rattle.assembler.specs.Fronts.{shifted, IsBelow, ReadsOn}
 use Rattle.assembler.specs.Gaps.{without, gap_of, in_place, IsIdle}
 use Rattle.assembler.proofs.ShiftedOffsets.{alike, onward, read_on-shifted, program-shifted}
 use Rattle.assembler.proofs.PositionLaws.{moved, error-placed}
@@ -56,7 +56,7 @@ joined text rest more g from to less few ends same =
     ∙ append_assoc (take g text) tail more
 
 kept-goes-on : (text rest more : List ℕ) (g from to : ℕ) (s : ReadSoFar) → from ≤ g
-    → g ≤ length text → GoesOn (take g text) rest from s → drop from (take g text) ≡ rest
+    → g ≤ length text → ReadsOn (take g text) rest from s → drop from (take g text) ≡ rest
     → take (length rest) (drop to text) ≡ rest
     → read_on (without from to text ++ more) 0 0 start ≡ read_on (drop to text ++ more) 0 from s
 kept-goes-on text rest more g from to s less few on ends same =
@@ -71,8 +71,8 @@ kept-goes-on text rest more g from to s less few on ends same =
 
 pub idle : (text rest : List ℕ) (g from to : ℕ) (s : ReadSoFar) → 0 < from → from ≤ g
     → g ≤ length text → from ≤ to → to ≤ length text
-    → GoesOn (take g text) rest from s → drop from (take g text) ≡ rest → IsBelow from s
-    → GoesOn text (drop to text) to s → take (length rest) (drop to text) ≡ rest
+    → ReadsOn (take g text) rest from s → drop from (take g text) ≡ rest → IsBelow from s
+    → ReadsOn text (drop to text) to s → take (length rest) (drop to text) ≡ rest
     → IsIdle from to text
 unfolding assembled
 idle text rest g from to s some less few before last on ends below onwards same more =

@@ -9,7 +9,7 @@ use Rattle.assembler.specs.Assembling.{ReadSoFar, read_on}
 use Rattle.assembler.specs.Drafts.{ChangesNothing}
 use Rattle.assembler.proofs.LongStatements.{pushed-full}
 use Rattle.assembler.proofs.ReadingLoop.{loop_turn-taken}
-use Rattle.assembler.specs.Fronts.{GoesOn}
+use Rattle.assembler.specs.Fronts.{ReadsOn}
 use Rattle.assembler.proofs.SettledTexts.{goes-on}
 
 -- a space or a tab
@@ -45,9 +45,9 @@ loop_turn-passed bs all s n more few (x, found, same) =
 
 -- and so does the loop over the first bytes of it
 pub goes-on-passed : (front rest : List ℕ) (s : ReadSoFar) (n : ℕ)
-    → GoesOn front rest (length front - length rest) s → 4 ≤ length rest
+    → ReadsOn front rest (length front - length rest) s → 4 ≤ length rest
     → length rest ≤ length front → n < length rest → ChangesNothing s rest n
-    → GoesOn front (drop (n - 1) (drop 1 rest))
+    → ReadsOn front (drop (n - 1) (drop 1 rest))
     (length front - length (drop (n - 1) (drop 1 rest))) s
 goes-on-passed front rest s n on some few less (x, found, same) =
     goes-on front rest s x n s on some few less found

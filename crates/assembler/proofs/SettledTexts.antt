@@ -28,7 +28,7 @@ use Rattle.assembler.specs.Positions.{line_behind, column_behind}
 use Rattle.assembler.specs.Assembling.{TokenSpan, ReadSoFar, start, offset_or, begins_at, refused_at, unless_wrong, unless_refused, with_insn, with_use, name_span, added, named_by, named, is_first, ended, at_end, read_on, error_in, program_in, assembled, finished}
 use Rattle.assembler.specs.Drafts.{accept_short, shortened, pushed, cut}
 use Rattle.assembler.specs.Settled.{IsTextSettled}
-use Rattle.assembler.specs.Fronts.{GoesOn}
+use Rattle.assembler.specs.Fronts.{ReadsOn}
 use Rattle.assembler.proofs.ReadingLoop.{loop_turn-none, loop_turn-refused, loop_turn-taken}
 
 -- ---- where a statement is refused: at one of its tokens, or at the start of the text
@@ -222,7 +222,7 @@ accepted_alike rest more x n at s r less accepted =
 
 -- there is no lexeme
 pub settled-none : (front rest : List ℕ) (s : ReadSoFar)
-    → GoesOn front rest (length front - length rest) s → 4 ≤ length rest
+    → ReadsOn front rest (length front - length rest) s → 4 ≤ length rest
     → length rest ≤ length front → lexeme_at rest ≡ None → IsTextSettled front
 settled-none front rest s on some few none =
     let at = length front - length rest in
@@ -238,7 +238,7 @@ settled-none front rest s on some few none =
 
 -- the statement ends there and is refused
 pub settled-refused : (front rest : List ℕ) (s : ReadSoFar) (x : Lexeme) (n : ℕ) (e : Refusal)
-    → GoesOn front rest (length front - length rest) s → BeginsWithin (length front) s.spans
+    → ReadsOn front rest (length front - length rest) s → BeginsWithin (length front) s.spans
     → 4 ≤ length rest → n < length rest → lexeme_at rest ≡ Some (x, n)
     → accept_short s x (length front - length rest, take n rest) ≡ Err e → IsTextSettled front
 settled-refused front rest s x n e on within some less found accepted =
@@ -264,10 +264,10 @@ next-append rest more n less =
 
 -- the lexeme is accepted, and the loop goes on
 pub goes-on : (front rest : List ℕ) (s : ReadSoFar) (x : Lexeme) (n : ℕ) (t : ReadSoFar)
-    → GoesOn front rest (length front - length rest) s → 4 ≤ length rest
+    → ReadsOn front rest (length front - length rest) s → 4 ≤ length rest
     → length rest ≤ length front → n < length rest → lexeme_at rest ≡ Some (x, n)
     → accept_short s x (length front - length rest, take n rest) ≡ Ok t
-    → GoesOn front (next rest n) (length front - length (next rest n)) t
+    → ReadsOn front (next rest n) (length front - length (next rest n)) t
 goes-on front rest s x n t on some few less found accepted more =
     let at = length front - length rest in
     let all = length (front ++ more) in

@@ -35,13 +35,13 @@ IsBelow n s = (f : ℕ → ℕ) → Fixes f n → shifted f s ≡ s
 -- ---- the front of a text
 
 -- however the text goes on, what is left of it is read from there on in this state
-abbrev pub GoesOn : List ℕ → List ℕ → ℕ → ReadSoFar → Type 0
-GoesOn text rest at s =
+abbrev pub ReadsOn : List ℕ → List ℕ → ℕ → ReadSoFar → Type 0
+ReadsOn text rest at s =
     (more : List ℕ) → read_on (text ++ more) 0 0 start ≡ read_on (rest ++ more) 0 at s
 
 -- what is left of a text after the lexemes that surely end in it
-pub record IsFront (text rest : List ℕ) (s : ReadSoFar) : Type 0 where
-  pub goes_on : GoesOn text rest (length text - length rest) s
+pub record IsTextFront (text rest : List ℕ) (s : ReadSoFar) : Type 0 where
+  pub goes_on : ReadsOn text rest (length text - length rest) s
   pub is_beginning : (length rest < 4) ⊎ TakesAll (lexeme_at rest) (length rest)
   pub few : length rest ≤ length text
   pub ends : drop (length text - length rest) text ≡ rest

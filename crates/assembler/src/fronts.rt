@@ -3,7 +3,7 @@
 ghost use Rattle.std.specs.Prelude.{◌≡◌, ◌≢◌, ◌≤◌, ◌⊎◌, IfOk, IfErr, IsTrue, length, drop, take};
 ghost use Rattle.assembler.specs.declared.errors.AsmErrorKind.TheVariants as AsmErrorKind;
 ghost use Rattle.assembler.specs.Settled.{IsTextSettled};
-ghost use Rattle.assembler.specs.Fronts.{GoesOn, IsFront};
+ghost use Rattle.assembler.specs.Fronts.{ReadsOn, IsTextFront};
 ghost use Rattle.assembler.specs.Drafts.{progress_of};
 
 use super::assembly::after;
@@ -27,7 +27,7 @@ pub struct Front<'a> {
 pub fn read_front<'a>(alloc: Global, bytes: &'a [u8]) -> Result<Front<'a>, Refusal>
     ensures settled { IfErr result
         (λ e. e.kind ≢ AsmErrorKind.Memory → IsTextSettled bytes.now) }
-    ensures front { IfOk result (λ f. IsFront bytes.now f.rest.now (progress_of f.draft)) }
+    ensures front { IfOk result (λ f. IsTextFront bytes.now f.rest.now (progress_of f.draft)) }
 {
     let mut draft = Draft::new(alloc);
     let mut rest = bytes;
@@ -87,8 +87,8 @@ fn begins_with(bytes: &[u8], start: &[u8]) -> bool
 /// first one, a line begins at this.
 pub fn idle_end(draft: &Draft<'_>, text: &[u8], from: usize, start: &[u8]) -> usize
     requires { from ≤ length text.now }
-    ensures idle { GoesOn text.now (drop from text.now) from (progress_of draft.now)
-        → GoesOn text.now (drop result text.now) result (progress_of draft.now) }
+    ensures idle { ReadsOn text.now (drop from text.now) from (progress_of draft.now)
+        → ReadsOn text.now (drop result text.now) result (progress_of draft.now) }
     ensures after { from ≤ result }
     ensures within { result ≤ length text.now }
     ensures alike { (result ≡ from)

@@ -3,7 +3,7 @@ use Rattle.lexer.specs.declared.tokens.Lexeme.{Lexeme}
 use Rattle.lexer.specs.Lexing.{lexeme_at}
 use Rattle.assembler.specs.Drafts.{progress_of, accept_short}
 use Rattle.assembler.specs.Settled.{TakesAll}
-use Rattle.assembler.specs.Fronts.{GoesOn, IsBelow}
+use Rattle.assembler.specs.Fronts.{ReadsOn, IsBelow}
 use Rattle.assembler.proofs.SettledTexts.{settled-none, settled-refused, goes-on, stays-within}
 use Rattle.assembler.proofs.PassedLexemes.{goes-on-passed}
 use Rattle.assembler.proofs.FrontLaws.{ends-next, below-more, below-taken}
@@ -58,7 +58,7 @@ loop-rest-preserved c =
     let smaller : length (next rest n) < length rest =
     subst (λ (r : List ℕ). length r < length rest) left shorter in
     record {
-      goes_on = subst (λ (r : List ℕ). GoesOn front r (length front - length r) t) (sym left)
+      goes_on = subst (λ (r : List ℕ). ReadsOn front r (length front - length r) t) (sym left)
           (goes-on front rest s x n t c.loop-rest.invariant.goes_on some few less found accepted);
       within = stays-within (length front) s x (length front - length rest, take n rest) t
           c.loop-rest.invariant.within (omega arith) accepted;
@@ -84,7 +84,7 @@ loop-rest-preserved-then-len-rest c =
     let smaller : length (next rest n) < length rest =
     subst (λ (r : List ℕ). length r < length rest) left shorter in
     record {
-      goes_on = subst (λ (r : List ℕ). GoesOn front r (length front - length r) s) (sym left)
+      goes_on = subst (λ (r : List ℕ). ReadsOn front r (length front - length r) s) (sym left)
           (goes-on-passed front rest s n c.loop-rest.invariant.goes_on some few less
           c.in-Some.ensures);
       within = c.loop-rest.invariant.within;

@@ -1,12 +1,12 @@
 use Rattle.std.proofs.Common.{◌≡◌, ◌≤◌, ◌-◌, length, drop}
 use Rattle.assembler.specs.Drafts.{progress_of}
-use Rattle.assembler.specs.Fronts.{GoesOn, IsBelow}
+use Rattle.assembler.specs.Fronts.{ReadsOn, IsBelow}
 use Rattle.assembler.proofs.SettledTexts.{BeginsWithin}
 use Rattle.assembler.proofs.fronts.read_front.Given as goal
 
 abbrev pub invariant-loop-rest : goal.invariant-loop-rest
 invariant-loop-rest l = record {
-  goes_on : GoesOn l.bytes l.rest (length l.bytes - length l.rest) (progress_of l.draft);
+  goes_on : ReadsOn l.bytes l.rest (length l.bytes - length l.rest) (progress_of l.draft);
   within : BeginsWithin (length l.bytes) (progress_of l.draft).spans;
   few : length l.rest ≤ length l.bytes;
   ends : drop (length l.bytes - length l.rest) l.bytes ≡ l.rest;

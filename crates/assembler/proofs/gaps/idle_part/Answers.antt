@@ -1,7 +1,7 @@
 use Rattle.std.proofs.Common.{◌≡◌, ◌<◌, ◌≤◌, ◌-◌, ◌∙◌, ap, sym, subst, length, drop, take, arith, inl, inr}
 use Rattle.std.proofs.lemmas.List.{length-take-le}
 use Rattle.assembler.specs.Drafts.{progress_of}
-use Rattle.assembler.specs.Fronts.{GoesOn, IsBelow, IsFront}
+use Rattle.assembler.specs.Fronts.{ReadsOn, IsBelow, IsTextFront}
 use Rattle.assembler.proofs.FrontLaws.{goes-on-whole}
 use Rattle.assembler.proofs.IdleParts.{idle}
 use Rattle.assembler.proofs.gaps.idle_part.Goals as goal
@@ -16,16 +16,16 @@ returns-then-keeps_hints-clause-idle c =
     let to = c.idle_end-to.result in
     let few : g ≤ length text = c.enough_bytes.ensures in
     let size : length (take g text) ≡ g = length-take-le g text few in
-    let front : IsFront (take g text) rest s = c.in-Ok.ensures.front in
+    let front : IsTextFront (take g text) rest s = c.in-Ok.ensures.front in
     let here : from ≡ length (take g text) - length rest =
     c.saturating_sub-from.ensures in
-    let on : GoesOn (take g text) rest from s =
-    subst (λ k. GoesOn (take g text) rest k s) (sym here) front.goes_on in
+    let on : ReadsOn (take g text) rest from s =
+    subst (λ k. ReadsOn (take g text) rest k s) (sym here) front.goes_on in
     let ends : drop from (take g text) ≡ rest =
     ap (λ k. drop k (take g text)) here ∙ front.ends in
     let below : IsBelow from s = subst (λ k. IsBelow k s) (sym here) front.below in
     let first : from ≤ g = omega (arith, here, size) in
-    let whole : GoesOn text (drop from text) from s =
+    let whole : ReadsOn text (drop from text) from s =
     goes-on-whole text rest g from s on ends (omega (arith, first, size)) in
     let far : from < to = omega arith in
     elim c.idle_end-to.ensures.alike [
