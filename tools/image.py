@@ -31,7 +31,6 @@ The exit status is 0, or 1 with a message; then no image is written.
 """
 import argparse
 import struct
-import sys
 from dataclasses import dataclass
 from typing import BinaryIO
 
