@@ -1,16 +1,17 @@
 #!/usr/bin/env python3
 """Inputs without an end, or of terabytes, are refused at their first bytes.
 
-usage: python3 attacks/endless.py [PROGRAM [SURVEY]]
+usage: python3 attacks/endless.py [PROGRAM [SURVEY [FILTER]]]
 
 Proof tables, program texts and earlier surveys that are devices without an end, or files of
 terabytes on no disk, or a right one with such bytes behind it: each has to be refused as the bytes
-at its beginning are, within a second of the processor and 64 MB. So is a text of 100 MB that its
-beginning decides, from a file, a pipe and standard input. One that only its end decides is read and
-kept as a whole: it may take 64 MB more than its size, and a few seconds. A comparison with an earlier
-survey of 36 MB may take three times as much. PROGRAM and SURVEY are the programs
-that `rt run` leaves in crates/xdpvm and crates/xdpvm_survey (the default: those in out/ there). The
-exit status is 0 if it is so, and 1 if not.
+at its beginning are, within a second of the processor and 64 MB. So is a text of 100 MB, from a file,
+a pipe and standard input: its beginning decides it, or bytes that change nothing are not kept. A word,
+a number or a comment of 100 MB is kept as a whole: it may take 64 MB more than its size, and a few
+seconds. 100 MB of brackets in place of an image, a table, frames, an earlier survey or a text of maps
+are refused at once. A comparison with an earlier survey of 36 MB may take three times as much. PROGRAM,
+SURVEY and FILTER are the programs that `rt run` leaves in crates/xdpvm, crates/xdpvm_survey and
+crates/xdpvm_filter (the default: those in out/ there). The exit status is 0 if it is so, and 1 if not.
 """
 import os
 import subprocess
@@ -18,12 +19,12 @@ import sys
 import tempfile
 import threading
 from collections.abc import Iterator
-from typing import BinaryIO
+from typing import BinaryIO, NamedTuple
 
 sys.path.insert(0, os.path.join(os.path.dirname(os.path.abspath(__file__)), "../checks"))
-from common import TOP, Ended, bytes_of, measured, program
+from common import TOP, Ended, bytes_of, measured, need, program
 
-PROGRAM, SURVEY = program(), program("xdpvm_survey", 2)
+PROGRAM, SURVEY, FILTER = program(), program("xdpvm_survey", 2), program("xdpvm_filter", 3)
 IMAGE = os.path.join(TOP, "examples/filter.image")
 FRAMES = os.path.join(TOP, "examples/numbers.frames")
 Given = int | BinaryIO  # what a command has as standard input
@@ -32,6 +33,9 @@ TERABYTES = 1 << 42
 MEMORY = 64 * 1024
 SECONDS = 1
 LONGEST = 60
+# A text of 100 MB takes less than a second of a quiet core, and up to two where all cores share their caches with other work.
+BUSY = 2
+TRIES = 3
 # A text that is read as a whole: its bytes, and at most so many seconds.
 LONG = 100_000_000
 WHOLE = 4
@@ -110,53 +114,97 @@ def tell_texts(folder: str) -> Iterator[bool]:
     yield is_right
 
 
-def long_texts() -> Iterator[tuple[bytes, bytes, str, bool]]:
-    """What a text of 100 MB begins with and what it repeats, the line it is refused with, and whether only its end decides that."""
-    yield b"", b"r0 = 1 ; ", "refused A9 line 1 column 36865", False
-    yield b"", b" ", "refused A9 line 1 column 1", True
-    yield b"", b"\n", "refused A9 line 1 column 1", True
-    yield b"", b"# a comment\n", "refused A9 line 1 column 1", True
-    yield b"", b"#", "refused A9 line 1 column 1", True
-    yield b"", b"a", "refused A2 line 1 column 1", True
-    yield b"", b"7", "refused A2 line 1 column 1", True
-    yield b"", b"(", "refused A2 line 1 column 1", True
-    yield b"r0 ", b"(", "refused A2 line 1 column 1", True
-    yield b"a: ", b"(", "refused A2 line 1 column 1", True
-    yield b"map hash ", b"(", "refused A2 line 1 column 1", True
-    yield b"r0 = 2\nexit\n", b"(", "refused A2 line 3 column 1", True
-    yield b"", b"r1 + 2 ", "refused A2 line 1 column 1", True
+class Long(NamedTuple):
+    """A text of 100 MB: what it repeats, the line that `asm` prints, what is before and behind it, and whether it is one word,
+    one number or one comment."""
+
+    unit: bytes
+    line: str
+    before: bytes = b""
+    behind: bytes = b""
+    is_one: bool = False
+
+    def parts(self) -> Iterator[bytes]:
+        part = self.unit * (1_000_000 // len(self.unit))
+        yield self.before
+        for _ in range(LONG // len(part)):
+            yield part
+        yield self.behind
 
 
-def send(to: int, beginning: bytes, part: bytes) -> None:
+def long_texts() -> Iterator[Long]:
+    yield Long(b"r0 = 1 ; ", "refused A9 line 1 column 36865")
+    for unit in b" ", b"\n", b"# a comment\n", b" \t\n;":
+        yield Long(unit, "refused A9 line 1 column 1")
+    for unit in b" ", b"# a comment\n":
+        yield Long(unit, "ok maps 0 slots 2", behind=b"r0 = 2\nexit\n")
+    yield Long(b"\n", "ok maps 0 slots 2", b"r0 = 2\nexit\n")
+    for unit in b"(", b"- ", b"-", b"a ", b"the next word ", b"( \t":
+        yield Long(unit, "refused A2 line 1 column 1")
+    for before in b"r0 ", b"a: ", b"map hash ":
+        yield Long(b"(", "refused A2 line 1 column 1", before)
+    yield Long(b"(", "refused A2 line 3 column 1", b"r0 = 2\nexit\n")
+    yield Long(b" ", "refused A5 line 1 column 100000005", b"goto", b"nowhere\n")
+    yield Long(b"\n", "refused A2 line 100000001 column 1", behind=b"mov")
+    for unit in b"(", b" ":
+        yield Long(unit, "refused A1 line 1 column 100000006", b"r0 = ", b"@\n")
+    yield Long(b"#", "refused A9 line 1 column 1", is_one=True)
+    yield Long(b"a", "refused A2 line 1 column 1", is_one=True)
+    yield Long(b"7", "refused A2 line 1 column 1", is_one=True)
+
+
+def send(to: int, text: Long) -> None:
     """Sends a long text, or as much of it as is read."""
     try:
         with os.fdopen(to, "wb", buffering=0) as file:
-            file.write(beginning)
-            for _ in range(LONG // len(part)):
+            for part in text.parts():
                 file.write(part)
     except BrokenPipeError:
         pass
 
 
+def tell_long(text: Long, image: str) -> bool:
+    """Whether a long text is read within the limits, from a pipe."""
+    limits = (LONG // 1024 + MEMORY, WHOLE) if text.is_one else (MEMORY, BUSY)
+    status = 2 if text.line.startswith("refused") else 0
+    read, write = os.pipe()
+    sender = threading.Thread(target=send, args=(write, text))
+    sender.start()
+    with os.fdopen(read, "rb") as given:
+        is_right = tell([PROGRAM, "asm", "/dev/stdin", image], status, text.line, *limits, given)
+    sender.join()
+    return is_right
+
+
 def tell_long_texts(folder: str) -> Iterator[bool]:
-    """Whether long texts are refused within the limits, from a pipe, a file and standard input."""
+    """Whether long texts are read within the limits, from a pipe and a file; each may be tried again."""
     image = os.path.join(folder, "image")
     path = os.path.join(folder, "long")
-    for beginning, unit, line, is_whole in long_texts():
-        limits = (LONG // 1024 + MEMORY, WHOLE) if is_whole else (MEMORY, SECONDS)
-        part = unit * (1_000_000 // len(unit))
-        read, write = os.pipe()
-        sender = threading.Thread(target=send, args=(write, beginning, part))
-        sender.start()
-        with os.fdopen(read, "rb") as given:
-            yield tell([PROGRAM, "asm", "/dev/stdin", image], 2, line, *limits, given)
-        sender.join()
-        if len(unit) != 1:
-            with open(path, "wb") as file:
-                file.writelines(part for _ in range(LONG // len(part)))
-            yield tell([PROGRAM, "asm", path, image], 2, line, *limits)
-            with open(path, "rb") as given:
-                yield tell([PROGRAM, "asm", "/dev/stdin", image], 2, line, *limits, given)
+    for text in long_texts():
+        yield any(tell_long(text, image) for _ in range(TRIES))
+    with open(path, "wb") as file:
+        file.writelines(Long(b"(", "").parts())
+    yield any(tell([PROGRAM, "asm", path, image], 2, "refused A2 line 1 column 1", MEMORY, BUSY) for _ in range(TRIES))
+    yield from tell_elsewhere(folder, path)
+
+
+def tell_elsewhere(folder: str, path: str) -> Iterator[bool]:
+    """Whether this text is refused at once in each place where it is none."""
+    sent = os.path.join(folder, "sent")
+    maps = os.path.join(TOP, "examples/allow.image")
+    for words, status, line in (
+        ([PROGRAM, "verify", path], 2, "refused I1"),
+        ([PROGRAM, "dis", path], 2, "refused I1"),
+        ([PROGRAM, "recheck", IMAGE, path], 2, "refused P1"),
+        ([PROGRAM, "run", IMAGE, FRAMES, sent, "--table", path], 2, "refused P1"),
+        ([PROGRAM, "run", IMAGE, path, sent], 3, "fault F1 at 0"),
+        ([PROGRAM, "trace", IMAGE, path, sent], 3, "fault F1 at 0"),
+        ([SURVEY, "--compare", path, IMAGE], 4, f"cannot compare with {path}: it is no survey as csv"),
+        ([FILTER, path, FRAMES, sent], 2, "refused I1"),
+        ([FILTER, IMAGE, path, sent], 3, "fault F1 at 0"),
+        ([FILTER, maps, FRAMES, sent, "--maps", path], 2, "refused M6 line 1 column 32"),
+    ):
+        yield tell(words, status, line)
 
 
 def tell_comparison(folder: str) -> Iterator[bool]:
@@ -188,6 +236,7 @@ def tell_surveys(folder: str) -> Iterator[bool]:
 
 
 def main() -> int:
+    need(PROGRAM, SURVEY, FILTER)
     with tempfile.TemporaryDirectory() as folder:
         told = [
             *tell_tables(folder),

@@ -1,7 +1,8 @@
 -- What a task did with files is what `Files` defines, by how far it came.
 use Rattle.std.proofs.Common.{◌≡◌, ℕ, List, Option, None, Ok, refl, subst, inl, inr, ◌⊎◌}
 use Rattle.std.specs.declared.io.ErrorKind.{ErrorKind}
-use Rattle.assembler.specs.Assembling.{assembled}
+use Rattle.commands.specs.declared.texts.KeptText.{KeptText}
+use Rattle.commands.specs.Texts.{spelled}
 use Rattle.isa_model.specs.{Program}
 use Rattle.bounds.specs.Bounds.{Bounded}
 use Rattle.frames.specs.Sources.{Origin}
@@ -9,12 +10,9 @@ use Rattle.words.specs.Requests.{RunFiles}
 use Rattle.messages.specs.declared.forms.FileForm.{FileForm}
 use Rattle.commands.specs.declared.outcomes.TaskOutcome.{TaskOutcome}
 use Rattle.commands.specs.declared.endings.Ending.{Ending}
-use Rattle.commands.specs.Known.{IsKnownOfText}
 use Rattle.commands.specs.Statuses.{IsReadFailure, IsMakeFailure}
-use Rattle.messages.specs.Lines.{size_line}
-use Rattle.commands.specs.Judging.{StoresImage}
 use Rattle.commands.specs.Streams.{RunsAccepted}
-use Rattle.commands.specs.Files.{RunsOn, RunsSome, OpensNone, Assembles, AssemblesFile, StoresSome}
+use Rattle.commands.specs.Files.{RunsOn, RunsSome, OpensNone, MakesNone, RefusesTextFile, AssemblesFile, StoresSome}
 
 -- the streams were not opened
 pub OpensNone-failed : (files : RunFiles) (old new : Option (List ℕ)) (r : TaskOutcome) → new ≡ old
@@ -46,32 +44,24 @@ opens_on files old v r failed = inl (OpensNone-failed files old old r refl faile
 
 -- ---- texts
 
--- the image of a text that was read is written, and then the line with its size
-pub text_stored : (old mid new before after : Option (List ℕ)) (source line path : List ℕ)
-    (p : Program) (r : TaskOutcome) → mid ≡ old → assembled source ≡ Ok p → line ≡ size_line p
-    → StoresImage p line path before after mid new r → Assembles source path old new r
-text_stored old mid new before after source line path p r e found same s =
-    let some : StoresSome p path old new r = record {
-      before = before;
-      after = after;
-      stores =
-          subst (λ (o : Option (List ℕ)). StoresImage p (size_line p) path before after o new r) e
-          (subst (λ (l : List ℕ). StoresImage p l path before after mid new r) same s);
-    } in
-    inr (p, found, inr some)
-
-pub text_unmade : (old new : Option (List ℕ)) (source path : List ℕ) (p : Program) (r : TaskOutcome)
-    → new ≡ old → assembled source ≡ Ok p → IsMakeFailure path r → Assembles source path old new r
-text_unmade old new source path p r e found h = inr (p, found, inl (h, e))
-
 -- the text could not be read
 pub text_unread : (text image : List ℕ) (old new : Option (List ℕ)) (o : TaskOutcome) (r : Ending)
     → new ≡ old → IsReadFailure text o → r.outcome ≡ o → r.why ≡ None
     → AssemblesFile text image old new r
 text_unread text image old new o r e failed same none = inl ((rw same failed, e), none)
 
--- a text was read, and if it is refused, what is shown of it is known
-pub text_assembled : (source text image : List ℕ) (old new : Option (List ℕ)) (o : TaskOutcome)
-    (r : Ending) → Assembles source image old new o → r.outcome ≡ o → IsKnownOfText source r
+-- a text was read, and it is refused
+pub text_refused : (text image : List ℕ) (source : KeptText) (old new : Option (List ℕ))
+    (r : Ending) → RefusesTextFile source text old new r → AssemblesFile text image old new r
+text_refused text image source old new r h = inr (source, inl h)
+
+-- a text was read, and its image is written, or its file could not be made
+pub text_stored : (text image : List ℕ) (source : KeptText) (p : Program)
+    (old mid new : Option (List ℕ)) (o : TaskOutcome) (r : Ending) → mid ≡ old
+    → spelled source ≡ Ok p
+    → (MakesNone image mid new o ⊎ StoresSome p image mid new o) → r.outcome ≡ o → r.why ≡ None
     → AssemblesFile text image old new r
-text_assembled source text image old new o r h same known = inr (source, rw same h, known)
+text_stored text image source p old mid new o r e found h same none =
+    let at_old : MakesNone image old new o ⊎ StoresSome p image old new o =
+    subst (λ (m : Option (List ℕ)). MakesNone image m new o ⊎ StoresSome p image m new o) e h in
+    inr (source, inr (rw same (p, found, at_old), none))

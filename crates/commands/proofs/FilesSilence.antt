@@ -19,6 +19,7 @@ use Rattle.commands.specs.declared.endings.Ending.{Ending}
 use Rattle.commands.specs.Statuses.{is_silent, status_of}
 use Rattle.commands.specs.Flushing.{Flushes, IsFlushed, TellsFailure}
 use Rattle.commands.specs.Saying.{Says}
+use Rattle.commands.specs.declared.texts.KeptText.{KeptText}
 use Rattle.commands.specs.Judging.{Accepts, EndsUnwritten, RefusesImage, RefusesText, StoresImage}
 use Rattle.commands.specs.Streams.{EndsTask, EndsBy, FailsBy, outcome_at}
 use Rattle.commands.specs.Files.{LoadsNone, OpensNone, RunsOn, DisassemblesFile, AssemblesFile}
@@ -71,7 +72,7 @@ image_silent bytes old new r (inl lacks) e = lacks.1
 image_silent bytes old new r (inr (error, is, says)) e =
     absurd (says_loud old new _ _ r refl says e)
 
-text_silent : (source : List ℕ) (old new : Option (List ℕ)) (r : TaskOutcome)
+text_silent : (source : KeptText) (old new : Option (List ℕ)) (r : TaskOutcome)
     → RefusesText source old new r → is_silent r ≡ true → new ≡ old
 text_silent source old new r (inl lacks) e = lacks.1
 text_silent source old new r (inr (error, is, other, says)) e =
@@ -131,10 +132,11 @@ disassemble_silent path old new r (inr (p, is, says)) e =
 pub assemble_silent : (text image : List ℕ) (old new : Option (List ℕ)) (r : Ending)
     → AssemblesFile text image old new r → is_silent r.outcome ≡ true → new ≡ old
 assemble_silent text image old new r (inl (reads, none)) e = reads.1
-assemble_silent text image old new r (inr (source, inl refuses, known)) e =
+assemble_silent text image old new r (inr (source, inl (inl (reads, none)))) e = reads.1
+assemble_silent text image old new r (inr (source, inl (inr (refuses, known)))) e =
     text_silent source old new r.outcome refuses e
-assemble_silent text image old new r (inr (source, inr (p, is, inl makes), known)) e = makes.1
-assemble_silent text image old new r (inr (source, inr (p, is, inr some), known)) e =
+assemble_silent text image old new r (inr (source, inr ((p, is, inl makes), none))) e = makes.1
+assemble_silent text image old new r (inr (source, inr ((p, is, inr some), none))) e =
     stores_silent p _ image _ _ old new r.outcome some.stores e
 
 -- ---- after standard output was flushed

@@ -14,6 +14,7 @@ use Rattle.host.specs.Stops.{noted_of}
 use Rattle.commands.specs.declared.outcomes.TaskOutcome.{TaskOutcome}
 use Rattle.commands.specs.declared.outcomes.TaskOutcome.TheVariants.{Done, WrongWords, Refused, Faulted, CannotRead, CannotWrite, CannotReplace, NoMemory}
 use Rattle.commands.specs.declared.endings.Ending.{Ending}
+use Rattle.commands.specs.declared.texts.KeptText.{KeptText}
 use Rattle.commands.specs.Known.{TellsText}
 use Rattle.commands.specs.Flushing.{Flushes, IsFlushed, TellsFailure}
 use Rattle.commands.specs.Statuses.{is_silent}
@@ -26,7 +27,7 @@ abbrev pub Knows : TaskOutcome → Option (String Global) → Type 0
 Knows o why = (why ≡ None)
     ⊎ (((p : Program) × Tells p o why)
     ⊎ (((p : Program) × (bytes : List ℕ) × TellsTable p bytes o why)
-    ⊎ ((source : List ℕ) × TellsText source o why)))
+    ⊎ ((source : KeptText) × TellsText source o why)))
 
 -- what is known if no bound was shown
 none_knows : (files : TableFiles) (old new : Option (List ℕ)) (r : Ending)
@@ -107,8 +108,10 @@ served_knows (Prove files) old new r (inr (p, is, h)) = inr (inl (p, h.1))
 served_knows (Recheck files) old new r (inl h) = none_knows files old new r h
 served_knows (Recheck files) old new r (inr (v, is, h)) = inl h.1
 served_knows (Assemble text image) old new r (inl h) = inl h.1
-served_knows (Assemble text image) old new r (inr (source, ends, known)) =
+served_knows (Assemble text image) old new r (inr (source, inl (inl h))) = inl h.1
+served_knows (Assemble text image) old new r (inr (source, inl (inr (ends, known)))) =
     inr (inr (inr (source, known)))
+served_knows (Assemble text image) old new r (inr (source, inr h)) = inl h.1
 served_knows (Disassemble path) old new r h = inl h.1
 
 -- if standard output failed at the end, nothing else is known

@@ -11,3 +11,4 @@ mod SettledBytes
 mod ShownNames
 mod Silence
 pub mod StatusesLaws
+mod TextsLaws

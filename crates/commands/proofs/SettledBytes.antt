@@ -1,5 +1,5 @@
 -- What is said of the bytes of a table or a text that were read is what all of its bytes say.
-use Rattle.std.specs.Prelude.{◌≡◌, ℕ, List, [], ◌++◌, Option, Some, None, IfSome}
+use Rattle.std.specs.Prelude.{◌≡◌, ℕ, List, ◌++◌, Option, Some, None, IfSome}
 use Rattle.std.specs.Io.KnownBytes.{Consumes}
 use Rattle.std.proofs.Common.{ap, ◌∙◌, sym, length, take, drop, append_assoc}
 use Rattle.std.proofs.lemmas.List.{take-append-drop}
@@ -19,15 +19,6 @@ settled_held p (Some held) None bytes read settled = absurd read
 settled_held p (Some held) (Some left) bytes read settled = ap (table_read p) read ∙ settled left
 
 -- ---- texts
-
-abbrev pub SpellsTheSame : Option (List ℕ) → List ℕ → Type 0
-SpellsTheSame source bytes = IfSome source (λ held. assembled held ≡ assembled bytes)
-
-pub settled_text : (old new : Option (List ℕ)) (bytes : List ℕ)
-    → Consumes old new bytes → IsTextSettled bytes → SpellsTheSame old bytes
-settled_text None new bytes read settled = tt
-settled_text (Some held) None bytes read settled = absurd read
-settled_text (Some held) (Some left) bytes read settled = ap assembled read ∙ settled left
 
 -- a text whose front is settled is settled
 pub settled_front : (front bytes : List ℕ) → front ≡ take (length front) bytes

@@ -6,7 +6,8 @@ use Rattle.isa_model.specs.declared.instructions.Insn.{Insn}
 use Rattle.isa_model.specs.declared.streams.Fault.{Fault}
 use Rattle.isa_model.specs.{Program}
 use Rattle.assembler.specs.declared.errors.AsmError.{AsmError}
-use Rattle.assembler.specs.Shown.{shown}
+use Rattle.commands.specs.declared.texts.KeptText.{KeptText}
+use Rattle.commands.specs.Texts.{ShowsError}
 use Rattle.walks.specs.declared.refusals.Refusal.{Refusal}
 use Rattle.rechecking.specs.declared.errors.TableError.{TableError}
 use Rattle.listeners.specs.Reasons.{IsReason}
@@ -91,10 +92,10 @@ pub record TellsEntryKnown (old new : Option (List ℕ)) : Type 0 where
 -- a text is refused, and standard error got why, and then its line and a hint; or a beginning of
 -- these lines
 pub record TellsShown (old new : Option (List ℕ)) : Type 0 where
-  pub source : List ℕ
+  pub source : KeptText
   pub error : AsmError
   pub why : List ℕ
-  pub known : why ≡ shown source error
+  pub known : ShowsError source error why
   pub said : AppendsPart old new (rejection_text (rejection.Text error) ++ why)
 
 -- standard error got why something is refused, with what is known of it, or a beginning of that

@@ -4,7 +4,8 @@ use Rattle.std.specs.declared.io.ErrorKind.{ErrorKind}
 use Rattle.isa_model.specs.{Program}
 use Rattle.isa_model.specs.Text.CanonicalText.{canonical_text}
 use Rattle.image.specs.Images.{IsImage}
-use Rattle.assembler.specs.Assembling.{assembled}
+use Rattle.commands.specs.declared.texts.KeptText.{KeptText}
+use Rattle.commands.specs.Texts.{spelled}
 use Rattle.bounds.specs.Bounds.{Bounded}
 use Rattle.frames.specs.Sources.{Origin}
 use Rattle.messages.specs.declared.forms.FileForm.{FileForm}
@@ -70,18 +71,24 @@ DisassemblesFile path old new result = LoadsNone path old new result
     ⊎ ReadsImage (λ p. Says old new (canonical_text p) outcome.Done result)
 
 -- a text was read, and it spells a program with the property P
-abbrev pub ReadsText : List ℕ → (Program → Type 0) → Type 0
-ReadsText text P = (p : Program) × (assembled text ≡ Ok p) × P p
+abbrev pub ReadsText : KeptText → (Program → Type 0) → Type 0
+ReadsText text P = (p : Program) × (spelled text ≡ Ok p) × P p
 
--- a text that was read is refused, or its image is written to the file at the path
-abbrev pub Assembles : List ℕ → List ℕ → Option (List ℕ) → Option (List ℕ) → TaskOutcome → Type 0
-Assembles text image old new result =
-    RefusesText text old new result
-    ⊎ ReadsText text (λ p. MakesNone image old new result ⊎ StoresSome p image old new result)
+-- a text that was read from the file at the path is refused, and the lines at the end of the message
+-- show its line; or there is no number for a line or a column of it
+abbrev pub RefusesTextFile : KeptText → List ℕ → Option (List ℕ) → Option (List ℕ) → Ending → Type 0
+RefusesTextFile text path old new result =
+    Plainly (ReadsNone path old new) result
+    ⊎ (RefusesText text old new result.outcome × IsKnownOfText text result)
 
--- `asm`: if the text is refused, the lines at the end of the message show its line
+-- a program that a text spells: its image is written to the file at the path
+abbrev pub StoresText : KeptText → List ℕ → Option (List ℕ) → Option (List ℕ) → TaskOutcome → Type 0
+StoresText text image old new result =
+    ReadsText text (λ p. MakesNone image old new result ⊎ StoresSome p image old new result)
+
+-- `asm`: the file could not be read, or what it spells is stored, or it is refused
 abbrev pub AssemblesFile : List ℕ → List ℕ → Option (List ℕ) → Option (List ℕ) → Ending → Type 0
 AssemblesFile path image old new result =
     Plainly (ReadsNone path old new) result
-    ⊎ ((text : List ℕ) × Assembles text image old new result.outcome
-    × IsKnownOfText text result)
+    ⊎ ((text : KeptText) × (RefusesTextFile text path old new result
+    ⊎ Plainly (StoresText text image old new) result))

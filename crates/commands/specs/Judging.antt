@@ -12,7 +12,8 @@ use Rattle.bounds.specs.Bounds.{Bounded, IsVerified}
 use Rattle.table_entries.specs.declared.errors.WriteTableError.{WriteTableError}
 use Rattle.table_entries.specs.declared.errors.WriteTableError.TheVariants.{Memory, Explored, Writer}
 use Rattle.assembler.specs.declared.errors.AsmError.{AsmError}
-use Rattle.assembler.specs.Assembling.{assembled}
+use Rattle.commands.specs.declared.texts.KeptText.{KeptText}
+use Rattle.commands.specs.Texts.{spelled}
 use Rattle.commands.specs.declared.outcomes.TaskOutcome.{TaskOutcome}
 use Rattle.commands.specs.declared.outcomes.TaskOutcome.TheVariants.{Done, Refused, NoMemory}
 use Rattle.messages.specs.Forms.{file_form_of}
@@ -55,10 +56,10 @@ Accepts v old new result =
     LacksMemory old new result ⊎ Says old new (bound_line v.bound) Done result
 
 -- a text spells no program, and standard output says why and where; or memory ran out
-abbrev pub RefusesText : List ℕ → Option (List ℕ) → Option (List ℕ) → TaskOutcome → Type 0
+abbrev pub RefusesText : KeptText → Option (List ℕ) → Option (List ℕ) → TaskOutcome → Type 0
 RefusesText source old new result =
     LacksMemory old new result
-    ⊎ ((error : AsmError) × (assembled source ≡ Err error) × (error.kind ≢ kind.Memory)
+    ⊎ ((error : AsmError) × (spelled source ≡ Err error) × (error.kind ≢ kind.Memory)
     × Says old new (text_line error) (Refused (rejection.Text error)) result)
 
 -- the file at this path cannot be written, or memory ran out

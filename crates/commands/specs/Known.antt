@@ -3,7 +3,10 @@
 use Rattle.std.specs.Prelude.{◌≡◌, ℕ, List, ◌++◌, Option, Some, None, String, IfSome, IsSomeAnd, option_map}
 use Rattle.std.specs.declared.alloc.Global.{Global}
 use Rattle.std.specs.String.{string_bytes}
+use Rattle.assembler.specs.declared.errors.AsmError.{AsmError}
 use Rattle.assembler.specs.Shown.{shown}
+use Rattle.commands.specs.declared.texts.KeptText.{KeptText}
+use Rattle.commands.specs.Texts.{ShowsError}
 use Rattle.commands.specs.declared.outcomes.TaskOutcome.{TaskOutcome}
 use Rattle.commands.specs.declared.outcomes.TaskOutcome.TheVariants.{Refused}
 use Rattle.commands.specs.declared.endings.Ending.{Ending}
@@ -16,14 +19,23 @@ use Rattle.explanations.specs.Entries.{IsEntryReason}
 use Rattle.messages.specs.declared.rejections.Rejection.TheVariants as rejection
 
 -- the lines at the end of the message after a task that read this program text: if it was refused,
--- its line with a caret, and a hint
-abbrev pub TellsText : List ℕ → TaskOutcome → Option (String Global) → Type 0
+-- its line with a caret, as far as it was kept, and a hint
+abbrev pub TellsText : KeptText → TaskOutcome → Option (String Global) → Type 0
 TellsText source (Refused (rejection.Text error)) why =
-    IfSome why (λ text. string_bytes text ≡ shown source error)
+    IfSome why (λ text. ShowsError source error (string_bytes text))
 TellsText source outcome why = why ≡ None
 
-abbrev pub IsKnownOfText : List ℕ → Ending → Type 0
+abbrev pub IsKnownOfText : KeptText → Ending → Type 0
 IsKnownOfText source ending = TellsText source ending.outcome ending.why
+
+-- the same lines, by the bytes that were kept and the error in them
+abbrev pub TellsKept : List ℕ → AsmError → TaskOutcome → Option (String Global) → Type 0
+TellsKept bytes e (Refused (rejection.Text error)) why =
+    IfSome why (λ text. string_bytes text ≡ shown bytes e)
+TellsKept bytes e outcome why = why ≡ None
+
+abbrev pub ShowsKept : List ℕ → AsmError → Ending → Type 0
+ShowsKept bytes e ending = TellsKept bytes e ending.outcome ending.why
 
 -- ---- endings
 

@@ -11,3 +11,4 @@ pub mod Saying
 pub mod Statuses
 pub mod Stopped
 pub mod Streams
+pub mod Texts

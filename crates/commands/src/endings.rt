@@ -5,11 +5,11 @@ ghost use Rattle.std.specs.Io.KnownBytes.{Appends};
 ghost use Rattle.exact_io.specs.Transfers.{AppendsBeginning};
 ghost use Rattle.commands.specs.Statuses.{status_of, is_unsaid};
 ghost use Rattle.commands.specs.Saying.{AppendsPart};
-ghost use Rattle.commands.specs.Known.{IsKnownOfText, told_of};
+ghost use Rattle.commands.specs.Known.{ShowsKept, told_of};
 ghost use Rattle.commands.specs.Flushing.{Flushes};
 
 use super::outcomes::{STANDARD_OUTPUT, TaskOutcome};
-use assembler::shown;
+use assembler::{AsmError, shown};
 use exact_io::{PromptWriter, write_bytes};
 use messages::Rejection;
 use std::alloc::Global;
@@ -36,14 +36,15 @@ impl<'a> Ending<'a> {
         Ending { outcome, why: None }
     }
 
-    /// Returns how a task that read this text ended. If the text was refused, its line is shown
-    /// with a hint; if memory runs out, nothing is shown.
-    pub fn of_text(alloc: Global, text: &[u8], outcome: TaskOutcome<'a>) -> Self
+    /// Returns how a task ended for which this text was refused with an error in its bytes that were
+    /// kept: its line is shown with a hint. If memory runs out, or standard output failed, nothing
+    /// is shown.
+    pub fn of_text(alloc: Global, text: &[u8], error: AsmError, outcome: TaskOutcome<'a>) -> Self
         ensures outcome { result.outcome ≡ outcome.entry }
-        ensures known { IsKnownOfText text.now result }
+        ensures known { ShowsKept text.now error result }
     {
         let why = match outcome {
-            TaskOutcome::Refused(Rejection::Text(error)) => shown(alloc, text, error).ok(),
+            TaskOutcome::Refused(Rejection::Text(_)) => shown(alloc, text, error).ok(),
             _ => None,
         };
         Ending { outcome, why }

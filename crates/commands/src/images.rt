@@ -1,12 +1,14 @@
 //! Images that are read, written as text, and made of a text. The parameter `out` is standard output.
 
-ghost use Rattle.std.specs.Prelude.{◌≡◌, OnOk, IfOk, IfErr, Ok, MatchResult};
+ghost use Rattle.std.specs.Prelude.{◌≡◌, ◌≢◌, ◌⊎◌, OnOk, IfOk, IfErr, Ok, Err, MatchResult};
 ghost use Rattle.std.specs.String.{string_bytes};
 ghost use Rattle.isa_model.specs.{Program};
 ghost use Rattle.isa_model.specs.Text.CanonicalText.{canonical_text};
 ghost use Rattle.image.specs.Images.{IsImage, image_bytes};
-ghost use Rattle.commands.specs.Files.{LoadsNone, DisassemblesFile, Assembles, AssemblesFile};
-ghost use Rattle.commands.specs.Judging.{StoresImage, RefusesImage, RefusesText};
+ghost use Rattle.commands.specs.Files.{LoadsNone, MakesNone, DisassemblesFile, StoresSome, RefusesTextFile, AssemblesFile};
+ghost use Rattle.commands.specs.Judging.{StoresImage, RefusesImage};
+ghost use Rattle.commands.specs.Texts.{spelled};
+ghost use Rattle.assembler.specs.declared.errors.AsmErrorKind.TheVariants as AsmErrorKind;
 ghost use Rattle.messages.specs.Lines.{size_line};
 ghost use Rattle.commands.specs.Saying.{Says};
 ghost use Rattle.assembler.specs.Assembling as spells;
@@ -15,6 +17,7 @@ use super::endings::Ending;
 use super::outcomes::{STANDARD_OUTPUT, TaskOutcome};
 use super::outputs::create_file;
 use super::reading::{read_start, read_text};
+use super::texts::KeptText;
 use super::verdicts::{say_line, say_made};
 use assembler::{AsmError, AsmErrorKind, assemble};
 use disassembler::disassemble;
@@ -22,7 +25,7 @@ use image::{Image, ImageError};
 use isa_model::{MAX_MAPS, MAX_SLOTS};
 use messages::{Rejection, file_form_of, image_line, text_line};
 use std::alloc::{AllocError, Global};
-use std::io::Write;
+use std::io::{ErrorKind, Write};
 use std::rt::Files;
 use words::AssemblyPaths;
 
@@ -102,33 +105,55 @@ pub fn say_text<'a, W: Write>(image: &Image, out: &mut W) -> TaskOutcome<'a>
     }
 }
 
-/// The image of a text. If the text is refused, writes why, with the line and the column, and
-/// returns the task's outcome.
+// How the task ends after an error in what was kept of a text: writes why it is refused, with the
+// line and the column in the whole text. If there is no number for one of these, the file is too
+// large.
+fn refused_text<'a, W: Write>(
+    alloc: Global,
+    text: &KeptText,
+    error: AsmError,
+    path: &'a str,
+    out: &mut W,
+) -> Ending<'a>
+    requires known { error.kind ≢ AsmErrorKind.Memory }
+    requires refused { spells.assembled text.now.bytes.items ≡ Err error }
+    ensures { RefusesTextFile text.now path.now (W.contents out.old) (W.contents out.new) result }
+{
+    let Some(placed) = text.placed(error) else {
+        return Ending::plain(TaskOutcome::CannotRead(path, ErrorKind::FileTooLarge));
+    };
+    let outcome = say_made(
+        text_line(alloc, placed),
+        TaskOutcome::Refused(Rejection::Text(placed)),
+        out,
+    );
+    Ending::of_text(alloc, text.bytes.as_slice(), error, outcome)
+}
+
+/// The image of a text that was read from the file at a path. If the text is refused, writes why,
+/// with the line and the column, and returns how the task ends.
 pub fn assembled<'a, W: Write>(
     alloc: Global,
-    text: &[u8],
+    text: &KeptText,
+    path: &'a str,
     out: &mut W,
-) -> Result<Image, TaskOutcome<'a>>
+) -> Result<Image, Ending<'a>>
     ensures ok { OnOk result (W.contents out.new ≡ W.contents out.old) }
-    ensures round_trip { (p : Program) → IsImage p → text.now ≡ canonical_text p
-        → MatchResult result (λ image. image ≡ p) (λ ended. ended ≡ TaskOutcome.NoMemory) }
-    ensures found { IfOk result (λ image. spells.assembled text.now ≡ Ok image) }
+    ensures round_trip { (p : Program) → IsImage p → text.now.bytes.items ≡ canonical_text p
+        → MatchResult result (λ image. image ≡ p) (λ ended. ended.outcome ≡ TaskOutcome.NoMemory) }
+    ensures found { IfOk result (λ image. spelled text.now ≡ Ok image) }
     ensures refused { IfErr result
-        (λ ended. RefusesText text.now (W.contents out.old) (W.contents out.new) ended) }
+        (λ ended. RefusesTextFile text.now path.now (W.contents out.old) (W.contents out.new) ended) }
 {
-    match assemble(alloc, text) {
+    match assemble(alloc, text.bytes.as_slice()) {
         Ok(image) => Ok(image),
         Err(
             AsmError {
                 kind: AsmErrorKind::Memory,
                 ..
             },
-        ) => Err(TaskOutcome::NoMemory),
-        Err(error) => Err(say_made(
-            text_line(alloc, error),
-            TaskOutcome::Refused(Rejection::Text(error)),
-            out,
-        )),
+        ) => Err(Ending::plain(TaskOutcome::NoMemory)),
+        Err(error) => Err(refused_text(alloc, text, error, path, out)),
     }
 }
 
@@ -159,26 +184,23 @@ pub fn store_image<'a, W1: Write, W2: Write>(
     }
 }
 
-// Makes the image of a text that was read.
-fn assemble_text<'a, R: Files, W: Write>(
+// Writes the image of a text.
+fn store_made<'a, R: Files, W: Write>(
     rt: &R,
     alloc: Global,
-    text: &[u8],
+    image: &Image,
     paths: AssemblyPaths<'a>,
     out: &mut W,
 ) -> TaskOutcome<'a>
-    ensures { Assembles text.now paths.entry.image.now (W.contents out.old) (W.contents out.new)
+    ensures { MakesNone paths.entry.image.now (W.contents out.old) (W.contents out.new) result
+        ⊎ StoresSome image.now paths.entry.image.now (W.contents out.old) (W.contents out.new)
         result }
 {
-    let image = match assembled(alloc, text, out) {
-        Ok(image) => image,
-        Err(outcome) => return outcome,
-    };
-    let Ok(line) = size_line(alloc, &image) else {
+    let Ok(line) = size_line(alloc, image) else {
         return TaskOutcome::NoMemory;
     };
     match create_file(rt, paths.image, &[paths.text]) {
-        Ok(mut file) => store_image(&image, line.as_str(), paths.image, out, &mut file),
+        Ok(mut file) => store_image(image, line.as_str(), paths.image, out, &mut file),
         Err(outcome) => outcome,
     }
 }
@@ -198,6 +220,8 @@ pub fn assemble_file<'a, R: Files, W: Write>(
         Ok(text) => text,
         Err(error) => return Ending::plain(TaskOutcome::of_read(paths.text, &error)),
     };
-    let bytes = text.as_slice();
-    Ending::of_text(alloc, bytes, assemble_text(rt, alloc, bytes, paths, out))
+    match assembled(alloc, &text, paths.text, out) {
+        Ok(image) => Ending::plain(store_made(rt, alloc, &image, paths, out)),
+        Err(ending) => ending,
+    }
 }

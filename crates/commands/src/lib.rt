@@ -23,6 +23,7 @@ mod searches;
 mod stopped;
 mod streams;
 mod tables;
+mod texts;
 mod verdicts;
 mod watching;
 

@@ -4,7 +4,9 @@ ghost use Rattle.std.specs.Prelude.{◌≡◌, IfOk, IfSome, IsTrue, length, tak
 ghost use Rattle.assembler.specs.Assembling.{assembled};
 ghost use Rattle.assembler.specs.Settled.{IsTextSettled};
 ghost use Rattle.table_entries.specs.Tables.{table_read};
+ghost use Rattle.commands.specs.Texts.{spelled};
 
+use super::texts::KeptText;
 use assembler::is_text_settled;
 use image::Image;
 use std::alloc::Global;
@@ -15,6 +17,9 @@ use table_entries::is_settled;
 
 // How many bytes of a table or a text are read at a time, at most.
 const PART: usize = 64 * 1024;
+
+// As many bytes of a text are read at least before it is shortened.
+const SHORTENED: usize = 4 * PART;
 
 // How many bytes of a table are looked at first: the magic and the count of entries.
 const HEAD: usize = 8;
@@ -89,33 +94,37 @@ fn is_refused(alloc: Global, bytes: &[u8]) -> bool
 
 /// The bytes of a source, which may be a program text. Once those that were read settle that it is
 /// refused, and for what, no more are read. They are looked at when there are four times as many as
-/// before.
-fn read_accepted<S: Read + Drop>(alloc: Global, mut source: S) -> io::Result<Vec<u8>>
-    ensures { IfOk result (λ bytes. IfSome (S.remaining source)
-        (λ held. assembled held ≡ assembled bytes.items)) }
+/// before, and what is found that changes nothing is dropped.
+fn read_accepted<S: Read + Drop>(alloc: Global, mut source: S) -> io::Result<KeptText>
+    ensures { IfOk result (λ text. IfSome (S.remaining source)
+        (λ held. assembled held ≡ spelled text)) }
 {
-    let mut text = Vec::new(alloc);
+    let mut text = KeptText::new(alloc);
     let mut buffer = [0; PART];
-    let mut enough = PART;
-    'parts: loop {
+    let mut enough = SHORTENED;
+    for part in 0..u64::MAX {
         let count = source.read(&mut buffer)?;
         if count == 0 {
             return Ok(text);
         }
-        if text.extend_from_slice(&buffer[..count]).is_err() {
+        if text.bytes.extend_from_slice(&buffer[..count]).is_err() {
             return Err(io::Error::from(ErrorKind::OutOfMemory));
         }
-        if text.len() >= enough {
-            if is_refused(alloc, text.as_slice()) {
+        if text.bytes.len() >= enough {
+            if text.shorten(alloc).is_err() {
+                return Err(io::Error::from(ErrorKind::OutOfMemory));
+            }
+            if is_refused(alloc, text.bytes.as_slice()) {
                 return Ok(text);
             }
-            enough = text.len().saturating_mul(4);
+            enough = text.bytes.len().saturating_mul(4).max(SHORTENED);
         }
     }
+    Err(io::Error::from(ErrorKind::FileTooLarge))
 }
 
-/// The bytes of a file, which may be a program text, as far as they decide what is said of it.
-pub fn read_text<R: Files>(rt: &R, alloc: Global, path: &str) -> io::Result<Vec<u8>> {
+/// What is kept of a file, which may be a program text, as far as it decides what is said of it.
+pub fn read_text<R: Files>(rt: &R, alloc: Global, path: &str) -> io::Result<KeptText> {
     read_accepted(alloc, fs::open(rt, path)?)
 }
 
