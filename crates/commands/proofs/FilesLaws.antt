@@ -11,8 +11,6 @@ use Rattle.messages.specs.declared.forms.FileForm.{FileForm}
 use Rattle.commands.specs.declared.outcomes.TaskOutcome.{TaskOutcome}
 use Rattle.commands.specs.declared.endings.Ending.{Ending}
 use Rattle.commands.specs.Statuses.{IsReadFailure, IsMakeFailure}
-use Rattle.messages.specs.Lines.{size_line}
-use Rattle.commands.specs.Judging.{StoresImage}
 use Rattle.commands.specs.Streams.{RunsAccepted}
 use Rattle.commands.specs.Files.{RunsOn, RunsSome, OpensNone, MakesNone, RefusesTextFile, AssemblesFile, StoresSome}
 

@@ -1,17 +1,15 @@
 -- Laws of texts of which bytes were dropped: what they spell, and where they are refused.
-use Rattle.std.proofs.Common.{◌≡◌, ◌≢◌, ℕ, ◌+◌, ◌-◌, ◌==◌, Bool, true, false, if◌then◌else◌, List, [], ◌∷◌, ◌++◌, take, drop, refl, sym, ap, ap₂, ◌∙◌, append_assoc, ◌<◌, length, get_or, Option, Some, None, Result, Ok, Err, subst, inl, inr}
+use Rattle.std.proofs.Common.{◌≡◌, ◌≢◌, ℕ, ◌+◌, ◌-◌, ◌==◌, Bool, true, false, if◌then◌else◌, List, [], ◌∷◌, ◌++◌, refl, sym, ap, ap₂, ◌∙◌, append_assoc, Option, Some, None, Result, Ok, Err, subst, inl, inr}
 use Rattle.std.specs.Prelude.{IfSome, IfOk, OnOk, is_err, MatchResult, String}
 use Rattle.std.specs.declared.alloc.Global.{Global}
 use Rattle.std.specs.declared.alloc.AllocError.{AllocError}
 use Rattle.std.specs.String.{string_bytes}
-use Rattle.std.specs.Io.KnownBytes.{Consumes, IsAtEnd}
+use Rattle.std.specs.Io.KnownBytes.{Consumes}
 use Rattle.std.proofs.KnownBytes.{Consumes-trans}
-use Rattle.std.proofs.lemmas.List.{append-nil}
 use Rattle.isa_model.specs.Code.Instructions.{Program}
 use Rattle.assembler.specs.declared.errors.AsmError.{AsmError}
 use Rattle.assembler.specs.declared.gaps.Gap.{Gap}
 use Rattle.assembler.specs.Assembling.{assembled}
-use Rattle.assembler.specs.Settled.{IsTextSettled}
 use Rattle.assembler.specs.Gaps.{without, gap_of, is_before, placed, in_place, all_placed, all_in_place, IsIdle}
 use Rattle.assembler.specs.declared.errors.AsmErrorKind.TheVariants as kind
 use Rattle.messages.specs.declared.rejections.Rejection.TheVariants as rejection

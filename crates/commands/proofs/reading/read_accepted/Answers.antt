@@ -1,4 +1,4 @@
-use Rattle.std.proofs.Common.{◌≡◌, ◌++◌, sym, subst, take, refl, rules, arith, false}
+use Rattle.std.proofs.Common.{◌≡◌, ◌++◌, sym, subst, take, refl, rules, false}
 use Rattle.std.specs.Prelude.{is_err}
 use Rattle.commands.specs.declared.texts.KeptText.{KeptText}
 use Rattle.commands.proofs.TextsLaws.{IsReadAs, read-more, read-shortened, on-ok}

@@ -1,5 +1,5 @@
-use Rattle.std.proofs.Common.{rules, ◌≡◌, ◌++◌, List, subst, ap, ◌∙◌, sym}
-use Rattle.std.specs.Prelude.{IfSome, [], ◌∷◌}
+use Rattle.std.proofs.Common.{rules, ◌≡◌, ◌++◌}
+use Rattle.std.specs.Prelude.{[], ◌∷◌}
 use Rattle.image.proofs.CodeSpelling.{take-rest}
 use Rattle.assembler.specs.Gaps.{IsIdle, without, gap_of}
 use Rattle.commands.proofs.TextsLaws.{shortened}
