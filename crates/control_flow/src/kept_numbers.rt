@@ -130,11 +130,10 @@ fn loops_of(alloc: Global, image: &Image) -> Result<Loops, AllocError>
     Loops::of(alloc, &nodes)
 }
 
-/// What flows into accesses, into jumps that may leave a loop, and into jumps on a loop, each by
-/// slots.
+/// What flows into accesses and into jumps that may leave a loop, or into accesses and into jumps on
+/// a loop, by slots.
 #[derive(Drop)]
 struct Flows {
-    accesses: Vec<HomeMask>,
     exits: Vec<HomeMask>,
     bodies: Vec<HomeMask>,
 }
@@ -143,19 +142,18 @@ struct Flows {
 fn kept_at(loops: &Loops, flows: &Flows, slot: usize, tested: HomeMask) -> HomeMask
     ensures { (h : Home) → HasHome result h → HasHome tested h }
 {
-    let wanted = if is_marked(&loops.heads, slot) {
-        mask_of(&flows.exits, slot)
-    } else if is_marked(&loops.bodies, slot) {
+    let is_inside = is_marked(&loops.bodies, slot) && !is_marked(&loops.heads, slot);
+    let wanted = if is_inside {
         mask_of(&flows.bodies, slot)
     } else {
-        mask_of(&flows.accesses, slot)
+        mask_of(&flows.exits, slot)
     };
     tested.without(tested.without(wanted))
 }
 
 /// Which numbers a long search of a program keeps: of those that are `tested`, what flows into an
-/// access; at the head of a loop also what flows into a jump that may leave one, and elsewhere on a
-/// loop what flows into any jump there.
+/// access or into a jump that may leave a loop; on a loop, its head aside, what flows into any jump
+/// there.
 pub fn kept_numbers(
     alloc: Global,
     image: &Image,
@@ -166,7 +164,6 @@ pub fn kept_numbers(
 {
     let loops = loops_of(alloc, image)?;
     let flows = Flows {
-        accesses: kept_homes(alloc, image, &[])?,
         exits: kept_homes(alloc, image, &loops.exits)?,
         bodies: kept_homes(alloc, image, &loops.bodies)?,
     };
