@@ -1,5 +1,5 @@
--- A part of a text that changes nothing can be dropped: what is read is the same, and refusals are at
--- the places that they had.
+-- A part of a text that changes nothing can be dropped: what is read is the same, and refusals are
+-- at the places that they had.
 use Rattle.std.proofs.Common.{◌≡◌, ℕ, ◌+◌, ◌-◌, ◌<◌, ◌≤◌, Bool, if◌then◌else◌, List, ◌++◌, length, take, drop, refl, sym, ap, ◌∙◌, arith, append_assoc, Result, Ok, Err}
 use Rattle.std.proofs.lemmas.Bool.{lt-ltb, le-ltb}
 use Rattle.std.proofs.lemmas.List.{take-append-drop, take-take}

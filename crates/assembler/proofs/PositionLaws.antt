@@ -298,7 +298,8 @@ error-placed text more from to kind o less few = of (nat_lt o from) refl where
       let here : from ≤ o = ltb-false o from e in
       let k = o - from in
       let left : take (o + (to - from)) (text ++ more) ≡ whole ++ take k behind =
-      ap₂ take (let n : o + (to - from) ≡ length whole + k = omega (arith, whole_size, here, less) in n)
+      ap₂ take
+      (let n : o + (to - from) ≡ length whole + k = omega (arith, whole_size, here, less) in n)
       all
       ∙ take-append-add whole behind k in
       let right : take o (without from to text ++ more) ≡ front ++ take k behind =

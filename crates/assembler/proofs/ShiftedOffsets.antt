@@ -1,5 +1,5 @@
--- Laws of offsets: where those of the tokens are others, what is read is the same, and refusals have
--- the others.
+-- Laws of offsets: where those of the tokens are others, what is read is the same, and refusals
+-- have the others.
 use Rattle.std.proofs.Common.{◌≡◌, ℕ, zero, suc, ◌+◌, ◌-◌, ◌≤◌, ◌==◌, List, [], ◌∷◌, ◌++◌, length, take, drop, map, refl, sym, ap, ◌∙◌, arith, Bool, true, false, if◌then◌else◌, Option, Some, None, Result, Ok, Err, ok_or, option_map}
 use Rattle.std.specs.Prelude.{slice_get, nat_lt, is_none}
 use Rattle.std.proofs.lemmas.Option.{slice_get-map}

@@ -9,7 +9,8 @@ use Rattle.captures.specs.FrameBytes.{stream_rest}
 -- after the end nothing is left
 pub rest-ended : (held : List ℕ) (given count : ℕ) (ended : Bool) (at : CapturePosition)
     (left : Option (List ℕ)) → given ≡ count → ended ≡ true
-    → IsAtEnd (prepend_known (slice_range held given count) (option_map (stream_rest ended at) left))
+    → IsAtEnd (prepend_known (slice_range held given count)
+    (option_map (stream_rest ended at) left))
 rest-ended held given count ended at left spent over =
     subst IsAtEnd (sym (none_ahead held given count (option_map (stream_rest ended at) left) spent))
     (subst (λ (b : Bool). IsAtEnd (option_map (stream_rest b at) left)) (sym over) (none_left left))

@@ -102,7 +102,7 @@ first_record format interfaces offset bytes =
     then Err (ending.Fault TruncatedRecord offset)
     else found_sized format interfaces offset bytes (record_size format bytes)
 
--- the offset after so many bytes more; a number of 64 bits says it, or the largest one
+-- the offset `size` bytes further on, or the largest number of 64 bits if that is less
 abbrev pub moved : ℕ → ℕ → ℕ
 moved offset size = min (offset + size) (2 ^ 64 - 1)
 

@@ -7,8 +7,8 @@
 --   enhanced  u32 interface, u64 time, u32 captured and u32 original packet length, its bytes
 --   old       u16 interface, u16 drops, and then the same
 --   simple    u32 original packet length, its bytes
--- The time has its high 32 bits first. An option is: u16 code, u16 length, a value that is padded to
--- 32 bits.
+-- The time has its high 32 bits first. An option is: u16 code, u16 length, a value that is padded
+-- to 32 bits.
 use Rattle.std.specs.Prelude.{ℕ, zero, suc, ◌+◌, ◌*◌, ◌^◌, ◌-◌, ◌/◌, ◌%◌, ◌==◌, Bool, not, List, [], ◌∷◌, ◌++◌, length, take, drop, min, nat_lt, slice_get, if◌then◌else◌, Option, Some, None, Result, Ok, Err}
 use Rattle.byteorder.specs.Endian.{big_number, little_number}
 use Rattle.captures.specs.declared.forms.NumberOrder.{NumberOrder}

@@ -74,8 +74,8 @@ DisassemblesFile path old new result = LoadsNone path old new result
 abbrev pub ReadsText : KeptText → (Program → Type 0) → Type 0
 ReadsText text P = (p : Program) × (spelled text ≡ Ok p) × P p
 
--- a text that was read from the file at the path is refused, and the lines at the end of the message
--- show its line; or there is no number for a line or a column of it
+-- a text that was read from the file at the path is refused, and the lines at the end of the
+-- message show its line; or there is no number for a line or a column of it
 abbrev pub RefusesTextFile : KeptText → List ℕ → Option (List ℕ) → Option (List ℕ) → Ending → Type 0
 RefusesTextFile text path old new result =
     Plainly (ReadsNone path old new) result

@@ -7,8 +7,8 @@ use Rattle.assembler.specs.Gaps.{all_placed, all_in_place}
 use Rattle.assembler.specs.Shown.{shown}
 use Rattle.commands.specs.declared.texts.KeptText.{KeptText}
 
--- what a text spells that goes on with these bytes, or why it spells nothing, at its line and column
--- in the whole text
+-- what a text spells that goes on with these bytes, or why it spells nothing, at its line and
+-- column in the whole text
 abbrev pub spelled_with : KeptText → List ℕ → Result Program AsmError
 spelled_with text more = all_in_place text.gaps.items (assembled (text.bytes.items ++ more))
 

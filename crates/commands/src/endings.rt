@@ -36,9 +36,9 @@ impl<'a> Ending<'a> {
         Ending { outcome, why: None }
     }
 
-    /// Returns how a task ended for which this text was refused with an error in its bytes that were
-    /// kept: its line is shown with a hint. If memory runs out, or standard output failed, nothing
-    /// is shown.
+    /// Returns how a task ended for which this text was refused with an error in its bytes that
+    /// were kept: its line is shown with a hint. If memory runs out, or standard output failed,
+    /// nothing is shown.
     pub fn of_text(alloc: Global, text: &[u8], error: AsmError, outcome: TaskOutcome<'a>) -> Self
         ensures outcome { result.outcome ≡ outcome.entry }
         ensures known { ShowsKept text.now error result }

@@ -1,4 +1,5 @@
-//! Images that are read, written as text, and made of a text. The parameter `out` is standard output.
+//! Images that are read, written as text, and made of a text. The parameter `out` is standard
+//! output.
 
 ghost use Rattle.std.specs.Prelude.{◌≡◌, ◌≢◌, ◌⊎◌, OnOk, IfOk, IfErr, Ok, Err, MatchResult};
 ghost use Rattle.std.specs.String.{string_bytes};
@@ -143,7 +144,8 @@ pub fn assembled<'a, W: Write>(
         → MatchResult result (λ image. image ≡ p) (λ ended. ended.outcome ≡ TaskOutcome.NoMemory) }
     ensures found { IfOk result (λ image. spelled text.now ≡ Ok image) }
     ensures refused { IfErr result
-        (λ ended. RefusesTextFile text.now path.now (W.contents out.old) (W.contents out.new) ended) }
+        (λ ended. RefusesTextFile text.now path.now (W.contents out.old) (W.contents out.new)
+        ended) }
 {
     match assemble(alloc, text.bytes.as_slice()) {
         Ok(image) => Ok(image),

@@ -130,8 +130,8 @@ fn loops_of(alloc: Global, image: &Image) -> Result<Loops, AllocError>
     Loops::of(alloc, &nodes)
 }
 
-/// What flows into accesses and into jumps that may leave a loop, or into accesses and into jumps on
-/// a loop, by slots.
+/// What flows into accesses and into jumps that may leave a loop, or into accesses and into jumps
+/// on a loop, by slots.
 #[derive(Drop)]
 struct Flows {
     exits: Vec<HomeMask>,

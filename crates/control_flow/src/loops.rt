@@ -1,5 +1,5 @@
-//! The loops of a graph of slots, by the edges that lead back in a depth-first walk. They are advice
-//! for a search, of which no clause speaks.
+//! The loops of a graph of slots, by the edges that lead back in a depth-first walk. They are
+//! advice for a search, of which no clause speaks.
 
 ghost use Rattle.std.specs.Prelude.{◌≡◌, ◌<◌, ◌^◌, ℕ, Some, length, IfOk};
 ghost use Rattle.control_flow.specs.Nodes.{jump_from, FallsNear};

@@ -134,8 +134,8 @@ fn open_wanted<'a, R: Files>(
     }
 }
 
-// The frame stream of a file with this path and this form: that which a capture becomes, or the file
-// itself.
+// The frame stream of a file with this path and this form: that which a capture becomes, or the
+// file itself.
 fn frames_of<'a, S: Source + Drop>(
     alloc: Global,
     source: S,

@@ -26,7 +26,8 @@ use Rattle.live_maps.proofs.NumberingLaws.{values-distinct, values-few, values-w
 
 -- a list of the places in the order of the keys is an order, if it knows no first serial
 pub IsOrder-listed : (x : MapState) (s : Serials) (o : KeyOrder)
-    → (o.is_behind ≡ false → o.places ≡ values x.places) → o.room ≡ x.row.entries → o.first ≡ None → IsOrder x s o
+    → (o.is_behind ≡ false → o.places ≡ values x.places) → o.room ≡ x.row.entries
+    → o.first ≡ None → IsOrder x s o
 IsOrder-listed x s o places room first = record {
   places = places;
   room = room;

@@ -22,15 +22,17 @@ places_without place places = filter (λ p. not (p == place)) places
 abbrev pub NumbersFrom : List ℕ → Serials → ℕ → Type 0
 NumbersFrom places serials first = (first ≤ 2 ^ 32) × NumbersAll first places serials
 
--- if they are not behind, these are the places of a map's keys, in the order of the keys' bytes, with
--- room for as many as the map can have and for no more, and what is known of their numbering is true
+-- if they are not behind, these are the places of a map's keys, in the order of the keys' bytes,
+-- with room for as many as the map can have and for no more, and what is known of their numbering
+-- is true
 pub record IsOrder (m : MapState) (serials : Serials) (o : KeyOrder) : Type 0 where
   pub places : o.is_behind ≡ false → o.places ≡ values m.places
   pub room : o.room ≡ m.row.entries
   pub numbered : IfSome o.first (NumbersFrom o.places serials)
 
 abbrev pub order_at : List KeyOrder → ℕ → KeyOrder
-order_at orders m = slice_index_or orders m (record { places = []; room = 0; first = None; is_behind = false })
+order_at orders m =
+    slice_index_or orders m (record { places = []; room = 0; first = None; is_behind = false })
 
 -- each map has its order
 pub record AreOrders (maps : List MapState) (all : List Serials) (orders : List KeyOrder)

@@ -36,7 +36,8 @@ fn place_of(base: u64, serials: &[Option<u64>], serial: u64) -> Option<usize>
     serials.iter().position(|of| has_serial(base, serial, of))
 }
 
-// A serial that was given in the run, by what it is above the base, and the place that it was given.
+// A serial that was given in the run, by what it is above the base, and the place that it was
+// given.
 #[derive(Clone, Copy)]
 struct Given {
     distance: u64,

@@ -186,8 +186,8 @@ impl Machine {
     }
 
     /// Copies the k-th key of a map with its value between runs, from 0, in the order of the
-    /// report, and returns whether there is one. It takes no memory, but after a map has changed the
-    /// first call takes time for all keys.
+    /// report, and returns whether there is one. It takes no memory, but after a map has changed
+    /// the first call takes time for all keys.
     pub fn copy_key_value(&mut self, map: usize, k: usize, key: &mut [u8], value: &mut [u8]) -> bool
         requires map { map < length self.old.program.maps }
         requires key_size { length key.old ≡ (row_at self.old map).key_size }

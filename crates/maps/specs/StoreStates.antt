@@ -38,7 +38,7 @@ IsListOf {g} (Some at) list stores =
     (s : Store EitherIndex g) → slice_get stores at ≡ Some s → IsList s.index list
 
 -- both: the room, and the list that is kept
-pub record HaveRoomAndList {g : Ghosts EitherIndex} (listed : Option ℕ) (list : List ℕ) (places all : ℕ)
-    (stores : List (Store EitherIndex g)) : Type 0 where
+pub record HaveRoomAndList {g : Ghosts EitherIndex} (listed : Option ℕ) (list : List ℕ)
+    (places all : ℕ) (stores : List (Store EitherIndex g)) : Type 0 where
   pub room : HaveRoom places all stores
   pub kept : IsListOf listed list stores

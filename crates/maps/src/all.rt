@@ -195,9 +195,9 @@ impl Maps {
         self.stores.all[map].index().insert_place(key, place, list);
     }
 
-    /// The index of a place in a list of places of a hash map, by a binary search for its key, which
-    /// the place may have lost. It is found where the other places of the list have keys, in the order
-    /// of the keys.
+    /// The index of a place in a list of places of a hash map, by a binary search for its key,
+    /// which the place may have lost. It is found where the other places of the list have keys, in
+    /// the order of the keys.
     pub fn index_in(&self, map: usize, list: &[usize], key: &[u8], place: usize) -> Option<usize>
         requires { map < length self.now }
         ensures { IfSome result (λ i. slice_get list.now i ≡ Some place) }

@@ -79,9 +79,9 @@ impl EitherIndex {
         }
     }
 
-    /// The index of a place in a list of places of a hash map, by a binary search for its key, which
-    /// the place may have lost. It is found where the other places of the list have keys, in the order
-    /// of the keys.
+    /// The index of a place in a list of places of a hash map, by a binary search for its key,
+    /// which the place may have lost. It is found where the other places of the list have keys, in
+    /// the order of the keys.
     pub fn index_in(&self, list: &[usize], key: &[u8], place: usize) -> Option<usize>
         ensures { IfSome result (λ i. slice_get list.now i ≡ Some place) }
     {

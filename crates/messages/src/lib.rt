@@ -1,5 +1,5 @@
-//! What is said of a refused text, image, program or proof table, and of a frame stream's fault: for
-//! the command line a line on standard output, and a sentence with its position and a hint on
+//! What is said of a refused text, image, program or proof table, and of a frame stream's fault:
+//! for the command line a line on standard output, and a sentence with its position and a hint on
 //! standard error; for a caller's buffer the same as one message.
 #![tactic(auto)]
 

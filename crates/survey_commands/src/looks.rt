@@ -84,8 +84,8 @@ fn write_look<W: Write>(
     }
 }
 
-/// Shows an image, and returns the status: 2 if it is refused. What `xdpvm verify` says of it is said
-/// then, as far as standard error is told.
+/// Shows an image, and returns the status: 2 if it is refused. What `xdpvm verify` says of it is
+/// said then, as far as standard error is told.
 fn look_into<W1: Write, W2: Write>(
     alloc: Global,
     image: &Image,

@@ -19,4 +19,5 @@ returns-in-None-of c =
 
 pub returns-in-None : goal.returns-in-None
 returns-in-None c =
-    sym (opened-other c.args.head.now c.if-head-lt24.false (sym c.pcap_start.ensures ∙ c.in-None.is))
+    sym (opened-other c.args.head.now c.if-head-lt24.false
+    (sym c.pcap_start.ensures ∙ c.in-None.is))

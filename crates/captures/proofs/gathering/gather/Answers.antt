@@ -48,7 +48,8 @@ returns-in-Whole-collected-clause-gathered g c =
     let how = was_whole _ c.args.count _ _ _ c.collect-collected.ensures.count c.in-Whole.is in
     let first : c.collect-collected.result.1 ≡ max c.args.count (head_size c.args.format) =
     how ∙ ap (max c.args.count) c.head_size.ensures.size in
-    let last = was_whole _ c.collect-collected.result.1 _ _ _ c.collect-collected-2.ensures.count c.in-Whole-collected.is in
+    let last = was_whole _ c.collect-collected.result.1 _ _ _
+    c.collect-collected-2.ensures.count c.in-Whole-collected.is in
     λ interfaces. gathered_whole c.args.format _ _ _ _ c.collect-collected-2.result.1 c.in-Ok.size
     c.collect-collected-2.new.buffer
     (head_read c.args.format _ _ c.args.count c.collect-collected.result.1 c.in-Ok.size
@@ -63,7 +64,8 @@ returns-in-Ended-collected-clause-gathered g c =
     let how = was_whole _ c.args.count _ _ _ c.collect-collected.ensures.count c.in-Whole.is in
     let first : c.collect-collected.result.1 ≡ max c.args.count (head_size c.args.format) =
     how ∙ ap (max c.args.count) c.head_size.ensures.size in
-    let last = was_ended _ c.collect-collected.result.1 _ _ _ c.collect-collected-2.ensures.count c.in-Ended-collected.is in
+    let last = was_ended _ c.collect-collected.result.1 _ _ _
+    c.collect-collected-2.ensures.count c.in-Ended-collected.is in
     let says =
     still_says c.args.format _ _ _ _ c.in-Ok.size
     (head_read c.args.format _ _ c.args.count c.collect-collected.result.1 c.in-Ok.size
@@ -79,7 +81,8 @@ returns-in-Failed-collected-clause-gathered g c =
     let how = was_whole _ c.args.count _ _ _ c.collect-collected.ensures.count c.in-Whole.is in
     let first : c.collect-collected.result.1 ≡ max c.args.count (head_size c.args.format) =
     how ∙ ap (max c.args.count) c.head_size.ensures.size in
-    let last = was_failed _ c.collect-collected.result.1 _ _ _ c.collect-collected-2.ensures.count c.in-Failed-collected.is in
+    let last = was_failed _ c.collect-collected.result.1 _ _ _
+    c.collect-collected-2.ensures.count c.in-Failed-collected.is in
     λ interfaces. gathered_unread c.args.format _ _ _ c.collect-collected-2.result.1 c.in-Ok.size
     c.collect-collected-2.new.buffer
     (head_read c.args.format _ _ c.args.count c.collect-collected.result.1 c.in-Ok.size

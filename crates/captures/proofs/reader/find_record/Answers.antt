@@ -38,7 +38,8 @@ returns-in-Ok-Packet-clause-finds g c =
     }) (FoundPacket (framed_packet c.take_record.new.block c.in-Ok-Packet.packet)) told.0 told.1
     (ap (λ n. record_said format c.args.interfaces.now (take n block)) (sym long ∙ told.1)
     ∙ sym c.take_record.ensures.said
-    ∙ ap (said_with format c.take_record.new.interfaces c.take_record.new.block) (c.in-Ok-Packet.is ∙ ap (λ r. Ok r) c.in-Ok-Packet.field-0-is))
+    ∙ ap (said_with format c.take_record.new.interfaces c.take_record.new.block)
+    (c.in-Ok-Packet.is ∙ ap (λ r. Ok r) c.in-Ok-Packet.field-0-is))
     (λ later. refl)
 
 pub returns-in-Ok-Passed-clause-finds : goal.returns-in-Ok-Passed-clause-finds
@@ -58,7 +59,8 @@ returns-in-Ok-Passed-clause-finds g c =
     }) Unread told.0 told.1
     (ap (λ n. record_said format c.args.interfaces.now (take n block)) (sym long ∙ told.1)
     ∙ sym c.take_record.ensures.said
-    ∙ ap (said_with format c.take_record.new.interfaces c.take_record.new.block) (c.in-Ok-Passed.is ∙ ap (λ r. Ok r) c.in-Ok-Passed.field-0-is))
+    ∙ ap (said_with format c.take_record.new.interfaces c.take_record.new.block)
+    (c.in-Ok-Passed.is ∙ ap (λ r. Ok r) c.in-Ok-Passed.field-0-is))
     (λ later. refl)
 
 pub returns-in-Err-clause-finds : goal.returns-in-Err-clause-finds

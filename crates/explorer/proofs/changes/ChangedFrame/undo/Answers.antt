@@ -56,7 +56,8 @@ pub returns-in_default-clause-changes : goal.returns-in_default-clause-changes
 returns-in_default-clause-changes c =
     let old = c.loop-change.self in
     let k : ℕ = c.args.count - c.loop-change._change in
-    no_changes old.frame c.pop.new.self.items old.earlier (omega (arith, c.in_default.ensures.cases.1, c.pop.new.self.ok.0))
+    no_changes old.frame c.pop.new.self.items old.earlier
+    (omega (arith, c.in_default.ensures.cases.1, c.pop.new.self.ok.0))
     ∙ sym (ap (drop k) (no_changes old.frame old.changes.items old.earlier
     (omega (arith, c.in_default.ensures.cases.0, old.changes.ok.0)))
     ∙ drop_all k [] (omega arith))

@@ -169,7 +169,8 @@ ordered c d o q was behind places room first =
     c.delete-answer.ensures.deleted in
     let apart = (c.self.invariant.2.each m d.inside).is_map.apart in
     IsOrder-listed y (slice_set (serials_at i.serials.items m) p None) q
-    (λ b. places b ∙ ap (places_without p) (was.places (behind b)) ∙ sym (values-removed x.places key p apart (had c))
+    (λ b. places b ∙ ap (places_without p) (was.places (behind b))
+    ∙ sym (values-removed x.places key p apart (had c))
     ∙ sym (ap values (del.deletes.removes refl)))
     (room ∙ was.room ∙ sym (ap (λ (r : MapDef). r.entries) del.row)) first
 

@@ -32,7 +32,8 @@ invariant_of-self c =
     let low = inside c.args.self.now i.all.items c.self.view_is c.args.map c.requires.map in
     record {
       room = HaveRoom-set (vec_capacity i.list) (vec_capacity i.all) i.all.items c.args.map
-          c.index_mut.result.now c.delete.new.store low c.index_mut.ensures.value c.delete.ensures.row
+          c.index_mut.result.now c.delete.new.store low c.index_mut.ensures.value
+          c.delete.ensures.row
           c.self.invariant.room;
       kept = tt;
     }
