@@ -9,6 +9,7 @@ from core_relocations import Kernel, context_differs
 from image_maps import ARRAY, MOST_VALUE
 from image_values import is_of_values, lines_of, value_of, words_for
 from objects import (
+    EXECUTABLE,
     FUNCTION_SYMBOL,
     LOCAL_CALL,
     OBJECT_SYMBOL,
@@ -199,6 +200,7 @@ class Linker:
         """A wide load of a map or of a variable."""
         symbol, place = named.symbol, 8 * slot
         name = self.it.section_name(symbol.section)
+        self.refuse_function(slot, section, at, symbol)
         value = self.address(slot, section, at, named)
         if name == ".maps" and value in self.maps.numbers:
             kind, number, offset = MAP, self.maps.numbers[value], 0
@@ -210,6 +212,18 @@ class Linker:
         struct.pack_into("<i", self.slots, place + 4, number)
         struct.pack_into("<i", self.slots, place + 12, offset)
         self.loads.append(slot)
+
+    def refuse_function(self, slot: int, section: int, at: int, symbol: Symbol) -> None:
+        """Refuses what is no map and no variable: the address of a function, and a name that is of another object."""
+        if symbol.section == 0:
+            raise Refused(f"{self.called(symbol)} is named {self.where(section, at)}, and the object does not have it")
+        if symbol.section < len(self.it.flags) and self.it.flags[symbol.section] & EXECUTABLE:
+            (written,) = struct.unpack_from("<i", self.slots, 8 * slot + 4)
+            function = self.it.functions(symbol.section).get(symbol.value if symbol.kind == FUNCTION_SYMBOL else written)
+            raise Refused(
+                f"the address of {function.name if function else 'a function'} is taken {self.where(section, at)}:"
+                " a function of an image can only be called"
+            )
 
     def variable(self, section: int, at: int, home: int, value: int) -> int:
         """The index of the map of a section of variables or constants, in which an instruction names a byte."""

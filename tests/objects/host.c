@@ -11,6 +11,9 @@ int main(void)
         return 1;
     while (fread(head, 1, 20, stdin) == 20) {
         unsigned int interface, queue, length;
+#ifdef NOEXIST
+        memcpy(&host_time, head, 8);
+#endif
         memcpy(&interface, head + 8, 4);
         memcpy(&queue, head + 12, 4);
         memcpy(&length, head + 16, 4);
