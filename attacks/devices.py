@@ -17,7 +17,7 @@ import sys
 import tempfile
 
 sys.path.insert(0, os.path.join(os.path.dirname(os.path.abspath(__file__)), "../checks"))
-from common import CANNOT, program, write
+from common import CANNOT, need, program, write
 
 PROGRAM = program()
 TEXT = "r0 = 2; exit\n"
@@ -55,6 +55,7 @@ def tell(words: list[str], wanted: tuple[int, str, str]) -> bool:
 
 
 def main() -> int:
+    need(PROGRAM)
     with tempfile.TemporaryDirectory() as folder:
         try:
             asked(SYSTEM.unshare(OWN_MOUNTS))

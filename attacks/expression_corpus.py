@@ -4,9 +4,9 @@ generated frames) and some by hand, and composed ones.
 
 usage: python3 attacks/expression_corpus.py [SEED [COUNT]]
 """
+import argparse
 import os
 import random
-import sys
 from typing import List, TypeVar
 
 T = TypeVar("T")
@@ -168,5 +168,13 @@ def expressions(seed: int = 1, count: int = 700) -> List[str]:
     return list(found)
 
 
+def main() -> None:
+    words = argparse.ArgumentParser(description=__doc__, formatter_class=argparse.RawDescriptionHelpFormatter)
+    words.add_argument("seed", type=int, nargs="?", default=1)
+    words.add_argument("count", type=int, nargs="?", default=700)
+    given = words.parse_args()
+    print(*expressions(given.seed, given.count), sep="\n")
+
+
 if __name__ == "__main__":
-    print(*expressions(*[int(word) for word in sys.argv[1:]]), sep="\n")
+    main()

@@ -46,15 +46,14 @@ def object_of(data: bytes) -> bytes:
 
 def of_cases(program: str, every: int = 1) -> Iterator[Tuple[str, bytes]]:
     """The images of the cases in tests/programs: those that are given, and those that texts are assembled to."""
-    import programs
+    import cases
 
-    paths = sorted(glob.glob(f"{TOP}/tests/programs/*.cases"))
-    cases = [case for path in paths for case in programs.cases_of(pathlib.Path(path))]
-    for names, fields in cases[::every]:
-        where, kind, value = fields[0]
-        made = case_image(program, kind, programs.filled(value, names), programs.bytes_of)
+    paths = sorted(glob.glob(f"{TOP}/tests/programs/*.case"))
+    for case in [case for path in paths for case in cases.cases_of(pathlib.Path(path))][::every]:
+        first = case.lines[0]
+        made = case_image(program, first.word, cases.filled(first.rest, case.names), cases.bytes_of)
         if made:
-            yield f"{where}{names or ''}", made
+            yield f"{first.where}{case.names or ''}", made
 
 
 def case_image(program: str, kind: str, value: str, spelled: Callable[[str], bytes]) -> Optional[bytes]:

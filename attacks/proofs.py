@@ -19,7 +19,6 @@ If the program is refused by `verify`, each table that is accepted is reported t
 counts, also after an interrupt; the exit status is 1 if anything was wrong. --library is as for
 fuzz.py.
 """
-import argparse
 import itertools
 import os
 import random
@@ -416,8 +415,8 @@ def assembled() -> Iterator[tuple[str, bytes]]:
 
 def main() -> None:
     global RUN  # pylint: disable=global-statement
-    parser = argparse.ArgumentParser(usage=__doc__.split("\n\n")[1][7:])
-    parser.add_argument("--program", default=common.built())
+    parser = common.words()
+    parser.add_argument("--program", type=common.runnable, default=common.built())
     for name, number in ("--random", 200), ("--damages", 20), ("--seed", 1):
         parser.add_argument(name, type=int, default=number)
     parser.add_argument("--library", type=absolute)
@@ -425,7 +424,7 @@ def main() -> None:
     given = parser.parse_args()
     chance = random.Random(given.seed)
     wait(600)
-    RUN = runner(os.path.abspath(given.program), given.library)
+    RUN = runner(given.program, given.library)
     paths = [os.path.abspath(path) for path in given.paths]
     counts: Counts = Counter()
     wrong = 0

@@ -2,7 +2,7 @@
 """What `trace` takes for frames that each add a key, beside frames that each write a key that is
 there: the values are numbered anew in each frame, so what a frame changed has to be numbered.
 
-usage: python3 bench/keys.py PROGRAM [FRAMES ..]
+usage: python3 bench/keys.py [PROGRAM [FRAMES ..]]
 
 Each row has the microseconds a frame, of processor time outside the system, least of TIMES runs, without what the start
 takes. The keys come in random order.
@@ -15,7 +15,7 @@ import sys
 import tempfile
 
 sys.path.insert(0, os.path.join(os.path.dirname(os.path.abspath(__file__)), "../checks"))
-from common import program, record, write
+from common import need, program, record, write
 
 PROGRAM = program()
 TIMES = int(os.environ.get("TIMES", "3"))
@@ -52,6 +52,7 @@ def took(image: str, frames: str, command: str) -> float:
 
 
 def main() -> None:
+    need(PROGRAM)
     with tempfile.TemporaryDirectory() as folder:
         os.chdir(folder)
         print(f"{'frames':>7} {'beside':<24}{'trace, same key':>18}{'trace, new keys':>18}{'run, new keys':>18}")

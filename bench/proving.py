@@ -104,6 +104,7 @@ def build_calls() -> str | None:
 
 
 def main() -> None:
+    common.need(PROGRAM)
     with tempfile.TemporaryDirectory() as folder:
         os.chdir(folder)
         calls = build_calls()

@@ -97,6 +97,7 @@ def compare(name: str, image: str, path: str) -> None:
 
 
 def main() -> None:
+    common.need(PROGRAM)
     with tempfile.TemporaryDirectory() as room:
         os.chdir(room)
         text = "r0 = 0\n" + "r0 += 1\n" * (LONGEST - 2) + "exit\n"

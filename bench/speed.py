@@ -5,7 +5,7 @@ interpreter is also built with computed goto, as a column of its own, and so is 
 if pkg-config knows DPDK (libdpdk, Debian's libdpdk-dev). Its loader refuses loops, so most programs
 have no figure there.
 
-usage: python3 bench/speed.py PROGRAM [PROGRAM ..]
+usage: python3 bench/speed.py [PROGRAM ..]
 
 Where code lies in memory moves a loop by 10 to 30 %, so each interpreter in C is built four times, its code further on by
 16 bytes each, and several builds of xdpvm can be given. Each figure is the least of TIMES runs, in turn, over
@@ -19,9 +19,9 @@ import sys
 import tempfile
 
 sys.path.insert(0, os.path.join(os.path.dirname(os.path.abspath(__file__)), "../checks"))
-from common import TOP, Ended, measured, record, straight, there, write
+from common import TOP, Ended, measured, need, record, straight, there, write
 
-PROGRAMS = [os.path.abspath(path) for path in sys.argv[1:]]
+PROGRAMS = [os.path.abspath(path) for path in sys.argv[1:]] or [f"{TOP}/crates/xdpvm/out/xdpvm"]
 TIMES = int(os.environ.get("TIMES", "8"))
 PADS = [0, 16, 32, 48]
 # How each interpreter in C is built. Without the two flags gcc makes one jump of many of the computed ones.
@@ -298,6 +298,7 @@ def compared(kinds: list[str], name: str, text: str, stream: bytes) -> None:
 
 
 def main() -> None:
+    need(*PROGRAMS)
     rows = [
         ("packet parse, 64 in a frame", PARSE, packets(5000)),
         ("loop of 2 instructions", counted(499_998), plain(400)),

@@ -17,7 +17,7 @@ import tempfile
 from collections.abc import Sequence
 
 sys.path.insert(0, os.path.join(os.path.dirname(os.path.abspath(__file__)), "../checks"))
-from common import TOP, branches, built, bytes_of, counted_loop, measured, peak, record, stack_loop, straight, text_of, write
+from common import TOP, branches, built, bytes_of, counted_loop, measured, need, peak, record, stack_loop, straight, text_of, write
 
 PROGRAMS = [os.path.abspath(path) for path in sys.argv[1:]] or [built()]
 TIMES = int(os.environ.get("TIMES", "5"))
@@ -204,6 +204,7 @@ def parsers() -> None:
 
 
 def main() -> None:
+    need(*PROGRAMS)
     with tempfile.TemporaryDirectory() as folder:
         os.chdir(folder)
         subprocess.run(["gcc", "-O2", "-o", "switch", f"{TOP}/bench/switch.c"], check=True)

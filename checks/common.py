@@ -2,6 +2,7 @@
 
 A script of another folder puts this one on its path first; from then on it can import the files of the others, too.
 """
+import argparse
 import os
 import shutil
 import struct
@@ -28,11 +29,33 @@ def program(name: str = "xdpvm", at: int = 1) -> str:
 
 
 def need(*programs: str) -> None:
-    """Ends with a message where a program is not there."""
+    """Ends with a message where a program is not there, or with the script's help where that is asked for."""
+    if set(sys.argv[1:]) & {"-h", "--help"}:
+        print(help_of_script().strip())
+        sys.exit(0)
     for path in programs:
         if not os.access(path, os.X_OK):
-            script = os.path.basename(sys.argv[0])
-            sys.exit(f"{script}: there is no program {path}: give one, or build it as README.md says")
+            sys.exit(f"{os.path.basename(sys.argv[0])}: {lacking(path)}")
+
+
+def lacking(path: str) -> str:
+    return f"there is no program {path}: give one, or build it as README.md says"
+
+
+def runnable(path: str) -> str:
+    """The whole path of a program on the command line, which has to be there."""
+    if not os.access(path, os.X_OK):
+        raise argparse.ArgumentTypeError(lacking(path))
+    return os.path.abspath(path)
+
+
+def help_of_script() -> str:
+    return sys.modules["__main__"].__doc__ or ""
+
+
+def words() -> argparse.ArgumentParser:
+    """What reads the words of a script, whose help is what the script begins with."""
+    return argparse.ArgumentParser(description=help_of_script(), formatter_class=argparse.RawDescriptionHelpFormatter)
 
 
 def compiler() -> str:

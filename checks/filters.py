@@ -1,7 +1,7 @@
 #!/usr/bin/env python3
 """Runs each filter of examples/filters on the frames of examples/filters/mix.txt, by one command of tools/xdp.py.
 
-usage: python3 checks/filters.py [PROGRAM] [--clang COMPILER] [--only WORD]
+usage: python3 checks/filters.py [PROGRAM] [--clang COMPILER] [--cpu VERSION] [--only WORD]
 
 The first line of a filter says what the result has to be, by its source and the frames:
 
@@ -46,7 +46,7 @@ def wrong(path: str, given: argparse.Namespace) -> str | None:
         words = [sys.executable, f"{TOP}/tools/xdp.py", os.path.basename(path), "mix.txt", sent]
         words += ["--clang", given.clang, *(["--xdpvm", os.path.abspath(given.program)] if given.program else [])]
         words += (line_of(text, "words") or "").split()
-        words += ["--", *(line_of(text, "flags") or "").split()]
+        words += ["--", *(line_of(text, "flags") or "").split(), *([f"-mcpu={given.cpu}"] if given.cpu else [])]
         try:
             ran = subprocess.run(words, cwd=FOLDER, capture_output=True, text=True, timeout=SECONDS, check=False)
         except subprocess.TimeoutExpired:
@@ -78,6 +78,7 @@ def main() -> int:
     words = argparse.ArgumentParser(description=__doc__, formatter_class=argparse.RawDescriptionHelpFormatter)
     words.add_argument("program", nargs="?")
     words.add_argument("--clang", default="clang")
+    words.add_argument("--cpu", help="the version of instructions that clang takes: v1 to v4")
     words.add_argument("--only", help="those whose path has this word")
     given = words.parse_args()
     tried = failed = 0

@@ -13,7 +13,7 @@ The first word after the backquotes of a code block says how the block is tried:
     console     commands after `$`, each followed by its standard output
     tcpdump     the same, where tcpdump 4.99 with libpcap 1.10 is installed
     NAME.text   a program text; it is written to that file, for the commands that follow it on the page
-    NAME.maps   the same of a text of maps, NAME.cases of cases for tests/programs.py
+    NAME.maps   the same of a text of maps, NAME.case of cases for tests/cases.py
     program     a program text; `asm` assembles it, and `verify` answers what the comment says
     trace       a program text; the first frame of examples/two.frames, traced, has the lines that the comment says
     image       an image in hexadecimal; `verify` answers what the comment says
@@ -39,9 +39,11 @@ import subprocess
 import sys
 import tempfile
 from collections.abc import Iterable, Iterator
+from pathlib import Path
 
 import common
 from common import TOP, text_of, write
+import cases
 import filters
 
 PROGRAM, SURVEY, FILTER = common.program(), common.program("xdpvm_survey", 2), common.program("xdpvm_filter", 3)
@@ -70,41 +72,12 @@ def hex_of(path: str) -> str:
     return (common.bytes_of(path).hex() if os.path.exists(path) else "") + "\n"
 
 
-def line(text: str, place: int) -> str:
-    """One line of a text, if it has any."""
-    return "".join(text.splitlines(keepends=True)[place:][:1])
-
-
 def write_hex(name: str, text: str) -> None:
-    write(name, bytes.fromhex(re.sub(r"#.*", "", text)))
+    write(name, bytes_of_hex(text))
 
 
-def assembled(text: str) -> str | None:
-    """The refusal of `asm`, or None if it made example.image."""
-    write("example.text", text)
-    status, answer, why = run("asm", "example.text", "example.image")
-    return answer + why if status else None
-
-
-def verified() -> str:
-    """The verdict on example.image."""
-    return "".join(run("verify", "example.image")[1:])
-
-
-def rechecked(kind: str, body: str) -> str:
-    """The answer to a proof table of examples/pass.image."""
-    if kind == "table":
-        write_hex("example.table", body)
-    else:
-        write("example.text", body)
-        shell("python3 tools/table.py make example.text example.table")
-    return "".join(run("recheck", "examples/pass.image", "example.table")[1:])
-
-
-def traced() -> str:
-    """The line of the first frame, and what standard error says of it."""
-    _, report, why = run("trace", "example.image", "examples/two.frames", "sent")
-    return line(report, 0) + why.split("frame 1,")[0]
+def bytes_of_hex(text: str) -> bytes:
+    return bytes.fromhex(re.sub(r"#.*", "", text))
 
 
 def has_tcpdump() -> bool:
@@ -112,20 +85,47 @@ def has_tcpdump() -> bool:
     return re.search(r"tcpdump version 4\.99\..*libpcap version 1\.10\.", shell("tcpdump --version 2>&1"), re.S) is not None
 
 
-def answer_of(kind: str, body: str) -> str:
-    """The result for a block whose first comment says what is wanted."""
-    if kind == "program":
-        return assembled(body) or verified()
-    if kind == "trace":
-        return assembled(body) or traced()
-    if kind == "image":
-        write_hex("example.image", body)
-        return verified()
-    if kind in ("table", "entries"):
-        return rechecked(kind, body)
-    write_hex("example.frames", body)
-    _, answer, why = run("run", "examples/pass.image", "example.frames", "sent")
-    return line(answer, -1) + why
+def first_record() -> bytes:
+    """A stream of the first frame of examples/two.frames."""
+    stream = common.bytes_of("examples/two.frames")
+    return stream[: 4 + 20 + int.from_bytes(stream[20:24], "little")]
+
+
+def asked(kind: str, body: str, is_assembled: bool) -> Iterator[tuple[str, str]]:
+    """The lines of a case that makes the files of a block, and ends in the command that answers."""
+    if kind in ("program", "trace") and not is_assembled:
+        yield "file", f"text {body.encode().hex()}"
+        yield "$", "xdpvm asm text image"
+    elif kind in ("program", "trace"):
+        yield "text", body
+        yield "frames", first_record().hex()
+        yield "$", "xdpvm verify image" if kind == "program" else "xdpvm trace image frames sent"
+    elif kind == "entries":
+        yield "file", f"text {body.encode().hex()}"
+        yield "$", "table.py make text table"
+        yield "status", "0"
+        yield "$", "xdpvm recheck examples/pass.image table"
+    else:
+        of = {"image": ("image", "verify image"), "table": ("table", "recheck examples/pass.image table")}
+        name, command = of.get(kind, ("frames", "run examples/pass.image frames sent"))
+        yield name, bytes_of_hex(body).hex()
+        yield "$", f"xdpvm {command}"
+
+
+def block_case(kind: str, body: str) -> list[tuple[str, str]]:
+    """A block whose first comment says what is wanted, as the lines of a case (tests/README.md)."""
+    first, *rest = [line[2:] for line in common.there(COMMENT.match(body))[0].splitlines()]
+    out = {"trace": [first, "..."], "stream": ["...", first]}.get(kind, [first])
+    answer = [*(("1>", it) for it in out), *(("2>", it) for it in rest)]
+    status = {"refused": 2, "fault": 3}.get(first.split(" ")[0], 0)
+    return [*asked(kind, body, not first.startswith("refused A")), *answer, ("status", str(status))]
+
+
+def differences(lines: Iterable[tuple[str, str]], folder: str) -> str:
+    """What differs in a case whose files are in this folder."""
+    programs = {"xdpvm": PROGRAM, "xdpvm_survey": SURVEY, "xdpvm_filter": FILTER}
+    case = cases.Case({}, [cases.Line("", word, rest) for word, rest in lines])
+    return "".join(f"{it}\n" for it in cases.Trial(programs, Path(folder), case).differences())
 
 
 def has_programs(body: str) -> bool:
@@ -136,13 +136,15 @@ def has_programs(body: str) -> bool:
 
 def tries(kind: str, body: str) -> Iterator[Example]:
     """The examples of a block: what is tried, what is wanted, and the result."""
-    if kind.endswith((".text", ".maps", ".cases")):
+    if kind.endswith((".text", ".maps", ".case")):
         write(kind, body)
     elif kind == "console" and has_programs(body) or kind == "tcpdump" and has_tcpdump():
         for command, wanted in COMMAND.findall(body):
-            yield command, wanted, shell(command)
+            yield command, "", differences([("sh", command), *(("1>", it) for it in wanted.splitlines())], ".")
     elif kind in ("program", "trace", "image", "stream", "table", "entries"):
-        yield body, re.sub("^# ", "", common.there(COMMENT.match(body))[0], flags=re.M), answer_of(kind, body)
+        with tempfile.TemporaryDirectory() as folder:
+            os.symlink(os.path.join(TOP, "examples"), f"{folder}/examples")
+            yield body, "", differences(block_case(kind, body), folder)
 
 
 def stored() -> Iterator[Example]:
@@ -311,7 +313,7 @@ def filters_answer() -> Iterator[Example]:
     """Each filter of examples/filters has the result that its first line says, those in C where
     clang is installed, and each that the page on C names is there."""
     has_headers = os.path.exists("/usr/include/linux/bpf.h")
-    asked = argparse.Namespace(program=PROGRAM, clang="clang" if has_headers else "no compiler", only=None)
+    asked = argparse.Namespace(program=PROGRAM, clang="clang" if has_headers else "no compiler", cpu=None, only=None)
     for path in filters.paths(asked):
         yield os.path.relpath(path, TOP), "", filters.wrong(path, asked) or ""
     named = set(re.findall(r"`(\w+\.c)`", text_of(os.path.join(TOP, "docs/COMPILED.md"))))

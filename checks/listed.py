@@ -24,12 +24,11 @@ CHECKS = (
     Check("tour", "python3 checks/tour.py", "the changes of TOUR.md: what the prover says of each", 10),
     Check(
         "cases",
-        "python3 tests/commands.py",
-        "the commands of the programs on cases that are written by hand: what is written to each output and file, and the status",
-        6,
+        "python3 tests/cases.py",
+        "cases that are written by hand: what the programs write to each output and file, and their status; verdicts, bounds and "
+        "runs; what is said of wrong inputs",
+        15,
     ),
-    Check("programs", "python3 tests/programs.py", "texts: verdicts, bounds and runs of programs that are written by hand", 8),
-    Check("messages", "python3 checks/messages.py", "what is said of wrong inputs", 4),
     Check("edits_fit", "python3 checks/run.py --fit", "whether the text that each edit replaces is still there", 2),
     Check(
         "near",
@@ -87,7 +86,12 @@ CHECKS = (
     ),
     Check("objects_made", "python3 checks/test_object.py", "objects for Linux, made and read", 8),
     Check("files", "python3 checks/test_files.py", "that no tool writes over a file that it reads, and that outputs are whole", 10),
-    Check("objects_run", "python3 tests/object_files.py", "stored objects of clang and gcc against their C, compiled here", 8),
+    Check(
+        "objects_run",
+        "python3 tests/object_files.py",
+        "stored objects of clang 14, 16, 19 and gcc 12: their verdicts, and their runs against their C, compiled here, and against Linux",
+        12,
+    ),
     Check("damage", "python3 attacks/damage_tools.py --each 20", "damaged objects, captures and texts", 10),
     Check("manual", "python3 checks/manual.py --check", "the man pages and completions against what --help says", 2),
     Check("pictures", "python3 checks/pictures.py --check", "the pictures of the pages against what they show", 1),

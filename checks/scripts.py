@@ -5,9 +5,9 @@ pylint and shellcheck find in all of them, where these are installed: pyproject.
 usage: python3 checks/scripts.py [--anew]
 
 A script is a file of attacks/, bench/, checks/, examples/, tests/ or tools/ that is called by itself. It has a run in the gate if
-.ci/run, .ci/prove or the list of checks (checks/listed.py) calls it, or a script that they call does. The exit status is 1 if one
-has neither, if a row names none, or if one of the four finds something. Where they found nothing they are not asked again until a
-script, a setting or a version changes (noted in ~/.cache/xdpvm_scripts; --anew asks all the same). In the gate.
+.ci/run, .ci/prove, the list of checks (checks/listed.py) or a case of tests/ calls it, or a script that they call does. The exit
+status is 1 if one has neither, if a row names none, or if one of the four finds something. Where they found nothing they are not
+asked again until a script, a setting or a version changes (noted in ~/.cache/xdpvm_scripts; --anew asks all the same). In the gate.
 """
 import argparse
 import hashlib
@@ -66,7 +66,7 @@ def scripts() -> list[str]:
 def in_gate(every: list[str]) -> set[str]:
     """The scripts that the gate calls, directly or by one that it calls."""
     found: set[str] = set()
-    waiting = [".ci/run", ".ci/prove", "checks/listed.py", "checks/__main__.py"]
+    waiting = [".ci/run", ".ci/prove", "checks/listed.py", "checks/__main__.py", *tracked("tests/*.case")]
     while waiting:
         text = code_of(text_of(waiting.pop()))
         for path in every:
