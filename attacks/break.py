@@ -1,5 +1,14 @@
-"""The work of break.sh: runs the program under break.c, breaks one call at a time, and compares the
-results."""
+#!/usr/bin/env python3
+"""Tries to break the program from outside: makes each allocation, each read and each write fail in turn, and each read and write
+move only one byte in turn, for every command on the examples.
+
+usage: python3 attacks/break.py [--few] [PROGRAM [FOLDER]]
+
+ASSURANCE.md says which answers are allowed; the last line says how many were tried, in some minutes. PROGRAM is xdpvm (the default:
+crates/xdpvm/out/xdpvm). With FOLDER it takes what is there: NAME.image, with NAME.frames and NAME.table if there are some, and
+NAME.text. With --few it takes three programs and some proof tables, and each allocation, read and write in turn; that takes
+seconds, and the gate does it. It needs a C compiler (CC).
+"""
 
 from __future__ import annotations
 
@@ -9,26 +18,25 @@ import select
 import struct
 import subprocess
 import sys
-from collections import Counter
+import tempfile
 from collections.abc import Iterator
-from typing import IO
+from pathlib import Path
 
 sys.path.insert(0, os.path.join(os.path.dirname(os.path.abspath(__file__)), "../checks"))
-from common import bytes_of, there, write
+import common
+from common import TOP, bytes_of, there, write
+from failing import Answer, Told, Tried, prepare
 
-arguments = sys.argv[1:]
-FEW = arguments[0] == "--few"
-program, examples, work, *folders = arguments[FEW:]
 KINDS = ("alloc", "allocs", "read", "write", "no-write", "short-read", "short-write")
 FEW_KINDS = ("alloc", "read", "write")
 
 
 def image(name: str) -> str:
-    return f"{examples}/{name}.image"
+    return f"examples/{name}.image"
 
 
 def frames(name: str) -> str:
-    return f"{examples}/{name}.frames"
+    return f"examples/{name}.frames"
 
 
 def by_table(name: str) -> list[list[str]]:
@@ -118,66 +126,24 @@ def records(stream: bytes) -> list[bytes]:
     return found
 
 
-def map_lines(words: list[str], count: int) -> list[bytes]:
+def map_lines(xdpvm: Tried, words: list[str], count: int) -> list[bytes]:
     """The lines of maps after the first frames."""
     stream = bytes_of(words[2])
     write("first.frames", stream[:4] + b"".join(records(stream)[:count]))
-    out = Answer([*words[:2], "first.frames", *words[3:]]).out
+    out = xdpvm.answer([*words[:2], "first.frames", *words[3:]]).out
     return [line for line in out.splitlines() if line.startswith(b"map ")]
 
 
-class Answer:
-    """What a run wrote, its status, and whether the call that was to fail was reached. Standard output is a pipe, or a
-    file where it is to be stored."""
-
-    def __init__(self, words: list[str], kind: str | None = None, call: int = 0, stored: bool = False) -> None:
-        for name in ("made", "mark"):
-            if os.path.exists(name):
-                os.remove(name)
-        env = {"LD_PRELOAD": f"{work}/between.so"}
-        if kind:
-            env.update({"BREAK": kind, "WHEN": str(call), "MARK": f"{work}/mark"})
-        with open("report", "w+b") as report:
-            out: int | IO[bytes] = report if stored else subprocess.PIPE
-            ended = subprocess.run(
-                [program, *words],
-                env=env,
-                stdin=subprocess.DEVNULL,
-                stdout=out,
-                stderr=subprocess.PIPE,
-                timeout=60,
-                check=False,
-            )
-            report.seek(0)
-            self.out: bytes = report.read() if stored else ended.stdout
-        self.status: int = ended.returncode
-        self.err: bytes = ended.stderr
-        self.made = bytes_of("made") if os.path.exists("made") else None
-        self.reached = os.path.exists("mark")
-        self.tried_again = self.reached and os.path.getsize("mark") > 0
-
-    def is_as(self, good: Answer) -> bool:
-        return (self.status, self.out, self.err, self.made) == (good.status, good.out, good.err, good.made)
-
-    def message(self) -> bytes:
-        """The first line of standard error; what follows it may say the cause."""
-        return self.err.partition(b"\n")[0]
-
-    def is_quiet(self) -> bool:
-        """Neither standard output nor the file got a byte."""
-        return not self.out and not self.made
-
-    def begins(self, good: Answer) -> bool:
-        """Both outputs have a beginning of what they should have, and nothing else."""
-        return good.out.startswith(self.out) and (good.made or b"").startswith(self.made or b"")
+def message(answer: Answer) -> bytes:
+    """The first line of standard error; what follows it may say the cause."""
+    return answer.err.partition(b"\n")[0]
 
 
 def lacks_reason(found: Answer, good: Answer) -> bool:
     """What is known at the refusal of a text, of control flow, of a program or of an entry of a
     table is left out, and standard error has the sentence, the position, and for P7 the sentence of
     its V code."""
-    same = (found.status, found.out, found.made) == (good.status, good.out, good.made)
-    lines = good.err.splitlines(keepends=True)
+    same, lines = found.has_outputs_of(good), good.err.splitlines(keepends=True)
     kept = lines[:2] + (lines[3:4] if good.out.startswith(b"refused P7") else [])
     known = tuple(b"refused " + code for code in (b"A", b"G", b"V", b"P7", b"P8"))
     return same and good.out.startswith(known) and found.err == b"".join(kept)
@@ -186,13 +152,12 @@ def lacks_reason(found: Answer, good: Answer) -> bool:
 def lacks_stops(words: list[str], found: Answer, good: Answer) -> bool:
     """Where the runs of a trace stopped is left out, and standard error has why the stream ended
     early."""
-    same = (found.status, found.out, found.made) == (good.status, good.out, good.made)
-    lines = good.err.splitlines(keepends=True)
+    same, lines = found.has_outputs_of(good), good.err.splitlines(keepends=True)
     stops = [k for k, line in enumerate(lines) if line.startswith(b"frame ")]
     return words[0] == "trace" and same and bool(stops) and found.err == b"".join(lines[: stops[0]])
 
 
-def of_memory(words: list[str], found: Answer, good: Answer) -> str | None:
+def of_memory(_: Tried, words: list[str], found: Answer, good: Answer) -> str | None:
     if found.status == 5 and found.err == b"out of memory\n" and found.is_quiet():
         return "status 5"
     if found.is_as(good):
@@ -201,53 +166,53 @@ def of_memory(words: list[str], found: Answer, good: Answer) -> str | None:
     return "unchanged, what is known left away" if known else None
 
 
-def of_read(words: list[str], found: Answer, good: Answer) -> str | None:
+def of_read(xdpvm: Tried, words: list[str], found: Answer, good: Answer) -> str | None:
     named = [words[1]] + ([words[-1]] if words[0] == "recheck" or "--table" in words else [])
-    if found.status == 4 and found.message() in [f"cannot read {name}".encode() for name in named] and found.is_quiet():
+    if found.status == 4 and message(found) in [f"cannot read {name}".encode() for name in named] and found.is_quiet():
         return "status 4"
-    if found.status != 3 or found.message() != b"the stream cannot be read":
+    if found.status != 3 or message(found) != b"the stream cannot be read":
         return None
     *lines, last = found.out.splitlines()
     of_frames = [line for line in lines if not line.startswith(b"map ")]
-    made = found.made or b""
+    made = found.files[0] or b""
     # if the magic of the frames was not read, the frames out are XPF1
-    begun = (good.made or b"").startswith(made) or (last == b"fault F5 at 0" and made == b"XPF1")
+    begun = (good.files[0] or b"").startswith(made) or (last == b"fault F5 at 0" and made == b"XPF1")
     begun = begun and good.out.splitlines()[: len(of_frames)] == of_frames
-    whole = lines[len(of_frames) :] == map_lines(words, len(of_frames))
+    whole = lines[len(of_frames) :] == map_lines(xdpvm, words, len(of_frames))
     return "status 3, F5" if last.startswith(b"fault F5 at ") and begun and whole else None
 
 
-def of_write(_: list[str], found: Answer, good: Answer) -> str | None:
+def of_write(_: Tried, __: list[str], found: Answer, good: Answer) -> str | None:
     if found.tried_again:
         return None
-    is_named = found.message() in (b"cannot write standard output", b"cannot write made")
+    is_named = message(found) in (b"cannot write standard output", b"cannot write made")
     if found.status == 4 and is_named and found.begins(good):
         return "status 4"
-    same = (found.status, found.out, found.made) == (good.status, good.out, good.made)
+    same = found.has_outputs_of(good)
     return "status unchanged, nothing said" if good.err and same else None
 
 
-def of_short(_: list[str], found: Answer, good: Answer) -> str | None:
+def of_short(_: Tried, __: list[str], found: Answer, good: Answer) -> str | None:
     return "unchanged" if found.is_as(good) else None
 
 
 ALLOWED = dict(zip(KINDS, (of_memory, of_memory, of_read, of_write, of_write, of_short, of_short)))
 
 
-def takes_memory_late(words: list[str], good: Answer) -> bool:
+def takes_memory_late(xdpvm: Tried, words: list[str], good: Answer) -> bool:
     """Whether `run` or `trace` asks for memory once it has written a byte, or has another result if
     all of it is refused then. What is known of a refused program is looked for after the refusal is
     written, so refusals are left out; and where the runs of a trace stopped is put into words after
     them."""
-    found = Answer(words, "late-allocs", 1)
+    found = xdpvm.answer(words, "late-allocs", 1)
     return not lacks_stops(words, found, good) and (found.reached or not found.is_as(good))
 
 
-def comes_at_once() -> bool:
+def comes_at_once(xdpvm: Tried) -> bool:
     """Whether the magic of the frames out and the line of the first frame, in a pipe, come before the second frame."""
     stream = bytes_of(frames("two"))
     front = stream[:4] + records(stream)[0]
-    words = [program, "run", image("pass"), "/dev/stdin", "made"]
+    words = [xdpvm.program, "run", image("pass"), "/dev/stdin", "made"]
     with subprocess.Popen(words, stdin=subprocess.PIPE, stdout=subprocess.PIPE, bufsize=0) as running:
         given, said = there(running.stdin), there(running.stdout)
         given.write(front)
@@ -259,58 +224,64 @@ def comes_at_once() -> bool:
         given.close()
         rest = said.read()
     made = bytes_of("made")
-    good = Answer(words[1:3] + [frames("two"), "made"])
+    good = xdpvm.answer(words[1:3] + [frames("two"), "made"])
     begun = first == good.out.splitlines(keepends=True)[0] and magic == stream[:4]
-    return begun and first + rest == good.out and made == good.made
+    return begun and first + rest == good.out and (made,) == good.files
 
 
-def make_tables() -> None:
-    """The proof tables of some programs, and tables that are refused."""
-    for name in ("pass", "echo", "allow", "reasons"):
-        Answer(["prove", image(name), "made"])
-        os.rename("made", f"{name}.table")
-    for name, fields in REFUSED.items():
-        write("table.text", ENTRIES.format(*fields))
-        subprocess.run(["python3", f"{examples}/../tools/table.py", "make", "table.text", f"{name}.table"], check=True)
-
-
-def main() -> None:
-    os.chdir(work)
+def make_files(xdpvm: Tried) -> None:
+    """Texts, the proof tables of some programs, and tables that are refused."""
     write("right.text", "  r0 = 2 # passes\nagain: r1 = 5; if r1 > 7 goto again\nexit\n")
     write("wrong.text", "exit\ngoto nowhere\n")
     write("again.text", "again: r6 = *(u32 *)(r1 + 12)\nif r6 != 0 goto again\nr0 = 2\nexit\n")
     write("falls.text", "r0 = 2\n")
     for name in ("again", "falls"):
-        Answer(["asm", f"{name}.text", f"{name}.image"])
-    make_tables()
-    given: Counter[tuple[str, str | None]] = Counter()
-    wrong = 0
-    if not comes_at_once():
-        wrong += 1
-        print("WRONG the first line or the magic did not come before the second frame", flush=True)
-    runs = [words for folder in folders for words in runs_of(folder)] or (FEW_RUNS if FEW else RUNS)
+        subprocess.run([xdpvm.program, "asm", f"{name}.text", f"{name}.image"], stdout=subprocess.DEVNULL, check=True)
+    for name in ("pass", "echo", "allow", "reasons"):
+        xdpvm.answer(["prove", image(name), "made"])
+        os.rename("made", f"{name}.table")
+    for name, fields in REFUSED.items():
+        write("table.text", ENTRIES.format(*fields))
+        subprocess.run([sys.executable, f"{TOP}/tools/table.py", "make", "table.text", f"{name}.table"], check=True)
+
+
+def tried(xdpvm: Tried, runs: list[list[str]], kinds: tuple[str, ...]) -> int:
+    """Tries each failure of each run, and tells of them. The exit status."""
+    told, others = Told(), []
+    if not comes_at_once(xdpvm):
+        others.append("the first line or the magic did not come before the second frame")
     for words in runs:
-        good = Answer(words)
-        if words[0] in ("run", "trace") and good.status != 2 and takes_memory_late(words, good):
-            wrong += 1
-            print("WRONG memory was asked for after the first byte", words, flush=True)
+        good = xdpvm.answer(words)
+        if words[0] in ("run", "trace") and good.status != 2 and takes_memory_late(xdpvm, words, good):
+            others.append(f"memory was asked for after the first byte: {words}")
     for words, stored in itertools.product(runs, (False, True)):
-        good = Answer(words, stored=stored)
-        for kind in FEW_KINDS if FEW else KINDS:
-            for call in range(1, 100000):
-                found = Answer(words, kind, call, stored)
-                if not found.reached:
-                    break
-                answer = ALLOWED[kind](words, found, good)
-                given[kind, answer] += 1
-                if answer is None:
-                    wrong += 1
-                    print("WRONG", kind, call, words, found.status, found.out, found.err, found.made, flush=True)
-    for (kind, answer), count in sorted(given.items(), key=str):
-        print(f"{count:6} {kind}: {answer}")
-    memory = sum(count for (kind, _), count in given.items() if kind.startswith("alloc"))
-    print(f"{sum(given.values())} refusals tried on {2 * len(runs)} runs, {memory} of memory: {wrong} wrong answers")
-    sys.exit(1 if wrong or not memory else 0)
+        good = xdpvm.answer(words, stored=stored)
+        for kind in kinds:
+            for call, found in xdpvm.failures(words, kind, stored):
+                told.count(words, kind, call, found, ALLOWED[kind](xdpvm, words, found, good))
+    told.tell()
+    wrong, memory = told.wrong() + len(others), sum(count for (kind, _), count in told.counts.items() if kind.startswith("alloc"))
+    print(*(f"WRONG {it}" for it in others), sep="\n", end="\n" if others else "")
+    print(f"{told.counts.total()} refusals tried on {2 * len(runs)} runs, {memory} of memory: {wrong} wrong answers")
+    return 1 if wrong or not memory else 0
 
 
-main()
+def main() -> int:
+    parser = common.words()
+    parser.add_argument("--few", action="store_true")
+    parser.add_argument("program", nargs="?", type=common.runnable, default=common.built())
+    parser.add_argument("folder", nargs="?", type=Path)
+    given = parser.parse_args()
+    runs = list(runs_of(str(given.folder.resolve()))) if given.folder else FEW_RUNS if given.few else RUNS
+    with tempfile.TemporaryDirectory() as folder:
+        os.chdir(folder)
+        prepare()
+        xdpvm = Tried(given.program, ("made",))
+        make_files(xdpvm)
+        status = tried(xdpvm, runs, FEW_KINDS if given.few else KINDS)
+        os.chdir("/")
+    return status
+
+
+if __name__ == "__main__":
+    sys.exit(main())

@@ -22,10 +22,12 @@ import subprocess
 import sys
 import tempfile
 from collections.abc import Iterator
+from pathlib import Path
 
 sys.path.insert(0, os.path.join(os.path.dirname(os.path.abspath(__file__)), "../checks"))
 import common
-from common import TOP, compiler, write
+from common import write
+from failing import Answer, Told, Tried, prepare
 
 RUNS = (
     ["examples/filter.image", "examples/unguarded.image", "--format", "csv"],
@@ -50,19 +52,8 @@ TICK = 1_234_567_000
 TOOK = {"milliseconds": "3703.701", "prove_milliseconds": "8641.969", "recheck_milliseconds": "13580.237"}
 
 
-class Answer:
-    """What the program wrote, its status, and whether the call that was to fail was reached. Times are left out."""
-
-    def __init__(self, program: str, words: list[str], kind: str | None = None, call: int = 0) -> None:
-        env = {"LD_PRELOAD": os.path.abspath("between.so")}
-        if os.path.exists("mark"):
-            os.remove("mark")
-        if kind:
-            env.update({"BREAK": kind, "WHEN": str(call), "MARK": "mark"})
-        ran = subprocess.run([program, *words], env=env, stdin=subprocess.DEVNULL, capture_output=True, timeout=60, check=False)
-        self.status, self.out, self.err = ran.returncode, TIMES.sub(b"T", ran.stdout), ran.stderr
-        self.broken = os.path.exists("mark")
-        self.tried_again = self.broken and os.path.getsize("mark") > 0
+def without_times(out: bytes) -> bytes:
+    return TIMES.sub(b"T", out)
 
 
 def is_shorter(answer: Answer, whole: Answer) -> bool:
@@ -78,7 +69,7 @@ def is_right(kind: str, answer: Answer, whole: Answer) -> bool:
     if kind in REASONS:
         is_named = re.search(rb"^cannot (read|write) \S+: " + REASONS[kind] + b"$", answer.err, re.M)
         return answer.status == 4 and is_named is not None
-    if (answer.status, answer.out, answer.err) == (whole.status, whole.out, whole.err):
+    if answer.is_as(whole):
         return True
     if kind == "alloc":
         says = answer.err.endswith(b"out of memory\n") or b"memory" in answer.out
@@ -116,37 +107,35 @@ def runs_of(folder: str) -> Iterator[list[str]]:
             yield ["dis", "--dot", path]
 
 
-def prepare() -> None:
-    os.symlink(os.path.join(TOP, "examples"), "examples")
+def make_files() -> None:
+    prepare()
     for name in ("few", "made"):
         os.mkdir(name)
     for name in ("filter", "talkers", "unguarded"):
         shutil.copy(f"examples/{name}.image", "few")
     write("old.csv", "file,bound,explored\nfew/filter.image,5,7\n")
-    subprocess.run([compiler(), "-O1", "-fPIC", "-shared", "-o", "between.so", f"{TOP}/attacks/break.c"], check=True)
 
 
-def main() -> None:
-    program = common.program("xdpvm_survey")
-    common.need(program)
-    runs = list(runs_of(os.path.abspath(sys.argv[2]))) if len(sys.argv) > 2 else RUNS
+def main() -> int:
+    parser = common.words()
+    parser.add_argument("program", nargs="?", type=common.runnable, default=common.built("xdpvm_survey"))
+    parser.add_argument("folder", nargs="?", type=Path)
+    given = parser.parse_args()
+    runs = list(runs_of(str(given.folder.resolve()))) if given.folder else RUNS
+    survey, told = Tried(given.program, cleaned=without_times), Told()
     with tempfile.TemporaryDirectory() as folder:
         os.chdir(folder)
-        prepare()
-        tried, wrong = 1, int(not has_right_times(program))
+        make_files()
+        others = int(not has_right_times(given.program))
         for words in runs:
-            whole = Answer(program, words)
+            whole = survey.answer(words)
             for kind in KINDS:
-                call = 1
-                while (answer := Answer(program, words, kind, call)).broken:
-                    tried += 1
-                    if not is_right(kind, answer, whole):
-                        wrong += 1
-                        print(f"{' '.join(words)}: {kind} {call}: {answer.status} {answer.out[-200:]!r} {answer.err[-200:]!r}")
-                    call += 1
+                for call, answer in survey.failures(words, kind):
+                    told.count(words, kind, call, answer, "right" if is_right(kind, answer, whole) else None)
         os.chdir("/")
-    print(f"{tried} tried, {wrong} wrong")
-    sys.exit(1 if wrong else 0)
+    print(f"{told.counts.total() + 1} tried, {told.wrong() + others} wrong")
+    return 1 if told.wrong() + others else 0
 
 
-main()
+if __name__ == "__main__":
+    sys.exit(main())

@@ -1,5 +1,6 @@
 #!/usr/bin/env python3
-"""Damages what the tools read: objects, captures, frame streams, texts of frames, proof tables and their texts.
+"""Damages what the tools read: objects, images, captures, frame streams, texts of frames, proof tables and their texts, and
+classic programs.
 
 usage: python3 attacks/damage_tools.py [--each N] [--seed N]
 
@@ -8,6 +9,7 @@ place of four bytes. Each is read by the tool's own functions. What comes is wha
 other exception is printed with the bytes' place in the run. The last line counts; the exit status is 1 if there was one.
 """
 import argparse
+import contextlib
 import glob
 import io
 import os
@@ -18,21 +20,51 @@ from typing import Callable, Iterator
 
 sys.path.insert(0, os.path.join(os.path.dirname(os.path.abspath(__file__)), "../checks"))
 from common import TOP, bytes_of
+import classic
+import expressions
 import frames
 import image
+import object_image
 import table
 from inputs import NoText, text_lines
 from objects import Refused
 
 Reader = Callable[[bytes], object]
 BTF = os.path.join(TOP, "tests/objects/made/kernel.btf")
+# what `tcpdump -ddd` writes of `udp port 53`, for IPv4
+CLASSIC = """\
+13
+40 0 0 12
+21 0 10 2048
+48 0 0 23
+21 0 8 17
+40 0 0 20
+69 6 0 8191
+177 0 0 14
+72 0 0 14
+21 2 0 53
+72 0 0 16
+21 0 1 53
+6 0 0 262144
+6 0 0 0
+"""
 
 
 def read_object(data: bytes) -> None:
-    try:
+    with contextlib.suppress(Refused):
+        image.listed(data)
+    with contextlib.suppress(Refused):
         image.made(data, image.Wanted(btf=BTF))
-    except Refused:
-        pass
+
+
+def read_image(data: bytes) -> None:
+    with contextlib.suppress(object_image.Refused):
+        object_image.Program(data)
+
+
+def read_classic(data: bytes) -> None:
+    with contextlib.suppress(classic.Failed):
+        expressions.translated(classic.classic_program(data.decode(errors="replace")), "", expressions.Options())
 
 
 def read_types(data: bytes) -> None:
@@ -41,40 +73,34 @@ def read_types(data: bytes) -> None:
     with tempfile.NamedTemporaryFile() as types:
         types.write(data)
         types.flush()
-        try:
+        with contextlib.suppress(Refused):
             image.made(asked, image.Wanted(btf=types.name))
-        except Refused:
-            pass
 
 
 def read_frames(data: bytes) -> None:
     source, state = frames.Source(io.BytesIO(data)), frames.Met()
-    try:
+    with contextlib.suppress(frames.Damaged, NoText):
         for one in frames.reader_of(source)[0](source, state):
             assert len(one.body) <= frames.PIECE
-    except (frames.Damaged, NoText):
-        pass
 
 
 def read_table(data: bytes) -> None:
-    try:
+    with contextlib.suppress(table.Refused):
         table.text_of(table.entries_of(data))
-    except table.Refused:
-        pass
 
 
 def read_table_text(data: bytes) -> None:
-    try:
+    with contextlib.suppress(table.Wrong, NoText):
         table.table_bytes(table.entries_in(text_lines(io.BytesIO(data).readline)))
-    except (table.Wrong, NoText):
-        pass
 
 
 def stored() -> Iterator[tuple[str, Reader, bytes]]:
     """Each stored file with what reads it."""
+    yield "a classic program", read_classic, CLASSIC.encode()
     kinds: list[tuple[str, Reader]] = [
         ("tests/objects/made/*.o", read_object),
         ("tests/objects/made/*.btf", read_types),
+        ("examples/*.image", read_image),
         ("examples/*.pcapng", read_frames),
         ("examples/*.frames", read_frames),
         ("examples/filters/*.txt", read_frames),

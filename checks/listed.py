@@ -89,7 +89,7 @@ CHECKS = (
     Check(
         "objects_run",
         "python3 tests/object_files.py",
-        "stored objects of clang 14, 16, 19 and gcc 12: their verdicts, and their runs against their C, compiled here, and against Linux",
+        "stored objects of clang 14, 16, 19 and gcc 12: their verdicts, and runs against their C, compiled here, and against Linux",
         12,
     ),
     Check("damage", "python3 attacks/damage_tools.py --each 20", "damaged objects, captures and texts", 10),
@@ -136,7 +136,7 @@ CHECKS = (
         3,
         alone=True,
     ),
-    Check("failures", "bash attacks/break.sh --few", "what happens where memory, a read or a write fails, on three programs", 12),
+    Check("failures", "python3 attacks/break.py --few", "what comes of memory, reads and writes that fail, on three programs", 12),
     Check("survey_failures", "python3 attacks/break_survey.py", "the same of the survey", 8),
     Check("filter_failures", "python3 attacks/break_filter.py", "the same of xdpvm_filter", 8),
     Check(

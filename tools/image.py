@@ -30,9 +30,10 @@ examples:
 The exit status is 0, or 1 with a message; then no image is written.
 """
 import argparse
+import contextlib
 import struct
 from dataclasses import dataclass
-from typing import BinaryIO
+from typing import BinaryIO, Iterator
 
 from core_relocations import Kernel
 from image_link import Image, Linker
@@ -101,10 +102,11 @@ def bytes_of(image: Image) -> bytes:
     return image.magic + struct.pack("<HH", len(image.rows), len(image.slots) // 8) + b"".join(image.rows) + image.slots
 
 
-def made(data: bytes, wanted: Wanted = Wanted()) -> Image:
-    """The same for an object that may be damaged: then the error says so."""
+@contextlib.contextmanager
+def damage_told() -> Iterator[None]:
+    """Refuses an object in which anything that is read turns out to be damaged."""
     try:
-        return linked(data, wanted)
+        yield
     except (
         struct.error,
         IndexError,
@@ -117,6 +119,18 @@ def made(data: bytes, wanted: Wanted = Wanted()) -> Image:
         MemoryError,
     ):
         raise Refused(DAMAGED) from None
+
+
+def made(data: bytes, wanted: Wanted = Wanted()) -> Image:
+    """The image of the program in the bytes of an object that may be damaged."""
+    with damage_told():
+        return linked(data, wanted)
+
+
+def listed(data: bytes) -> dict[str, list[str]]:
+    """The programs of an object that may be damaged, by section."""
+    with damage_told():
+        return programs(Object(data))
 
 
 def read_object(file: BinaryIO) -> bytes:
@@ -154,7 +168,7 @@ def main() -> None:
         with open(given.object, "rb") as file:
             data = read_object(file)
         if given.list:
-            for section, names in programs(Object(data)).items():
+            for section, names in listed(data).items():
                 print(f"{section}: {', '.join(names)}")
             return
         image = made(data, Wanted(given.section, given.program, given.btf, given.lru_as_hash))
@@ -167,8 +181,6 @@ def main() -> None:
         end(f"{why}")
     except Refused as why:
         end(f"{given.source or given.object}: {why}")
-    except (struct.error, IndexError, ValueError, KeyError, TypeError):
-        end(f"{given.source or given.object}: {DAMAGED}")
 
 
 if __name__ == "__main__":

@@ -86,10 +86,12 @@ class Kernel:
     def linked(self, slots: list[bytes]) -> Iterator[bytes]:
         """The slots, with the maps' file descriptors in place of their indexes."""
         wide = False
-        for slot in slots:
+        for at, slot in enumerate(slots):
             opcode, registers, offset, imm = struct.unpack("<BBhi", slot)
             kind = registers >> 4
             if opcode == 0x18 and not wide and kind in (5, 6):
+                if not 0 <= imm < len(self.maps):
+                    raise ValueError(f"slot {at} loads map {imm}, which the image does not have")
                 slot = struct.pack("<BBhi", opcode, registers & 15 | (1 if kind == 5 else 2) << 4, offset, self.maps[imm])
             wide = opcode == 0x18 and not wide
             yield slot

@@ -31,10 +31,10 @@ import tempfile
 from dataclasses import replace
 from typing import Iterator, NamedTuple
 
-from image import chosen, programs
+from image import listed, read_object
 from failures import Words, end, said, shown
 from inputs import named
-from objects import Object, Refused
+from objects import Refused
 from outputs import end_by_signal
 from sources import Choice, Failed, Source, TextRefused, begin_of, compiled, image_of, program_beside, the_xdpvm
 
@@ -78,11 +78,8 @@ def choices(path: str, choice: Choice, folder: str) -> list[tuple[str, Choice]]:
     begin = begin_of(path)
     if begin == b"\x7fELF" or path.endswith(".c"):
         with open(path if begin == b"\x7fELF" else compiled(path, choice, folder), "rb") as file:
-            it = Object(file.read())
-        found = [(section, name) for section, names in programs(it).items() for name in names]
-        if len(found) != 1:
-            return [(f":{name}", replace(choice, section=section, program=name)) for section, name in found]
-        return [("", replace(choice, section=found[0][0], program=chosen(it, *found[0]).name))]
+            found = [(section, name) for section, names in listed(read_object(file)).items() for name in names]
+        return [("" if len(found) == 1 else f":{name}", replace(choice, section=section, program=name)) for section, name in found]
     return [("", choice)]
 
 

@@ -1,0 +1,103 @@
+"""Programs under break.c, which makes one call of a run fail: what the run wrote, and whether it came to that call."""
+
+import os
+import subprocess
+from collections import Counter
+from collections.abc import Callable, Iterator, Sequence
+from dataclasses import dataclass
+from typing import IO
+
+from common import TOP, bytes_of, compiler
+
+BETWEEN, MARK, STORED = "between.so", "mark", "standard.output"
+SECONDS = 60
+
+
+def prepare() -> None:
+    """Links the examples into the working folder, and compiles break.c there."""
+    os.symlink(os.path.join(TOP, "examples"), "examples")
+    subprocess.run([compiler(), "-O1", "-fPIC", "-shared", "-o", BETWEEN, f"{TOP}/attacks/break.c"], check=True)
+
+
+@dataclass(frozen=True)
+class Answer:
+    """What a run wrote to standard output and standard error, its status, its files, and whether the call that was to fail was
+    reached, and tried again."""
+
+    status: int
+    out: bytes
+    err: bytes
+    files: tuple[bytes | None, ...]
+    reached: bool
+    tried_again: bool
+
+    def is_as(self, whole: "Answer") -> bool:
+        return self.has_outputs_of(whole) and self.err == whole.err
+
+    def has_outputs_of(self, whole: "Answer") -> bool:
+        return (self.status, self.out, self.files) == (whole.status, whole.out, whole.files)
+
+    def is_quiet(self) -> bool:
+        """Whether neither standard output nor a file got a byte."""
+        return not self.out and not any(self.files)
+
+    def begins(self, whole: "Answer") -> bool:
+        """Whether each output has a beginning of what it should have, and nothing else."""
+        pairs = zip((self.out, *self.files), (whole.out, *whole.files))
+        return all((right or b"").startswith(found or b"") for found, right in pairs)
+
+
+@dataclass(frozen=True)
+class Tried:
+    """A program, the files that it may write, and what makes its standard output the same in each run."""
+
+    program: str
+    outputs: tuple[str, ...] = ()
+    cleaned: Callable[[bytes], bytes] = bytes
+
+    def answer(self, words: Sequence[str], kind: str | None = None, call: int = 0, stored: bool = False) -> Answer:
+        """A run, in which the nth call of a kind fails. Standard output is a pipe, or a file where it is stored."""
+        for name in (*self.outputs, MARK):
+            if os.path.exists(name):
+                os.remove(name)
+        env = {"LD_PRELOAD": os.path.abspath(BETWEEN)}
+        if kind:
+            env.update({"BREAK": kind, "WHEN": str(call), "MARK": os.path.abspath(MARK)})
+        with open(STORED, "w+b") as file:
+            out: int | IO[bytes] = file if stored else subprocess.PIPE
+            called = [self.program, *words]
+            ran = subprocess.run(
+                called, env=env, stdin=subprocess.DEVNULL, stdout=out, stderr=subprocess.PIPE, timeout=SECONDS, check=False
+            )
+            file.seek(0)
+            said = self.cleaned(file.read() if stored else ran.stdout)
+        files = tuple(bytes_of(name) if os.path.exists(name) else None for name in self.outputs)
+        reached = os.path.exists(MARK)
+        return Answer(ran.returncode, said, ran.stderr, files, reached, reached and os.path.getsize(MARK) > 0)
+
+    def failures(self, words: Sequence[str], kind: str, stored: bool = False) -> Iterator[tuple[int, Answer]]:
+        """A run for each call of a kind, in which that call fails."""
+        call = 1
+        while (answer := self.answer(words, kind, call, stored)).reached:
+            yield call, answer
+            call += 1
+
+
+class Told:
+    """How often which answer came; a wrong one is printed."""
+
+    def __init__(self) -> None:
+        self.counts: Counter[tuple[str, str | None]] = Counter()
+
+    def count(self, words: Sequence[str], kind: str, call: int, answer: Answer, result: str | None) -> None:
+        """Counts an answer: what it was, or None, where it is not allowed."""
+        self.counts[kind, result] += 1
+        if result is None:
+            print(f"WRONG {' '.join(words)}: {kind} {call}: {answer}"[:2000], flush=True)
+
+    def wrong(self) -> int:
+        return sum(count for (_, result), count in self.counts.items() if result is None)
+
+    def tell(self) -> None:
+        for (kind, result), count in sorted(self.counts.items(), key=str):
+            print(f"{count:6} {kind}: {result}")
