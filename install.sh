@@ -79,7 +79,7 @@ if [ -n "$filter" ]; then install "$filter" "$folder/xdpvm_filter"; fi
 mkdir -p "$home/tools" "$home/examples/filters" "$home/docs/pictures"
 for tool in "$top"/tools/*; do
     case $(basename "$tool") in
-        unproved.py) ;;
+        unproved.py | __main__.py) ;;
         README.md) install -m 644 "$tool" "$home/tools" ;;
         *.py | *.sh)
             if [ "$(head -c 2 "$tool")" = '#!' ]; then

@@ -1,10 +1,11 @@
 #!/usr/bin/env python3
-"""Attacks the verifier rule by rule: sums that wrap and signs mixed, tests of the packet before and
-after moves, the bytes that stay proved over such moves, copies of a packet pointer that differ by
-fixed parts, bytes reversed, parts of spilled numbers, signed quotients and remainders, pointers
-overwritten in part, stack slots kept over joins, places that hold one kind of value on one path and
-another on the next, values that are gone, pointers into call frames that have ended, results that
-name no action, numbers that no limit may leave out, and loops that take long or never end.
+"""Attacks the verifier rule by rule: programs that are right except for a limit, a size or an offset.
+
+A family for each rule: sums that wrap and signs mixed, tests of the packet before and after moves, the bytes that stay proved over
+such moves, copies of a packet pointer that differ by fixed parts, bytes reversed, parts of spilled numbers, signed quotients and
+remainders, pointers overwritten in part, stack slots kept over joins, places that hold one kind of value on one path and another
+on the next, values that are gone, pointers into call frames that have ended, results that name no action, numbers that no limit
+may leave out, and loops that take long or never end.
 
 usage: python3 attacks/attacks.py [PROGRAM] [--programs N] [--seed S] [--jobs J] [--keep FOLDER] [--family NAME]
        [--seconds N] [--library FILE]

@@ -22,7 +22,7 @@ import subprocess
 import sys
 import tempfile
 
-from common import TOP, text_of
+from common import TOP, built, runnable, text_of
 
 FOLDER = f"{TOP}/examples/filters"
 SECONDS = 600
@@ -44,7 +44,7 @@ def wrong(path: str, given: argparse.Namespace) -> str | None:
     with tempfile.TemporaryDirectory() as folder:
         sent = os.path.join(folder, "sent.pcapng")
         words = [sys.executable, f"{TOP}/tools/xdp.py", os.path.basename(path), "mix.txt", sent]
-        words += ["--clang", given.clang, *(["--xdpvm", os.path.abspath(given.program)] if given.program else [])]
+        words += ["--clang", given.clang, "--xdpvm", given.program]
         words += (line_of(text, "words") or "").split()
         words += ["--", *(line_of(text, "flags") or "").split(), *([f"-mcpu={given.cpu}"] if given.cpu else [])]
         try:
@@ -76,7 +76,7 @@ def paths(given: argparse.Namespace) -> list[str]:
 
 def main() -> int:
     words = argparse.ArgumentParser(description=__doc__, formatter_class=argparse.RawDescriptionHelpFormatter)
-    words.add_argument("program", nargs="?")
+    words.add_argument("program", nargs="?", type=runnable, default=built())
     words.add_argument("--clang", default="clang")
     words.add_argument("--cpu", help="the version of instructions that clang takes: v1 to v4")
     words.add_argument("--only", help="those whose path has this word")

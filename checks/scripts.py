@@ -6,8 +6,9 @@ usage: python3 checks/scripts.py [--anew]
 
 A script is a file of attacks/, bench/, checks/, examples/, tests/ or tools/ that is called by itself. It has a run in the gate if
 .ci/run, .ci/prove, the list of checks (checks/listed.py) or a case of tests/ calls it, or a script that they call does. The exit
-status is 1 if one has neither, if a row names none, or if one of the four finds something. Where they found nothing they are not
-asked again until a script, a setting or a version changes (noted in ~/.cache/xdpvm_scripts; --anew asks all the same). In the gate.
+status is 1 if one has neither, if a row names none, if the page lacks a row of `python3 -m attacks --table`, or if one of the four
+finds something. Where they found nothing they are not asked again until a script, a setting or a version changes (noted in
+~/.cache/xdpvm_scripts; --anew asks all the same). In the gate.
 """
 import argparse
 import hashlib
@@ -18,6 +19,7 @@ import subprocess
 import sys
 
 from common import TOP, bytes_of, said_by, write
+from listing import PAGE, page
 
 KEPT = os.path.join(os.environ.get("XDG_CACHE_HOME") or os.path.expanduser("~/.cache"), "xdpvm_scripts")
 SETTINGS = ("pyproject.toml", ".shellcheckrc")
@@ -78,6 +80,19 @@ def in_gate(every: list[str]) -> set[str]:
     return found
 
 
+def apart(paths: list[str]) -> list[list[str]]:
+    """The files in lists in which no two have one name: to mypy each is a module of that name."""
+    lists: list[dict[str, str]] = []
+    for path in paths:
+        name = os.path.basename(path)
+        free = next((it for it in lists if name not in it), None)
+        if free is None:
+            free = {}
+            lists.append(free)
+        free[name] = path
+    return [list(it.values()) for it in lists]
+
+
 def linted(is_anew: bool) -> tuple[list[str], str]:
     """What the linters find, and a sentence on what was asked."""
     there = [words for words, _ in LINTERS if shutil.which(words[0])]
@@ -93,8 +108,9 @@ def linted(is_anew: bool) -> tuple[list[str], str]:
         return [], f"{told} by an earlier run"
     found = []
     for words, ending in LINTERS:
-        status, said = said_by([*words, *files[ending]], TOP) if words in there else (0, "")
-        found += [f"{words[0]} ended with status {status}:\n{said.rstrip()}"] if status else []
+        for some in apart(files[ending]) if words in there else []:
+            status, said = said_by([*words, *some], TOP)
+            found += [f"{words[0]} ended with status {status}:\n{said.rstrip()}"] if status else []
     if not found:
         os.makedirs(KEPT, exist_ok=True)
         write(kept, "")
@@ -112,6 +128,7 @@ def main() -> int:
         f"{path}: no run in the gate, and no row in docs/ASSURANCE.md" for path in every if path not in tried and path not in told
     ]
     wrong += [f"docs/ASSURANCE.md: there is no script {path}" for path in told if path not in every]
+    wrong += ["docs/ASSURANCE.md: its rows of attacks are not those of `python3 -m attacks --write`"] * (PAGE.read_text() != page())
     found, asked = linted(given.anew)
     wrong += found
     print(
