@@ -16,7 +16,7 @@ from listing import FOLDER, PAGE, attacks, page, table
 
 
 def main() -> int:
-    parser = common.words()
+    parser = common.command_line()
     for name in ("--table", "--write"):
         parser.add_argument(name, action="store_true")
     parser.add_argument("name", nargs="?", choices=[it.path.stem for it in attacks()], metavar="NAME")

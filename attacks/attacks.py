@@ -18,7 +18,6 @@ frames have an interface and a queue near the numbers of the text. A line for ea
 many were accepted, and why the others were refused. The exit status is 1 if anything was reported.
 --library is as for fuzz.py.
 """
-import argparse
 import collections
 import os
 import random
@@ -30,7 +29,7 @@ import in_process
 from attack_programs import CORNERS, EDGES, NEVER
 from attack_programs import FAMILIES as RULES
 from attack_witnesses import loops, witness_of, witnesses
-from common import bytes_of, record, there, write
+from common import bytes_of, command_line, record, there, write
 from fuzz import REASONS, differs, spread, wait, words_of
 from in_process import Ran, Run
 
@@ -116,7 +115,7 @@ def tried(family: str, run: Run, seed: int, folder: str) -> tuple[str | None, st
 
 
 def main() -> None:
-    words = argparse.ArgumentParser(description=__doc__.partition("\n")[0])
+    words = command_line()
     words_of(words)
     words.add_argument("--programs", type=int, default=2_000)
     words.add_argument("--family", choices=FAMILIES, action="append", help="only this family")

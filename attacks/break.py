@@ -267,7 +267,7 @@ def tried(xdpvm: Tried, runs: list[list[str]], kinds: tuple[str, ...]) -> int:
 
 
 def main() -> int:
-    parser = common.words()
+    parser = common.command_line()
     parser.add_argument("--few", action="store_true")
     parser.add_argument("program", nargs="?", type=common.runnable, default=common.built())
     parser.add_argument("folder", nargs="?", type=Path)

@@ -108,7 +108,7 @@ ALLOWED = dict(zip(KINDS, (of_memory, of_memory, of_read, of_write, of_write, of
 
 
 def main() -> int:
-    parser = common.words()
+    parser = common.command_line()
     parser.add_argument("program", nargs="?", type=common.runnable, default=common.built("xdpvm_filter"))
     program, told = Tried(parser.parse_args().program, OUTPUTS), Told()
     with tempfile.TemporaryDirectory() as folder:

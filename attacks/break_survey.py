@@ -117,7 +117,7 @@ def make_files() -> None:
 
 
 def main() -> int:
-    parser = common.words()
+    parser = common.command_line()
     parser.add_argument("program", nargs="?", type=common.runnable, default=common.built("xdpvm_survey"))
     parser.add_argument("folder", nargs="?", type=Path)
     given = parser.parse_args()

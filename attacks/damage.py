@@ -11,7 +11,6 @@ byte, and each byte with each other value; the report and the frames out are jud
 --every N one in N bytes is taken. Each wrong result is printed; the last line counts,
 and the exit status is 1 if there was one. --library is as for fuzz.py.
 """
-import argparse
 import glob
 import os
 import shutil
@@ -158,7 +157,7 @@ def damaged_images(run: Run, folder: str, every: int, tally: Tally) -> None:
 
 
 def main() -> None:
-    words = argparse.ArgumentParser(description=__doc__.partition("\n")[0])
+    words = common.command_line()
     words.add_argument("program", nargs="?", type=built, default=common.built())
     words.add_argument("--every", type=int, default=1)
     words.add_argument("--versions", action="store_true", help="each other value of each byte of small inputs")

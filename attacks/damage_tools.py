@@ -8,7 +8,6 @@ Of each stored file N damaged copies are made (the default: 40): cut, with bytes
 place of four bytes. Each is read by the tool's own functions. What comes is what was read, or the tool's own refusal; any
 other exception is printed with the bytes' place in the run. The last line counts; the exit status is 1 if there was one.
 """
-import argparse
 import contextlib
 import glob
 import io
@@ -19,7 +18,7 @@ import tempfile
 from typing import Callable, Iterator
 
 sys.path.insert(0, os.path.join(os.path.dirname(os.path.abspath(__file__)), "../checks"))
-from common import TOP, bytes_of
+from common import TOP, bytes_of, command_line
 import classic
 import expressions
 import frames
@@ -140,7 +139,7 @@ def damaged(data: bytes, dice: random.Random) -> bytes:
 
 
 def main() -> int:
-    words = argparse.ArgumentParser(description=__doc__, formatter_class=argparse.RawDescriptionHelpFormatter)
+    words = command_line()
     words.add_argument("--each", type=int, default=40)
     words.add_argument("--seed", type=int, default=1)
     given = words.parse_args()

@@ -4,10 +4,13 @@ generated frames) and some by hand, and composed ones.
 
 usage: python3 attacks/expression_corpus.py [SEED [COUNT]]
 """
-import argparse
 import os
 import random
+import sys
 from typing import List, TypeVar
+
+sys.path.insert(0, os.path.join(os.path.dirname(os.path.abspath(__file__)), "../checks"))
+from common import command_line
 
 T = TypeVar("T")
 MAN = os.path.join(os.path.dirname(os.path.dirname(os.path.abspath(__file__))), "tests/expressions/man.txt")
@@ -169,7 +172,7 @@ def expressions(seed: int = 1, count: int = 700) -> List[str]:
 
 
 def main() -> None:
-    words = argparse.ArgumentParser(description=__doc__, formatter_class=argparse.RawDescriptionHelpFormatter)
+    words = command_line()
     words.add_argument("seed", type=int, nargs="?", default=1)
     words.add_argument("count", type=int, nargs="?", default=700)
     given = words.parse_args()

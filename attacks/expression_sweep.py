@@ -26,7 +26,7 @@ import tempfile
 from typing import Counter, List, NamedTuple, Optional, Set, Tuple
 
 sys.path.insert(0, os.path.join(os.path.dirname(os.path.abspath(__file__)), "../checks"))
-from common import TOP, bytes_of, write
+from common import TOP, bytes_of, command_line, write
 
 sys.dont_write_bytecode = True
 import expression_corpus
@@ -221,7 +221,7 @@ def randoms(given: argparse.Namespace) -> int:
 
 
 def main() -> int:
-    words = argparse.ArgumentParser(description=__doc__, formatter_class=argparse.RawDescriptionHelpFormatter)
+    words = command_line()
     words.add_argument("--program", default=PROGRAM)
     for name, number in (("seed", 1), ("count", 700), ("frames", 3000), ("kinds", 60), ("random", 0)):
         words.add_argument(f"--{name}", type=int, default=number)

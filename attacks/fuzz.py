@@ -249,7 +249,7 @@ def words_of(parser: argparse.ArgumentParser) -> None:
 
 
 def main() -> None:
-    words = argparse.ArgumentParser(description=__doc__.partition("\n")[0])
+    words = common.command_line()
     words_of(words)
     words.add_argument("--programs", type=int, default=20_000)
     words.add_argument("--ways", action="store_true", help="each refusal must say its way")

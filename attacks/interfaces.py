@@ -31,7 +31,7 @@ import time
 from typing import List, NamedTuple, Optional, Tuple
 
 sys.path.insert(0, os.path.join(os.path.dirname(os.path.abspath(__file__)), "../checks"))
-from common import TOP, bytes_of, write
+from common import TOP, bytes_of, command_line, write
 
 sys.dont_write_bytecode = True
 import libbpf
@@ -337,7 +337,7 @@ def run_all(given: argparse.Namespace) -> int:
 
 
 def main() -> int:
-    words = argparse.ArgumentParser(description=__doc__, formatter_class=argparse.RawDescriptionHelpFormatter)
+    words = command_line()
     words.add_argument("images", nargs="*")
     words.add_argument("--program", default=f"{TOP}/crates/xdpvm/out/xdpvm")
     words.add_argument("--all", action="store_true")

@@ -33,7 +33,7 @@ import tempfile
 from collections.abc import Iterable, Iterator
 
 sys.path.insert(0, os.path.join(os.path.dirname(os.path.abspath(__file__)), "../checks"))
-from common import bytes_of, image_of, insn, write
+from common import bytes_of, command_line, image_of, insn, write
 import kernel
 import kernel_calls
 from attack_programs import FAMILIES
@@ -300,7 +300,7 @@ def items_of(given: argparse.Namespace) -> Iterator[Item]:
 
 
 def main() -> int:
-    words = argparse.ArgumentParser(description=__doc__.partition("\n")[0])
+    words = command_line()
     words.add_argument("set", choices=["images", "random", "attacks", "arithmetic", "maps"])
     words.add_argument("paths", nargs="*")
     words.add_argument("--program", default=os.environ.get("XDPVM", "xdpvm"))

@@ -24,7 +24,7 @@ import tempfile
 from typing import Callable, Counter, Iterator, Optional, Tuple
 
 sys.path.insert(0, os.path.join(os.path.dirname(os.path.abspath(__file__)), "../checks"))
-from common import TOP, bytes_of
+from common import TOP, bytes_of, command_line
 
 sys.dont_write_bytecode = True
 import image
@@ -150,7 +150,7 @@ def most_of(given: argparse.Namespace) -> int:
 
 
 def main() -> int:
-    words = argparse.ArgumentParser(description=__doc__, formatter_class=argparse.RawDescriptionHelpFormatter)
+    words = command_line()
     words.add_argument("set", choices=["stored", "random", "attacks"])
     words.add_argument("--program", default=f"{TOP}/crates/xdpvm/out/xdpvm")
     words.add_argument("--count", type=int, default=100)

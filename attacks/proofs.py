@@ -415,7 +415,7 @@ def assembled() -> Iterator[tuple[str, bytes]]:
 
 def main() -> None:
     global RUN  # pylint: disable=global-statement
-    parser = common.words()
+    parser = common.command_line()
     parser.add_argument("--program", type=common.runnable, default=common.built())
     for name, number in ("--random", 200), ("--damages", 20), ("--seed", 1):
         parser.add_argument(name, type=int, default=number)

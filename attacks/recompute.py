@@ -10,7 +10,6 @@ commands; writes them as equations into a crate of its own beside isa_model; and
 exit status is rt's. An equation that is changed is refused (--keep leaves the crate to try that).
 Takes some three processor minutes if isa_model is proved. Run by hand.
 """
-import argparse
 import operator
 import os
 import random
@@ -22,7 +21,7 @@ from collections.abc import Callable, Iterable
 from functools import partial
 
 sys.path.insert(0, os.path.join(os.path.dirname(os.path.abspath(__file__)), "../checks"))
-from common import TOP
+from common import TOP, command_line
 
 WIDTHS = {"Low32": 32, "Full64": 64}
 # The ends of signed and unsigned ranges of 8 to 64 bits, small numbers of either sign, and two without a pattern.
@@ -454,7 +453,7 @@ def write_crate(folder: str, subjects: list[Equations]) -> None:
 
 
 def main() -> int:
-    parser = argparse.ArgumentParser(description=__doc__.partition("\n")[0])
+    parser = command_line()
     parser.add_argument("--keep", metavar="FOLDER", help="write the crate into this new folder, and leave it there")
     words = parser.parse_args()
     subjects = numbers() + forms() + runs() + commands()

@@ -76,7 +76,7 @@ def measured(given: argparse.Namespace, expression: str, folder: str) -> None:
 
 
 def main() -> None:
-    words = argparse.ArgumentParser(description=__doc__, formatter_class=argparse.RawDescriptionHelpFormatter)
+    words = common.command_line()
     words.add_argument("expressions", nargs="*", default=EXPRESSIONS)
     words.add_argument("--program", default=common.built())
     words.add_argument("--frames", type=int, default=1_000_000)

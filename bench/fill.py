@@ -6,7 +6,6 @@ usage: python3 bench/fill.py [--xdpvm PROGRAM] [--filter PROGRAM] [--times N]
 
 All times are processor milliseconds of one process, the least of N runs (5), which take turns. Filling and writing are
 the differences from a run on a text with a comment only. Files are made in a folder that is removed at the end."""
-import argparse
 import os
 import random
 import struct
@@ -15,7 +14,7 @@ import sys
 import tempfile
 
 sys.path.insert(0, os.path.join(os.path.dirname(os.path.abspath(__file__)), "../checks"))
-from common import TOP, built, measured, record, write
+from common import TOP, built, command_line, measured, record, write
 
 KEYS = 65_536
 FRAMES = 200_000
@@ -42,7 +41,7 @@ def least(commands: dict[str, list[str]], times: int) -> dict[str, float]:
 
 def main() -> None:
     """Prints the figures."""
-    words = argparse.ArgumentParser(description=__doc__, formatter_class=argparse.RawDescriptionHelpFormatter)
+    words = command_line()
     words.add_argument("--xdpvm", default=built())
     words.add_argument("--filter", default=built("xdpvm_filter"))
     words.add_argument("--times", type=int, default=5)

@@ -30,8 +30,9 @@ from dataclasses import dataclass
 from pathlib import Path
 
 TOP = Path(__file__).resolve().parent.parent
-sys.path.insert(0, str(TOP / "tests"))
-from bridge import CANNOT, Bridge, Ends, Wrong, can_be_tried, called, image_of
+sys.path.insert(0, str(TOP / "checks"))
+from common import CANNOT, command_line
+from bridge import Bridge, Ends, Wrong, can_be_tried, called, image_of
 
 RATE, DELAYS, REPEATS = 100_000, 1000, 11
 LIST = "map 0 1b58 0000000000000000\n"  # port 7000
@@ -189,7 +190,7 @@ class Bench:
 
 
 def main() -> int:
-    words = argparse.ArgumentParser(description=__doc__, formatter_class=argparse.RawDescriptionHelpFormatter)
+    words = command_line()
     words.add_argument("--library", type=Path)
     words.add_argument("--program", type=Path, default=TOP / "crates/xdpvm/out/xdpvm")
     words.add_argument("--cores", type=int, default=os.cpu_count())

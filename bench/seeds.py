@@ -20,6 +20,9 @@ import sys
 import time
 from collections.abc import Iterable
 
+sys.path.insert(0, os.path.join(os.path.dirname(os.path.abspath(__file__)), "../checks"))
+from common import command_line
+
 DERIVED = re.compile(r"(Debug\.fmt|PartialEq\.eq|Clone\.clone|Default\.default)\b")
 
 
@@ -84,15 +87,16 @@ def tell(folder: str, count: int) -> None:
 
 
 def main() -> None:
-    if len(sys.argv) < 2:
-        sys.exit(__doc__.strip())
-    folder, count = sys.argv[1], int(sys.argv[2]) if len(sys.argv) > 2 else 6
-    os.makedirs(folder, exist_ok=True)
+    parser = command_line()
+    parser.add_argument("folder")
+    parser.add_argument("count", nargs="?", type=int, default=6)
+    given = parser.parse_args()
+    os.makedirs(given.folder, exist_ok=True)
     try:
-        watch(folder)
+        watch(given.folder)
     except KeyboardInterrupt:
         pass
-    tell(folder, count)
+    tell(given.folder, given.count)
 
 
 if __name__ == "__main__":

@@ -53,7 +53,7 @@ def help_of_script() -> str:
     return sys.modules["__main__"].__doc__ or ""
 
 
-def words() -> argparse.ArgumentParser:
+def command_line() -> argparse.ArgumentParser:
     """What reads the words of a script, whose help is what the script begins with."""
     return argparse.ArgumentParser(description=help_of_script(), formatter_class=argparse.RawDescriptionHelpFormatter)
 

@@ -9,6 +9,8 @@ import re
 from collections.abc import Iterator
 from typing import NamedTuple
 
+from common import text_of
+
 Change = tuple[str, str, str]  # a file, the old text and the new one
 FUNCTION = re.compile(r'(\s*)(?:pub(?:\([a-z ]+\))? )?(?:const )?(?:unsafe )?(?:extern "C" )?fn (\w+)')
 BLOCK = re.compile(
@@ -29,11 +31,6 @@ class Function(NamedTuple):
     name: str
     kind: str | None
     trait: str | None
-
-
-def text_of(path: str) -> str:
-    with open(path, encoding="utf-8") as file:
-        return file.read()
 
 
 def changes(path: str) -> list[Change]:

@@ -17,6 +17,9 @@ import sys
 from collections.abc import Iterator
 from pathlib import Path
 
+import common
+from common import command_line
+
 TOP = Path(__file__).resolve().parent.parent
 FOLDERS = {"src": ".rt", "specs": ".antt", "proofs": ".antt"}
 PARTS = ("Answers", "Invariants")  # of one function each
@@ -47,11 +50,6 @@ def first_line(path: Path) -> str:
     return " ".join(lines)
 
 
-def crates_of(top: Path) -> list[str]:
-    lines = [line.split("#")[0] for line in (top / "crates.txt").read_text(encoding="utf-8").splitlines()]
-    return [line.split(":")[0].split()[0] for line in lines if line.strip()]
-
-
 def sections(page: str, crates: list[str]) -> dict[str, str]:
     """The text of each crate's section."""
     parts = re.split(r"^#+ (.*)$", page, flags=re.M)
@@ -60,7 +58,7 @@ def sections(page: str, crates: list[str]) -> dict[str, str]:
 
 def wrong(top: Path) -> Iterator[str]:
     """What the page says that the tree does not, and what either leaves out."""
-    page, crates = (top / "docs/ARCHITECTURE.md").read_text(encoding="utf-8"), crates_of(top)
+    page, crates = (top / "docs/ARCHITECTURE.md").read_text(encoding="utf-8"), list(common.crates(str(top)))
     listed = {name for cell in re.findall(r"^\| ([^|*]*) \|", page, re.M) for name in re.findall(r"`(\w+)`", cell)}
     found = sections(page, crates)
     for crate in crates:
@@ -81,13 +79,17 @@ def wrong(top: Path) -> Iterator[str]:
 
 
 def main() -> None:
-    if sys.argv[1:] == ["--check"]:
+    parser = command_line()
+    parser.add_argument("--check", action="store_true")
+    parser.add_argument("crates", nargs="*", metavar="CRATE")
+    given = parser.parse_args()
+    if given.check:
         found = list(wrong(TOP))
         print("\n".join(found + [f"docs/ARCHITECTURE.md: {len(found)} differences from the tree"]))
         sys.exit(1 if found else 0)
-    crates = crates_of(TOP)
-    for crate in sys.argv[1:] or crates:
-        if crate not in crates:
+    there = common.crates()
+    for crate in given.crates or there:
+        if crate not in there:
             sys.exit(f"file_map.py: there is no crate {crate}")
         print(crate)
         for folder in FOLDERS:

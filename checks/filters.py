@@ -22,7 +22,7 @@ import subprocess
 import sys
 import tempfile
 
-from common import TOP, built, runnable, text_of
+from common import TOP, built, command_line, runnable, text_of
 
 FOLDER = f"{TOP}/examples/filters"
 SECONDS = 600
@@ -75,7 +75,7 @@ def paths(given: argparse.Namespace) -> list[str]:
 
 
 def main() -> int:
-    words = argparse.ArgumentParser(description=__doc__, formatter_class=argparse.RawDescriptionHelpFormatter)
+    words = command_line()
     words.add_argument("program", nargs="?", type=runnable, default=built())
     words.add_argument("--clang", default="clang")
     words.add_argument("--cpu", help="the version of instructions that clang takes: v1 to v4")

@@ -11,7 +11,6 @@ blanks     runs of five `_` or more in proofs/
 
 --each KIND prints each of a kind with its place. The exit status is 1 if there are more of a kind than LIMITS says. In the gate.
 """
-import argparse
 import collections
 import re
 import sys
@@ -19,7 +18,7 @@ from collections.abc import Iterator
 from pathlib import Path
 from typing import NamedTuple
 
-from common import TOP
+from common import TOP, command_line
 
 LIMITS = {"unnamed": 39, "twice": 40, "answers": 10, "arguments": 9, "blanks": 165}
 MOST_LINES, MOST_ARGUMENTS = 150, 20
@@ -110,7 +109,7 @@ def counted() -> dict[str, list[str]]:
 
 
 def main() -> int:
-    parser = argparse.ArgumentParser(description=__doc__, formatter_class=argparse.RawDescriptionHelpFormatter)
+    parser = command_line()
     parser.add_argument("--each", choices=LIMITS, metavar="KIND")
     given, found = parser.parse_args(), counted()
     for line in found[given.each] if given.each else []:

@@ -10,12 +10,11 @@ its laws may stay beside it. With --each they count by themselves. The worked ex
 crates/*/specs/**/Worked, are laws for readers, and stay. TOP is the top of a repository; if it
 is not given, of this one. In the gate.
 """
-import argparse
 import glob
 import sys
 from collections.abc import Iterator
 
-from common import TOP
+from common import TOP, command_line
 from definitions import Base, Code, Definitions, Module, Place, without_remarks
 
 
@@ -45,7 +44,7 @@ class Cited(Base):
 
 
 def main() -> None:
-    words = argparse.ArgumentParser(description=__doc__.partition("\n")[0])
+    words = command_line()
     words.add_argument("top", nargs="?", default=TOP)
     words.add_argument("--each", action="store_true", help="laws of a `module` with parameters count by themselves")
     given = words.parse_args()

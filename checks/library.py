@@ -17,6 +17,7 @@ import tempfile
 from pathlib import Path
 from typing import Any
 
+from common import command_line
 from record import object_of
 
 PROGRAMS = ("xdpvm", "xdpvm_survey", "xdpvm_filter")
@@ -53,12 +54,13 @@ def is_linked(kit: Path, made: Path, program: Path) -> bool:
 
 
 def main() -> int:
-    if len(sys.argv) != 2 or sys.argv[1].startswith("-"):
-        sys.exit(__doc__)
+    parser = command_line()
+    parser.add_argument("folder", type=Path)
+    given = parser.parse_args()
     rt = shutil.which("rt")
     if rt is None:
         sys.exit("library.py: rt, the toolchain's command, is not on the path")
-    kit, top = Path(os.path.realpath(rt)).parent.parent, Path(sys.argv[1]).resolve()
+    kit, top = Path(os.path.realpath(rt)).parent.parent, given.folder.resolve()
     sys.path.insert(0, str(kit / "bin"))
     import rtlib  # type: ignore[import]
 

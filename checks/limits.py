@@ -1,5 +1,7 @@
 #!/usr/bin/env python3
-"""limits.py [CRATE ..]: finds numbers that are a limit and do not cite its name.
+"""Finds numbers that are a limit and do not cite its name.
+
+usage: python3 checks/limits.py [CRATE ..]
 
 The limits are defined once, in isa_model/src/limits.rt and isa_model/specs/Code/Limits.antt. This
 looks at the code, definitions and proofs of every crate (comments and texts aside) for their
@@ -9,7 +11,8 @@ import re
 import sys
 from collections.abc import Iterator
 
-ROOT = os.path.dirname(os.path.dirname(os.path.abspath(__file__)))
+from common import TOP, command_line
+
 HOME = ("isa_model/src/limits.rt", "isa_model/specs/Code/Limits.antt")
 
 # a value that is a limit wherever it is, and what it is
@@ -119,11 +122,13 @@ def found(line: str) -> Iterator[tuple[int, str]]:
 
 
 def main() -> None:
-    only = sys.argv[1:]
+    parser = command_line()
+    parser.add_argument("crates", nargs="*", metavar="CRATE")
+    only = parser.parse_args().crates
     used = [False] * len(EXCEPTIONS)
     left = 0
-    for folder, _, files in sorted(os.walk(os.path.join(ROOT, "crates"))):
-        parts = os.path.relpath(folder, os.path.join(ROOT, "crates")).split(os.sep)
+    for folder, _, files in sorted(os.walk(os.path.join(TOP, "crates"))):
+        parts = os.path.relpath(folder, os.path.join(TOP, "crates")).split(os.sep)
         if len(parts) < 2 or parts[1] not in ("src", "specs", "proofs") or (only and parts[0] not in only):
             continue
         if parts[0].endswith("_tests") or "tests" in parts:

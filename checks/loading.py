@@ -9,6 +9,7 @@ the first word after its backquotes: `console` and `namespace` are commands afte
 output; NAME.text is written to that file. guide.py tries the blocks of all pages but `namespace`, which need root. The
 exit status is 0 if every result is the one wanted, 1 if not, and 77 where it cannot be tried: it needs Linux, root,
 bpf(2), and the tools that the message names, with their Debian packages. """
+import argparse
 import os
 import re
 import shutil
@@ -17,7 +18,7 @@ import sys
 import tempfile
 from typing import Iterator, List, Tuple
 
-from common import CANNOT, TOP
+from common import CANNOT, TOP, built, command_line, runnable
 
 PAGE = "docs/LOADING.md"
 BLOCK = re.compile(r"^```(\S+)\n(.*?)^```$", re.M | re.S)
@@ -86,11 +87,11 @@ def run_page(program: str) -> int:
 
 
 def main() -> int:
-    words = [it for it in sys.argv[1:] if it != INSIDE]
-    program = os.path.abspath(words[0] if words else os.path.join(TOP, "crates/xdpvm/out/xdpvm"))
-    if not os.access(program, os.X_OK):
-        sys.exit(f"there is no program {program}: give one, or build it as README.md says")
-    return run_page(program) if INSIDE in sys.argv else inside(os.path.abspath(__file__), program)
+    parser = command_line()
+    parser.add_argument(INSIDE, action="store_true", help=argparse.SUPPRESS)
+    parser.add_argument("program", nargs="?", type=runnable, default=built())
+    given = parser.parse_args()
+    return run_page(given.program) if given.inside else inside(os.path.abspath(__file__), given.program)
 
 
 if __name__ == "__main__":

@@ -10,7 +10,6 @@ made, `man -l` and the shells, if they are installed, have to read it, and the s
 does not. PROGRAM is a program that is asked, whose file has its name (the default:
 those that `rt run` leaves in crates/).
 """
-import argparse
 import os
 import re
 import shutil
@@ -19,7 +18,7 @@ import sys
 import tempfile
 from typing import NamedTuple
 
-from common import TOP, built, text_of, there, write
+from common import TOP, built, command_line, text_of, there, write
 
 
 class Argument(NamedTuple):
@@ -308,7 +307,7 @@ def check(files: dict[str, str]) -> bool:
 
 
 def main() -> None:
-    words = argparse.ArgumentParser(description=__doc__, formatter_class=argparse.RawDescriptionHelpFormatter)
+    words = command_line()
     words.add_argument("programs", nargs="*", metavar="PROGRAM", default=[built(name) for name in STATUSES])
     words.add_argument("--check", action="store_true")
     asked = words.parse_args()

@@ -10,7 +10,6 @@ made, and the status is 1 if one is not. If there is no `dot`, or one of another
 one that drew a picture, only the labels of the blocks and the number of edges are compared. PROGRAM
 is xdpvm_survey (the default: crates/xdpvm_survey/out/xdpvm_survey).
 """
-import argparse
 import html
 import os
 import re
@@ -18,7 +17,7 @@ import shutil
 import subprocess
 import sys
 
-from common import TOP, built, crates_below, text_of, there, write
+from common import TOP, built, command_line, crates_below, text_of, there, write
 
 Graph = dict[str, list[str]]
 NAMES = ("guarded",)
@@ -78,7 +77,7 @@ def is_made(picture: str, graph: str) -> bool:
 
 
 def main() -> None:
-    words = argparse.ArgumentParser(description=__doc__, formatter_class=argparse.RawDescriptionHelpFormatter)
+    words = command_line()
     words.add_argument("program", nargs="?", default=built("xdpvm_survey"))
     words.add_argument("--check", action="store_true")
     asked = words.parse_args()

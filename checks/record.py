@@ -21,6 +21,8 @@ import subprocess
 import sys
 from pathlib import Path
 
+from common import command_line
+
 TOP = Path(__file__).resolve().parent.parent
 OBJECTS = tuple(
     f"crates/{name}/out/{name}" for name in ("xdpvm", "xdpvm_survey", "xdpvm_filter")
@@ -108,12 +110,12 @@ def find() -> int:
 
 
 def main() -> int:
-    words = sys.argv[1:]
-    if words == ["--find"]:
-        return find()
-    if len(words) == 3 and words[0] == "--write" and words[2].isdigit():
-        return write(words[1], words[2])
-    sys.exit(__doc__)
+    parser = command_line()
+    which = parser.add_mutually_exclusive_group(required=True)
+    which.add_argument("--write", nargs=2, metavar=("SAID", "SECONDS"))
+    which.add_argument("--find", action="store_true")
+    given = parser.parse_args()
+    return find() if given.find else write(*given.write)
 
 
 if __name__ == "__main__":

@@ -16,7 +16,6 @@ these scripts change (noted in ~/.cache/xdpvm_edits; --anew tries it all the sam
 the gate or not, that cannot be made is printed. The last line counts; the exit status is 0 if every edit was refused, or can
 be made, else 1.
 """
-import argparse
 import concurrent.futures
 import glob
 import hashlib
@@ -30,7 +29,7 @@ import time
 from collections.abc import Collection, Iterable
 
 import common
-from common import TOP, there
+from common import TOP, text_of, there
 import edits
 
 KIT = os.path.dirname(os.path.dirname(os.path.realpath(shutil.which("rt") or "/opt/rattle/bin/rt")))
@@ -75,7 +74,7 @@ def leave_open(room: str, crate: str, tried: Collection[str]) -> None:
         name = folder.replace("/", "::")
         if any(name == it or name.endswith("::" + it) for it in tried):
             continue
-        common.write(f"{room}/{file}", edits.emptied(edits.text_of(f"{room}/{file}"), first, last))
+        common.write(f"{room}/{file}", edits.emptied(text_of(f"{room}/{file}"), first, last))
         at = f"{room}/proofs/{folder}"
         os.makedirs(at, exist_ok=True)
         for file in ("Answers.antt", "Invariants.antt"):
@@ -143,7 +142,7 @@ def try_crate(crate: str, paths: list[str], libraries: str) -> tuple[dict[str, s
 
 def sum_of(crate: str, paths: list[str]) -> str:
     """A sum of all that a verdict on these edits rests on."""
-    sums = hashlib.sha256(edits.text_of(f"{KIT}/KIT-ID").encode())
+    sums = hashlib.sha256(text_of(f"{KIT}/KIT-ID").encode())
     own = [f"{TOP}/checks/{name}" for name in ("run.py", "edits.py")]
     for it in sorted([crate, *all_below(crate)]):
         sums.update(f"{it}: {BELOW[it]}\n".encode())
@@ -183,14 +182,14 @@ def build_libraries(room: str, crates: Iterable[str]) -> None:
 
 def proved_in(told: str) -> tuple[set[str], bool]:
     """The crates that rt ci says are proved, in what it has printed so far; and whether it has ended."""
-    text = edits.text_of(told)
+    text = text_of(told)
     proved = set(re.findall(r"(?m)^rt: (\w+) (?:proved|is kept:)", text))
     return proved, re.search(r"(?m)^\d+ passed, \d+ failed", text) is not None
 
 
 def lanes(is_shared: bool) -> int:
     """How many checks may run at once; where they share the machine with rt ci, in half of its memory."""
-    free = int(there(re.search(r"MemAvailable: +(\d+)", edits.text_of("/proc/meminfo")))[1]) / 1e6
+    free = int(there(re.search(r"MemAvailable: +(\d+)", text_of("/proc/meminfo")))[1]) / 1e6
     return max(1, min(len(os.sched_getaffinity(0)), int(free / MEMORY / (2 if is_shared else 1))))
 
 
@@ -229,7 +228,7 @@ def try_all(given: dict[str, list[str]], libraries: str, told: str | None, anew:
 
 
 def main() -> None:
-    parser = argparse.ArgumentParser(description=__doc__.partition("\n")[0])
+    parser = common.command_line()
     parser.add_argument("crates", nargs="*", metavar="CRATE")
     parser.add_argument("--gate", action="store_true", help="the edits of the gate, in crates/CRATE/must-fail")
     parser.add_argument("--fit", action="store_true", help="only see whether each edit can be made")

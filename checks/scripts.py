@@ -10,7 +10,6 @@ status is 1 if one has neither, if a row names none, if the page lacks a row of 
 finds something. Where they found nothing they are not asked again until a script, a setting or a version changes (noted in
 ~/.cache/xdpvm_scripts; --anew asks all the same). In the gate.
 """
-import argparse
 import hashlib
 import os
 import re
@@ -18,7 +17,7 @@ import shutil
 import subprocess
 import sys
 
-from common import TOP, bytes_of, said_by, write
+from common import TOP, bytes_of, command_line, said_by, write
 from listing import PAGE, page
 
 KEPT = os.path.join(os.environ.get("XDG_CACHE_HOME") or os.path.expanduser("~/.cache"), "xdpvm_scripts")
@@ -118,7 +117,7 @@ def linted(is_anew: bool) -> tuple[list[str], str]:
 
 
 def main() -> int:
-    parser = argparse.ArgumentParser(description=__doc__, formatter_class=argparse.RawDescriptionHelpFormatter)
+    parser = command_line()
     parser.add_argument("--anew", action="store_true")
     given = parser.parse_args()
     every = scripts()

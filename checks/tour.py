@@ -24,7 +24,7 @@ import tempfile
 from typing import NoReturn
 
 import common
-from common import TOP, text_of
+from common import TOP, command_line, text_of
 import run
 
 PAGE = os.path.join(TOP, "docs/TOUR.md")
@@ -142,8 +142,10 @@ def whole(page: str) -> list[str]:
 
 
 def main() -> None:
+    parser = command_line()
+    parser.add_argument("--whole", action="store_true")
     page = text_of(PAGE)
-    if sys.argv[1:] == ["--whole"]:
+    if parser.parse_args().whole:
         told(whole(page))
     blocks = [it for it in re.findall(r"^```(\w+)\n(.*?)^```$", page, re.M | re.S) if it[0] in run.BELOW]
     rows = re.findall(r"^\| (`\w+/src/\S+.*?) \| (.*?) \|", page, re.M)

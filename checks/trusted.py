@@ -18,7 +18,7 @@ import os
 import re
 import sys
 
-from common import TOP, text_of, write
+from common import TOP, command_line, text_of, write
 from definitions import Base, Code
 
 PAGE = os.path.join(TOP, "docs/TRUSTED.md")
@@ -165,14 +165,18 @@ def differences(text: str, main: Rows, closed: Rows, more: dict[str, Rows]) -> l
 
 
 def main() -> int:
+    parser = command_line()
+    for name in ("--print", "--write"):
+        parser.add_argument(name, action="store_true")
+    given = parser.parse_args()
     main_rows, closed, more = lists()
     text = text_of(PAGE)
-    if "--print" in sys.argv[1:]:
+    if given.print:
         for path, lines in sorted(main_rows.items()):
             print(f"| `{path}` | {lines} |")
         for name, rows in more.items():
             print(f"\n{name}: {said(rows)}", *by_crate(rows), sep="\n")
-    if "--write" in sys.argv[1:]:
+    if given.write:
         write(PAGE, written(text, main_rows, closed, more))
         return 0
     wrong = differences(text, main_rows, closed, more)

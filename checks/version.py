@@ -6,11 +6,12 @@ usage: python3 checks/version.py [--set X.Y.Z]
 The programs, the library, its header and its example name the version, and code cannot read a file when it is compiled. With
 --set the file and each of these places get another one. The exit status is 1 if a place says another. In the gate.
 """
+import argparse
 import os
 import re
 import sys
 
-from common import TOP
+from common import TOP, command_line, text_of, write
 
 FILE = os.path.join(TOP, "VERSION")
 FORM = r"\d+\.\d+\.\d+"
@@ -24,27 +25,24 @@ PLACES = (
 )
 
 
-def read(path: str) -> str:
-    with open(path, encoding="utf-8") as file:
-        return file.read()
-
-
-def write(path: str, text: str) -> None:
-    with open(path, "w", encoding="utf-8") as file:
-        file.write(text)
+def a_version(word: str) -> str:
+    """A version on the command line."""
+    if not re.fullmatch(FORM, word):
+        raise argparse.ArgumentTypeError(f"{word}: three numbers are wanted, as 1.2.3")
+    return word
 
 
 def main() -> int:
-    words = sys.argv[1:]
-    if words and (words[0] != "--set" or len(words) != 2 or not re.fullmatch(FORM, words[1])):
-        sys.exit(__doc__)
-    if words:
-        write(FILE, words[1] + "\n")
-    version, wrong = read(FILE).strip(), 0
+    parser = command_line()
+    parser.add_argument("--set", type=a_version, metavar="X.Y.Z")
+    wanted = parser.parse_args().set
+    if wanted:
+        write(FILE, wanted + "\n")
+    version, wrong = text_of(FILE).strip(), 0
     for place, pattern in PLACES:
         path = os.path.join(TOP, place)
-        text = read(path)
-        if words:
+        text = text_of(path)
+        if wanted:
             write(path, re.sub(pattern, rf"\g<1>{version}\g<3>", text))
         elif [found[1] for found in re.findall(pattern, text)] != [version]:
             wrong += 1

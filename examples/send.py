@@ -5,10 +5,12 @@ usage: python3 examples/send.py DEV FRAMES
 
 It prints how many. Frames of fewer than 14 bytes, and those that are too long for the interface, are left out and
 counted. Pages and tests use it on a pair of virtual interfaces: what is sent from one arrives at the other. """
+import argparse
 import errno
 import socket
 import struct
 import sys
+from pathlib import Path
 from typing import Iterator
 
 LEAST = 14  # bytes of an Ethernet header
@@ -46,22 +48,23 @@ def is_sent(there: socket.socket, body: bytes) -> bool:
 
 
 def main() -> None:
-    if len(sys.argv) != 3:
-        sys.exit("usage: python3 examples/send.py DEV FRAMES")
+    parser = argparse.ArgumentParser(description=__doc__, formatter_class=argparse.RawDescriptionHelpFormatter)
+    parser.add_argument("device", metavar="DEV")
+    parser.add_argument("frames", type=Path, metavar="FRAMES")
+    given = parser.parse_args()
     sent = left_out = 0
     try:
-        with open(sys.argv[2], "rb") as file:
-            stream = file.read()
-        with opened(sys.argv[1]) as there:
+        stream = given.frames.read_bytes()
+        with opened(given.device) as there:
             for body in bodies(stream):
                 if is_sent(there, body):
                     sent += 1
                 else:
                     left_out += 1
     except KeyError:
-        sys.exit(f"send.py: {sys.argv[2]} is no frame stream")
+        sys.exit(f"send.py: {given.frames} is no frame stream")
     except OSError as error:
-        sys.exit(f"send.py: {error.filename or sys.argv[1]}: {error.strerror}")
+        sys.exit(f"send.py: {error.filename or given.device}: {error.strerror}")
     print(f"{sent} frames sent" + (f", {left_out} left out" if left_out else ""))
 
 

@@ -30,7 +30,9 @@ from pathlib import Path
 from typing import Any, Callable
 
 TOP = Path(__file__).resolve().parent.parent
-CANNOT = 77
+sys.path.insert(0, str(TOP / "checks"))
+from common import CANNOT, command_line
+
 NEW_NET = 0x40000000  # CLONE_NEWNET
 LEFT, RIGHT = "10.9.0.1", "10.9.0.2"
 LONGEST = 9216  # bytes of a frame
@@ -468,7 +470,7 @@ def can_be_tried() -> bool:
 
 
 def main() -> int:
-    words = argparse.ArgumentParser(description=__doc__, formatter_class=argparse.RawDescriptionHelpFormatter)
+    words = command_line()
     words.add_argument("archive", nargs="?", type=Path, default=TOP / "crates/xdpvm_c/out/libxdpvm_c.a")
     words.add_argument("program", nargs="?", type=Path, default=TOP / "crates/xdpvm/out/xdpvm")
     words.add_argument("--fuzz", type=int, default=0)

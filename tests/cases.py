@@ -7,7 +7,6 @@ The programs are those that `rt run` leaves in crates/, if no others are named; 
 tests/programs are taken. tests/README.md says what a file has. What differs is printed with its file and line. The last line is
 'N cases, M differ', and the status is 0 if none does.
 """
-import argparse
 import os
 import re
 import shlex
@@ -22,7 +21,7 @@ from pathlib import Path
 from typing import IO
 
 sys.path.insert(0, os.path.join(os.path.dirname(os.path.abspath(__file__)), "../checks"))
-from common import TOP, built, need, there
+from common import TOP, built, command_line, need, there
 from failures import said
 
 Names = dict[str, int]  # the numbers that `each` gives a case
@@ -347,7 +346,7 @@ def tried(programs: dict[str, str], case: Case) -> list[str]:
 
 
 def main() -> None:
-    parser = argparse.ArgumentParser(description=__doc__, formatter_class=argparse.RawDescriptionHelpFormatter)
+    parser = command_line()
     parser.add_argument("--xdpvm", default=built(), metavar="PROGRAM")
     for name in ("survey", "filter"):
         parser.add_argument(f"--{name}", default=built(f"xdpvm_{name}"), metavar="PROGRAM")

@@ -15,7 +15,6 @@ default of xdp.py.
 
 In the gate with few of each; by hand with --halves 1000 --programs 20000 --texts 20000. The exit status is 1 if any
 differs."""
-import argparse
 import collections
 import os
 import random
@@ -261,7 +260,7 @@ def tried(job: Job) -> tuple[Counter[str], list[str]]:
 
 def main() -> int:
     """Tries all, and prints what differs."""
-    parser = argparse.ArgumentParser(description=__doc__, formatter_class=argparse.RawDescriptionHelpFormatter)
+    parser = common.command_line()
     parser.add_argument("--halves", type=int, default=60)
     parser.add_argument("--programs", type=int, default=120)
     parser.add_argument("--texts", type=int, default=200)

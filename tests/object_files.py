@@ -21,7 +21,6 @@ takes the kernel's types from this machine (bpftool).
 
 The exit status is 0 if each object does so, else 1.
 """
-import argparse
 import os
 import re
 import struct
@@ -33,7 +32,7 @@ from dataclasses import dataclass, field
 from pathlib import Path
 
 sys.path.insert(0, str(Path(__file__).resolve().parent.parent / "checks"))
-from common import CANNOT, TOP, built, compiler, need
+from common import CANNOT, TOP, built, command_line, compiler, need
 
 FOLDER = Path(TOP) / "tests/objects"
 MADE = FOLDER / "made"
@@ -193,7 +192,7 @@ def make(names: list[str]) -> None:
 
 
 def main() -> int:
-    parser = argparse.ArgumentParser(description=__doc__, formatter_class=argparse.RawDescriptionHelpFormatter)
+    parser = command_line()
     parser.add_argument("--make", nargs="*", metavar="NAME")
     parser.add_argument("program", nargs="?", default=built())
     parser.add_argument("filter", nargs="?", default=os.environ.get("XDPVM_FILTER") or built("xdpvm_filter"))

@@ -23,7 +23,7 @@ import tempfile
 from typing import Dict, Iterable, List, NamedTuple, Optional, Set
 
 sys.path.insert(0, os.path.join(os.path.dirname(os.path.abspath(__file__)), "../checks"))
-from common import TOP, write
+from common import TOP, built, command_line, runnable, write
 
 sys.dont_write_bytecode = True
 import expression_corpus
@@ -153,16 +153,16 @@ def store() -> None:
 
 
 def main() -> int:
-    words = [it for it in sys.argv[1:] if it != "--store"]
-    program = os.path.abspath(words[0] if words else f"{TOP}/crates/xdpvm/out/xdpvm")
-    if not os.access(program, os.X_OK):
-        sys.exit(f"there is no program {program}: give one, or build it as README.md says")
-    if "--store" in sys.argv:
+    parser = command_line()
+    parser.add_argument("program", nargs="?", type=runnable, default=built())
+    parser.add_argument("--store", action="store_true")
+    given = parser.parse_args()
+    if given.store:
         store()
     found, frames, differ = cases(), stored_frames(), 0
     with tempfile.TemporaryDirectory() as folder, concurrent.futures.ThreadPoolExecutor(os.cpu_count()) as pool:
         write(f"{folder}/frames", stream_of(frames))
-        gate = Gate(program, f"{folder}/frames")
+        gate = Gate(given.program, f"{folder}/frames")
         for case, why in zip(found, pool.map(gate.wrong, found)):
             if why:
                 differ += 1
