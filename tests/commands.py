@@ -25,7 +25,8 @@ After one or more commands comes the result that each of them has to have:
   1> LINE                a line of standard output
   1* FROM-TO LINE        such a line for each of these numbers, which is {n} in it, or {n:5} in five
                          characters
-  2> LINE                a line of standard error; `2> ...` is any lines, or none
+  2> LINE                a line of standard error; `2> ...` is any lines, or none. After `1> refused CODE`
+                         the last line is `xdpvm explain CODE says more`, which no case writes
   status N               the exit status, if it is not 0
   same NAME NAME..       files that have the same bytes after the last one
 """
@@ -132,6 +133,12 @@ def lines_of(word: str, rest: str) -> list[str]:
     return [line.format(n=n) for n in range(int(first), int(last) + 1)]
 
 
+def last_of(said: list[str]) -> list[str]:
+    """The last line of standard error after a refusal names the code that standard output says."""
+    words = said[0].split() if said else []
+    return [f"xdpvm explain {words[1]} says more"] if words[:1] == ["refused"] else []
+
+
 def differences(case: list[Line]) -> Iterator[tuple[int, str]]:
     """Where a case differs: the number of the line, what was wanted, and what was found."""
     room = None
@@ -140,7 +147,7 @@ def differences(case: list[Line]) -> Iterator[tuple[int, str]]:
         answer = list(takewhile(lambda line: line[1] in ANSWER, case[len(commands) :]))
         has = {word: [rest for _, its, rest in answer if its == word] for word in ANSWER}
         said = [line for _, word, rest in answer for line in lines_of(word, rest)]
-        out, err = ("".join(f"{line}\n" for line in lines).encode() for lines in (said, has["2>"]))
+        out, err = ("".join(f"{line}\n" for line in lines).encode() for lines in (said, has["2>"] + last_of(said)))
         wanted = out[:room], err, int(has["status"][0] if has["status"] else 0)
         errors = re.escape(err).replace(re.escape(b"...\n"), b"(?:.*\n)*")
         for number, _, command in commands:
