@@ -21,7 +21,8 @@ MODULES = {
     "images": ("IC", "images"),
     "programs": ("G", "control flow"),
     "verdicts": ("V", "the verifier"),
-    "tables": ("PFMH", "tables, streams and maps"),
+    "tables": ("P", "proof tables"),
+    "streams": ("FMH", "streams and maps"),
     "traps": ("", "traps"),
 }
 ENTRY = re.compile(r"\*\*(\w+)\*\*[,:] ")

@@ -5,6 +5,7 @@ ghost use Rattle.messages.specs.Entries.{IsEntryOf};
 
 mod images;
 mod programs;
+mod streams;
 mod tables;
 mod texts;
 mod traps;
@@ -28,6 +29,9 @@ pub fn entry_of(code: &str) -> Option<&'static str>
         return Some(text);
     }
     if let Some(text) = tables::entry(code) {
+        return Some(text);
+    }
+    if let Some(text) = streams::entry(code) {
         return Some(text);
     }
     traps::entry(code)

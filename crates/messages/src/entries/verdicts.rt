@@ -20,7 +20,7 @@ pub fn entry(code: &str) -> Option<&'static str>
              # a register is read that may be unset\n    \
              # slot 4: r0 = r3\n    \
              # r3: unset\n    \
-             # set it on every path that leads here\n    \
+             # set r3 on every path that leads here\n    \
              # way: 2 -> 4\n            \
              r2 = *(u32 *)(r1 + 12)\n            \
              r0 = 1\n            \
@@ -53,8 +53,8 @@ pub fn entry(code: &str) -> Option<&'static str>
              # the operation is not defined for a pointer\n    \
              # slot 0: r1 += 12\n    \
              # r1: context\n    \
-             # stack, packet and value pointers move by += and -= of a number, at \
-             64 bits\n    \
+             # the context does not move: load with an offset: r2 = *(u32 *)(r1 + \
+             12)\n    \
              r1 += 12\n    \
              r0 = 2\n    \
              exit\n",
@@ -70,8 +70,8 @@ pub fn entry(code: &str) -> Option<&'static str>
              # slot 2: r2 += r3\n    \
              # r2: frame pointer at 0\n    \
              # r3: number 0 to 4294967295\n    \
-             # a frame pointer moves by constants, any pointer by at most 536870912 \
-             bytes\n    \
+             # a frame pointer moves by constants: keep what a number selects in a \
+             map's value\n    \
              r2 = r10\n    \
              r3 = *(u32 *)(r1 + 16)\n    \
              r2 += r3\n    \
@@ -87,8 +87,8 @@ pub fn entry(code: &str) -> Option<&'static str>
              # the load or store does not go through a pointer to memory\n    \
              # slot 1: r0 = *(u8 *)(r2 + 0)\n    \
              # r2: number 4096\n    \
-             # memory is reached by r1 of the start, r10, a packet or a value \
-             pointer\n    \
+             # a number is no address, and 0 is a look-up that found nothing: use a \
+             pointer, or the other branch\n    \
              r2 = 4096\n    \
              r0 = *(u8 *)(r2 + 0)\n    \
              exit\n",
@@ -118,7 +118,8 @@ pub fn entry(code: &str) -> Option<&'static str>
              pointer\n    \
              # slot 1: r0 = *(u64 *)(r10 - 8)\n    \
              # r10: frame pointer at 0\n    \
-             # write the bytes first; a stored pointer is read whole, with 8 bytes\n    \
+             # write the bytes first; read a stored pointer whole, with 8 bytes, \
+             and one to a value before a delete\n    \
              # stack -8: written bytes -8 -7 -6 -5\n    \
              *(u32 *)(r10 - 8) = 5\n    \
              r0 = *(u64 *)(r10 - 8)\n    \
@@ -131,6 +132,8 @@ pub fn entry(code: &str) -> Option<&'static str>
              # the context has only 4-byte loads at 0, 4, 12 and 16\n    \
              # slot 0: r2 = *(u32 *)(r1 + 8)\n    \
              # r1: context\n    \
+             # load 4 bytes: r2 = *(u32 *)(r1 + 0) is the packet, + 4 its end, + 12 \
+             the interface, + 16 the queue\n    \
              r2 = *(u32 *)(r1 + 8)\n    \
              r0 = 2\n    \
              exit\n",
@@ -142,8 +145,8 @@ pub fn entry(code: &str) -> Option<&'static str>
              # the packet bytes are not proved to be there\n    \
              # slot 1: r0 = *(u8 *)(r2 + 0)\n    \
              # r2: packet pointer at 0, 0 bytes proved\n    \
-             # needs bytes 0 to 0; 0 are proved: compare a pointer after them with \
-             the packet end, or correct the offset\n    \
+             # needs bytes 0 to 0; 0 are proved: test before this, and after the \
+             last move of r2: r5 = r2; r5 += 1; if r5 > packet end goto short\n    \
              r2 = *(u32 *)(r1 + 0)\n    \
              r0 = *(u8 *)(r2 + 0)\n    \
              exit\n",
@@ -228,8 +231,8 @@ pub fn entry(code: &str) -> Option<&'static str>
              # the comparison is not defined for a pointer\n    \
              # slot 1: if r10 == 0 goto +1\n    \
              # r10: frame pointer at 0\n    \
-             # compare a packet pointer with the packet end, a value pointer with \
-             0, at 64 bits\n            \
+             # compare a packet pointer with the packet end by < <= > >=, a value \
+             pointer with 0, at 64 bits\n            \
              r0 = 1\n            \
              if r10 == 0 goto done\n            \
              r0 = 2\n    \
@@ -262,7 +265,7 @@ pub fn entry(code: &str) -> Option<&'static str>
              # r1: map 0\n    \
              # r2: frame pointer at -4\n    \
              # a key of map 0 has 4 bytes, a value 8: write all of them to the \
-             stack first\n    \
+             stack first, and point to the lowest\n    \
              # stack -8: unset\n    \
              map hash 4 8 1\n    \
              r1 = map_by_idx(0)\n    \
@@ -278,8 +281,9 @@ pub fn entry(code: &str) -> Option<&'static str>
              # refused V16 slot 0\n    \
              # the call makes a ninth frame, and 8 may be live\n    \
              # slot 0: call pc-1\n    \
-             # write the function's instructions in place of the call\n    \
-             # way: 0 -> 0, 0 -> 0, 0 -> 0, 0 -> 0, 0 -> 0, 0 -> 0, 0 -> 0\n    \
+             # write the function's instructions in place of the call; in place of \
+             a recursion, a loop\n    \
+             # way: 0 -> 0, 7 times\n    \
              again:  call again\n            \
              exit\n",
         "V17" => "V17, at the last exit r0 is unset, or a pointer. Put the action into \
@@ -334,7 +338,7 @@ pub fn entry(code: &str) -> Option<&'static str>
              # r2 from turn to turn: number 333332 to 4294967295, then number \
              333333 to 4294967295\n    \
              # r3 from turn to turn: number 333332, then number 333333\n    \
-             # way: 4 -> 3, 4 -> 3, 4 -> 3, 4 -> 3, 4 -> 3, 4 -> 3, 4 -> 3, 4 -> 3\n    \
+             # way: 4 -> 3, 8 times\n    \
              # states could not be told apart any more: too many that are alike \
              were stored\n            \
              r2 = *(u32 *)(r1 + 12)\n            \
