@@ -30,6 +30,7 @@ CHECKS = (
     ),
     Check("programs", "python3 tests/programs.py", "texts: verdicts, bounds and runs of programs that are written by hand", 8),
     Check("messages", "python3 checks/messages.py", "what is said of wrong inputs", 4),
+    Check("entries", "python3 checks/entries.py", "whether `xdpvm explain` prints what REFUSALS.md says of each code", 1),
     Check("edits_fit", "python3 checks/run.py --fit", "whether the text that each edit replaces is still there", 2),
     Check(
         "near",

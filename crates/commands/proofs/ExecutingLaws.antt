@@ -169,7 +169,14 @@ told_faulted NoMemory why old new k e h = absurd (omega arith)
 
 pub faulted_plain : (o : TaskOutcome) (old new : Option (List ℕ)) → status_of o ≡ 3
     → AppendsPart old new (message_of o) → TellsFault old new
-faulted_plain o old new e h = told_faulted o None old new (inl refl) e h
+faulted_plain Done old new e h = absurd (omega arith)
+faulted_plain (WrongWords message) old new e h = absurd (omega arith)
+faulted_plain (Refused rejected) old new e h = absurd (omega arith)
+faulted_plain (Faulted fault form) old new e h = (fault, form, inl h)
+faulted_plain (CannotRead path kind) old new e h = absurd (omega arith)
+faulted_plain (CannotWrite path cause) old new e h = absurd (omega arith)
+faulted_plain (CannotReplace path conflict) old new e h = absurd (omega arith)
+faulted_plain NoMemory old new e h = absurd (omega arith)
 
 -- ---- by the request
 
@@ -285,4 +292,4 @@ done_plain words o old new e unsaid = inl (unsaid (unsaid_done o e))
 
 -- what each status says
 pub ruleset statuses =
-    (silent_words, silent_memory, status_fits, unsaid_done, told_plain, faulted_plain)
+    (silent_words, silent_memory, status_fits, unsaid_done, faulted_plain)

@@ -1,5 +1,5 @@
 -- That the program does what its arguments ask for, where they ask for something and where not.
-use Rattle.std.proofs.Common.{◌≡◌, ℕ, List, Option, Some, None, Err, true, subst, sym, refl, inl, inr}
+use Rattle.std.proofs.Common.{◌≡◌, ℕ, List, Option, Some, None, Err, true, subst, sym, refl, inl, inr, codes}
 use Rattle.std.proofs.lemmas.Bool.{both_ways}
 use Rattle.std.specs.String.{string_bytes}
 use Rattle.exact_io.specs.declared.buffering.PromptWriter.{PromptWriter}

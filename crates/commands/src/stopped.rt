@@ -125,8 +125,8 @@ fn told_of(first: &[FrameStop]) -> u64
     ensures { result ≡ told_of first.now }
 {
     let mut count = 0;
-    for stop in first {
-        count += u64::from(stop.count);
+    for index in 0..first.len() {
+        count += u64::from(first[index].count);
     }
     count
 }

@@ -1,4 +1,6 @@
-use Rattle.std.proofs.Common.{refl}
+use Rattle.std.proofs.Common.{ap}
+use Rattle.commands.specs.declared.outcomes.TaskOutcome.{TaskOutcome}
+use Rattle.commands.specs.declared.outcomes.TaskOutcome.TheVariants.{Refused}
 use Rattle.commands.specs.Known.{outcome_text}
 use Rattle.messages.specs.Messages.{code_line}
 use Rattle.messages.proofs.Written.{ok_behind, err_behind}
@@ -7,13 +9,15 @@ use Rattle.commands.proofs.endings.Ending.say.Goals as goal
 pub returns-in-Refused-clause-err : goal.returns-in-Refused-clause-err
 returns-in-Refused-clause-err g c =
     rw c.in-Refused.is
-    (err_behind _ _ _ _ (outcome_text c.args.self.now.outcome c.args.self.now.why)
-    (code_line c.in-Refused.rejection) _ refl c.in_ok-say_known.ensures.ok
-    c.say_code.ensures.err)
+    (err_behind _ _ _ _ (outcome_text (Refused c.in-Refused.rejection) c.args.self.now.why)
+    (code_line c.in-Refused.rejection) _
+    (ap (λ (o : TaskOutcome). outcome_text o c.args.self.now.why) c.in-Refused.is)
+    c.in_ok-say_known.ensures.ok c.say_code.ensures.err)
 
 pub returns-in-Refused-clause-ok : goal.returns-in-Refused-clause-ok
 returns-in-Refused-clause-ok g c =
     rw c.in-Refused.is
-    (ok_behind _ _ _ _ (outcome_text c.args.self.now.outcome c.args.self.now.why)
-    (code_line c.in-Refused.rejection) _ refl c.in_ok-say_known.ensures.ok
-    c.say_code.ensures.ok)
+    (ok_behind _ _ _ _ (outcome_text (Refused c.in-Refused.rejection) c.args.self.now.why)
+    (code_line c.in-Refused.rejection) _
+    (ap (λ (o : TaskOutcome). outcome_text o c.args.self.now.why) c.in-Refused.is)
+    c.in_ok-say_known.ensures.ok c.say_code.ensures.ok)
