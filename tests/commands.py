@@ -135,8 +135,7 @@ def lines_of(word: str, rest: str) -> list[str]:
 
 def last_of(said: list[str]) -> list[str]:
     """The last line of standard error after a refusal names the code that standard output says."""
-    words = said[0].split() if said else []
-    return [f"xdpvm explain {words[1]} says more"] if words[:1] == ["refused"] else []
+    return [f"xdpvm explain {line.split()[1]} says more" for line in said if line.startswith("refused ")]
 
 
 def differences(case: list[Line]) -> Iterator[tuple[int, str]]:

@@ -1,5 +1,5 @@
 -- What is noted of the packet frames whose runs end without an action.
-use Rattle.std.specs.Prelude.{◌≡◌, ℕ, ◌+◌, ◌-◌, ◌^◌, ◌==◌, nat_lt, min, Bool, true, false, if◌then◌else◌, List, [], ◌∷◌, ◌++◌, length, Option, Some, None, slice_set, get_or}
+use Rattle.std.specs.Prelude.{◌≡◌, ℕ, ◌+◌, ◌==◌, nat_lt, Bool, true, false, if◌then◌else◌, List, [], ◌∷◌, ◌++◌, length, Option, Some, None, slice_set, get_or}
 use Rattle.std.specs.List.{position}
 use Rattle.isa_model.specs.declared.frames.Action.{Action}
 use Rattle.isa_model.specs.declared.frames.Action.TheVariants as action
@@ -19,6 +19,7 @@ use Rattle.host.specs.declared.stops.FrameStop.{FrameStop}
 use Rattle.host.specs.declared.stops.Stops.{Stops}
 use Rattle.host.specs.declared.stops.TheConstants.{MOST_STOPS}
 use Rattle.host.specs.declared.traced.Traced.{Traced}
+use Rattle.host.specs.EndCounts.{one_more}
 use Rattle.host.specs.Tallies.{tally_of}
 
 -- the first frames that were noted at the first slots, and how many were in all
@@ -42,10 +43,6 @@ abbrev pub is_noted : End → Bool
 is_noted (Exit answer steps) = is_invalid (action_of answer)
 is_noted (Trap reason steps) = true
 is_noted Limit = true
-
--- one more frame, with room for every frame of a stream
-abbrev pub one_more : ℕ → ℕ
-one_more count = min (count + 1) (2 ^ 32 - 1)
 
 abbrev pub is_at : ℕ → FrameStop → Bool
 is_at slot f = f.stop.slot == slot
