@@ -118,8 +118,8 @@ def misled(code: list[list[int]], verdict: Ran, ways: bool) -> str | None:
     way = re.search("^way: (.*)$", known, re.M)
     if not way and not ways:
         return None
-    ends = [jump.split(" -> ") for jump in way[1].split(", ")] if way else []
-    jumps = [(int(begin), int(to)) for begin, to in ends]
+    ends = re.findall(r"(\d+) -> (\d+)(?:, (\d+) times)?", way[1]) if way else []
+    jumps = [(int(begin), int(to)) for begin, to, times in ends for _ in range(int(times or 1))]
     return None if goes(code, jumps, int(verdict.stdout.split()[3])) else f"no way to the refusal: {known}"
 
 

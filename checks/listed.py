@@ -29,6 +29,7 @@ CHECKS = (
         "runs; what is said of wrong inputs",
         15,
     ),
+    Check("entries", "python3 checks/entries.py", "whether `xdpvm explain` prints what REFUSALS.md says of each code", 1),
     Check("edits_fit", "python3 checks/run.py --fit", "whether the text that each edit replaces is still there", 2),
     Check(
         "near",

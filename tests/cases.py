@@ -186,6 +186,12 @@ def text_of(answer: list[Line], word: str) -> bytes:
     return "".join(f"{line.rest}\n" for line in answer if line.word == word).encode()
 
 
+def last_of(answer: list[Line]) -> bytes:
+    """The last line of standard error after a refusal, which names the code that standard output says."""
+    codes = [line.rest.split()[1] for line in answer if line.word == "1>" and line.rest.startswith("refused ")]
+    return "".join(f"xdpvm explain {code} says more\n" for code in codes).encode()
+
+
 class Trial:
     """A case in a folder, and what differs in it."""
 
@@ -257,7 +263,7 @@ class Trial:
     def compare_calls(self, calls: list[Line], answer: list[Line]) -> None:
         """Compares what each of some commands does with the one answer that stands below them."""
         status = next((int(line.rest) for line in answer if line.word == "status"), 0)
-        out, err = text_of(answer, "1>")[: self.room], text_of(answer, "2>")
+        out, err = text_of(answer, "1>")[: self.room], text_of(answer, "2>") + last_of(answer)
         for line in calls:
             if line.word == "sh":
                 self.compare(line, out, self.printed(line.rest))

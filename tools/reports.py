@@ -1,7 +1,6 @@
 """What is said of a filter: its verdict, with lines of the source, and what a report has, in counts."""
 
 import collections
-import itertools
 import re
 import subprocess
 import sys
@@ -36,12 +35,6 @@ def tell_maps_refused(said: str, path: str | None) -> None:
         print(f"{shown(path)}:{place[1]}:{place[2]}", file=sys.stderr)
 
 
-def counted(jumps: list[tuple[str, str]]) -> list[tuple[tuple[str, str], str]]:
-    """Each jump of a way with what says how often it comes, where it comes again at once."""
-    runs = [(jump, len(list(same))) for jump, same in itertools.groupby(jumps)]
-    return [(jump, f" ({times} times)" if times > 1 else "") for jump, times in runs]
-
-
 def tell_refusal(source: Source, ran: "subprocess.CompletedProcess[str]") -> None:
     """A verdict; where it is a refusal, each slot with its line of the source."""
     print(ran.stdout, end="", file=TOLD[0], flush=True)
@@ -51,10 +44,11 @@ def tell_refusal(source: Source, ran: "subprocess.CompletedProcess[str]") -> Non
         named = source.line(int(slot[1])) if slot else None
         if named:
             print(f"  {named[0]}: {named[1]}", file=sys.stderr)
-        for (here, there), times in counted(re.findall(r"(\d+) -> (\d+)", line)) if way else []:
+        for here, there, times in re.findall(r"(\d+) -> (\d+)(?:, (\d+) times)?", line) if way else []:
             before, after = source.line(int(here)), source.line(int(there))
             if before and after:
-                print(f"  {before[0]}: {before[1]}\n    -> {after[0]}: {after[1]}{times}", file=sys.stderr)
+                often = f" ({times} times)" if times else ""
+                print(f"  {before[0]}: {before[1]}\n    -> {after[0]}: {after[1]}{often}", file=sys.stderr)
 
 
 def plural(count: int, noun: str) -> str:

@@ -6,7 +6,7 @@ use Rattle.exact_io.specs.declared.buffering.PromptWriter.{PromptWriter}
 use Rattle.exact_io.specs.Waiting.{held}
 use Rattle.std.specs.declared.alloc.Global.{Global}
 use Rattle.isa_model.specs.{Program}
-use Rattle.words.specs.Requests.{TaskRequest, TableFiles, Trace, Run, Verify, Prove, Recheck, Assemble, Disassemble}
+use Rattle.words.specs.Requests.{TaskRequest, TableFiles, Trace, Run, Verify, Prove, Recheck, Assemble, Disassemble, Explain}
 use Rattle.host.specs.declared.errors.HostError.{HostError}
 use Rattle.host.specs.declared.stops.Stops.{Stops}
 use Rattle.host.specs.declared.traced.Traced.{Traced}
@@ -57,6 +57,7 @@ KnowsBy (Prove files) o why = Knows o why
 KnowsBy (Recheck files) o why = Knows o why
 KnowsBy (Assemble text image) o why = Knows o why
 KnowsBy (Disassemble path) o why = Knows o why
+KnowsBy (Explain code) o why = Knows o why
 
 plain_knows : (request : TaskRequest) (o : TaskOutcome) (why : Option (String Global)) → why ≡ None
     → KnowsBy request o why
@@ -67,6 +68,7 @@ plain_knows (Prove files) o why h = inl h
 plain_knows (Recheck files) o why h = inl h
 plain_knows (Assemble text image) o why h = inl h
 plain_knows (Disassemble path) o why h = inl h
+plain_knows (Explain code) o why h = inl h
 
 lines_known : (ended : Result Traced HostError) (o : TaskOutcome) (lines : Option (String Global))
     → IsCompleted o → TellsStopsOf ended lines → Knows o lines ⊎ KnowsStops o lines
@@ -113,6 +115,7 @@ served_knows (Assemble text image) old new r (inr (source, inl (inr (ends, known
     inr (inr (inr (source, known)))
 served_knows (Assemble text image) old new r (inr (source, inr h)) = inl h.1
 served_knows (Disassemble path) old new r h = inl h.1
+served_knows (Explain code) old new r h = inl h.1
 
 -- if standard output failed at the end, nothing else is known
 knows_then : {W : Type 0} (request : TaskRequest) (out : PromptWriter W) (ending r : Ending)

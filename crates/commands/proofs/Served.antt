@@ -1,12 +1,12 @@
 -- That the program does what its arguments ask for, where they ask for something and where not.
-use Rattle.std.proofs.Common.{◌≡◌, ℕ, List, Option, Some, None, Err, true, subst, sym, refl, inl, inr}
+use Rattle.std.proofs.Common.{◌≡◌, ℕ, List, Option, Some, None, Err, true, subst, sym, refl, inl, inr, codes}
 use Rattle.std.proofs.lemmas.Bool.{both_ways}
 use Rattle.std.specs.String.{string_bytes}
 use Rattle.exact_io.specs.declared.buffering.PromptWriter.{PromptWriter}
 use Rattle.exact_io.specs.Waiting.{held}
 use Rattle.std.proofs.KnownBytes.{Keeps-refl}
 use Rattle.words.specs.declared.tasks.WordsError.{WordsError}
-use Rattle.words.specs.declared.tasks.WordsError.TheVariants.{Wrong, Memory}
+use Rattle.words.specs.declared.tasks.WordsError.TheVariants.{Wrong, NotUnicode, Memory}
 use Rattle.words.specs.Requests.{TaskRequest}
 use Rattle.words.specs.Asked.{AsksFor, asked}
 use Rattle.commands.specs.declared.outcomes.TaskOutcome.{TaskOutcome}
@@ -60,5 +60,17 @@ unasked contents words (Wrong text) out o none is =
           subst (λ (x : Option TaskRequest). Serves x (held contents out)
           (held contents out) ending) (sym none) serves;
       hands_on = untouched contents out ending (wrong_silent (string_bytes text) o is);
+    })
+unasked contents words NotUnicode out o none is =
+    let ending : Ending = record { outcome = o; why = None } in
+    let serves : Serves None (held contents out)
+    (held contents out) ending = ((says_wrong (codes "error: an argument is not UTF-8\n") o is, refl), refl) in
+    inr (record {
+      given = out;
+      ended = ending;
+      serves =
+          subst (λ (x : Option TaskRequest). Serves x (held contents out)
+          (held contents out) ending) (sym none) serves;
+      hands_on = untouched contents out ending (wrong_silent (codes "error: an argument is not UTF-8\n") o is);
     })
 unasked contents words Memory out o none is = inl ((is, refl), refl)

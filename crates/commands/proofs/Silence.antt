@@ -10,7 +10,7 @@ use Rattle.host.specs.declared.errors.HostError.TheVariants as failure
 use Rattle.host.specs.declared.tallies.Tally.{Tally}
 use Rattle.host.specs.declared.traced.Traced.{Traced}
 use Rattle.host.specs.Tallies.{tallied}
-use Rattle.words.specs.Requests.{TaskRequest, RunFiles, TableFiles, Trace, Run, Verify, Prove, Recheck, Assemble, Disassemble}
+use Rattle.words.specs.Requests.{TaskRequest, RunFiles, TableFiles, Trace, Run, Verify, Prove, Recheck, Assemble, Disassemble, Explain}
 use Rattle.table_entries.specs.declared.errors.WriteTableError.{WriteTableError}
 use Rattle.proof_table.specs.Writing.{GainsTable, BeginsTable}
 use Rattle.rechecking.specs.declared.errors.TableError.{TableError}
@@ -158,6 +158,9 @@ served_silent (Prove files) old new r h e = prove_silent files old new r h e
 served_silent (Recheck files) old new r h e = recheck_silent files old new r h e
 served_silent (Assemble text image) old new r h e = assemble_silent text image old new r h e
 served_silent (Disassemble path) old new r h e = disassemble_silent path old new r.outcome h.0 e
+served_silent (Explain code) old new r (inl none, plain) e = none.1
+served_silent (Explain code) old new r (inr (text, is, says), plain) e =
+    absurd (says_loud old new _ _ r.outcome refl says e)
 
 -- ---- after standard output was flushed
 

@@ -3,7 +3,7 @@ use Rattle.std.proofs.Common.{◌≡◌, ◌≤◌, ℕ, List, Option, true, fal
 use Rattle.std.proofs.lemmas.Bool.{false≢true}
 use Rattle.std.specs.declared.io.ErrorKind.{ErrorKind}
 use Rattle.words.specs.declared.tasks.WordsError.{WordsError}
-use Rattle.words.specs.declared.tasks.WordsError.TheVariants.{Wrong, Memory}
+use Rattle.words.specs.declared.tasks.WordsError.TheVariants.{Wrong, NotUnicode, Memory}
 use Rattle.commands.specs.declared.outcomes.TaskOutcome.{TaskOutcome}
 use Rattle.commands.specs.declared.outcomes.TaskOutcome.TheVariants.{Done, WrongWords, Refused, Faulted, CannotRead, CannotWrite, CannotReplace, NoMemory}
 use Rattle.commands.specs.Statuses.{status_of, is_silent, is_unsaid, IsWordsEnd, IsWriteFailure, IsWriteFailureBy, SaysWrongWords, IsWrongWords}
@@ -139,3 +139,11 @@ unasked_status (Wrong text) (CannotRead path kind) e most apart = e
 unasked_status (Wrong text) (CannotWrite path cause) e most apart = e
 unasked_status (Wrong text) (CannotReplace path conflict) e most apart = e
 unasked_status (Wrong text) NoMemory e most apart = e
+unasked_status NotUnicode (WrongWords said) e most apart = apart refl
+unasked_status NotUnicode Done e most apart = e
+unasked_status NotUnicode (Refused rejection) e most apart = e
+unasked_status NotUnicode (Faulted fault form) e most apart = e
+unasked_status NotUnicode (CannotRead path kind) e most apart = e
+unasked_status NotUnicode (CannotWrite path cause) e most apart = e
+unasked_status NotUnicode (CannotReplace path conflict) e most apart = e
+unasked_status NotUnicode NoMemory e most apart = e

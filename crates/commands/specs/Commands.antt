@@ -6,13 +6,16 @@ use Rattle.bounds.specs.Bounds.{Bounded}
 use Rattle.frames.specs.Sources.{Origin}
 use Rattle.messages.specs.declared.forms.FileForm.{FileForm}
 use Rattle.commands.specs.declared.outcomes.TaskOutcome.{TaskOutcome}
+use Rattle.commands.specs.declared.outcomes.TaskOutcome.TheVariants.{Done}
 use Rattle.commands.specs.declared.endings.Ending.{Ending}
 use Rattle.messages.specs.Lines.{bound_line}
-use Rattle.commands.specs.Statuses.{IsWrongWords}
+use Rattle.messages.specs.Entries.{IsEntryOf}
+use Rattle.commands.specs.Saying.{Says}
+use Rattle.commands.specs.Statuses.{IsWrongWords, SaysWrongWords, no_code}
 use Rattle.commands.specs.Judging.{Accepts}
 use Rattle.commands.specs.Known.{Plainly}
 use Rattle.commands.specs.Files.{ReadsNone, MakesNone, LoadsNone, ReadsImage, OpensNone, RunsOn, DisassemblesFile, AssemblesFile}
-use Rattle.words.specs.Requests.{TaskRequest, RunFiles, TableFiles, Trace, Run, Verify, Prove, Recheck, Assemble, Disassemble}
+use Rattle.words.specs.Requests.{TaskRequest, RunFiles, TableFiles, Trace, Run, Verify, Prove, Recheck, Assemble, Disassemble, Explain}
 use Rattle.commands.specs.Known.{IsKnownOfProgram, IsKnownOfTable}
 use Rattle.commands.specs.Judging.{IsBoundOf, IsBoundShown, RefusesProgram, RefusesTable, Verifies}
 use Rattle.commands.specs.Streams.{Traces}
@@ -112,6 +115,12 @@ ProvesFile files old new result =
     (λ p. (RefusesProgram p old new result.outcome
     ⊎ AcceptsAndProves files.table p old new result.outcome) × IsKnownOfProgram p result)
 
+-- `explain`: standard output gets the entry of the code, or nothing has that code
+abbrev pub ExplainsCode : List ℕ → Option (List ℕ) → Option (List ℕ) → TaskOutcome → Type 0
+ExplainsCode code old new result =
+    (SaysWrongWords no_code result × (new ≡ old))
+    ⊎ ((text : List ℕ) × IsEntryOf code text × Says old new text Done result)
+
 -- ---- the program
 
 -- what is done for a request, or where the arguments make none
@@ -125,3 +134,4 @@ Serves (Some (Prove files)) old new result = ProvesFile files old new result
 Serves (Some (Recheck files)) old new result = RechecksFile files old new result
 Serves (Some (Assemble path image)) old new result = AssemblesFile path image old new result
 Serves (Some (Disassemble path)) old new result = Plainly (DisassemblesFile path old new) result
+Serves (Some (Explain code)) old new result = Plainly (ExplainsCode code old new) result

@@ -22,7 +22,7 @@ use Rattle.messages.specs.declared.rejections.Rejection.{Rejection}
 use Rattle.messages.specs.declared.rejections.Rejection.TheVariants as rejection
 use Rattle.messages.specs.declared.forms.FileForm.{FileForm}
 use Rattle.messages.specs.Faults.{fault_lines}
-use Rattle.messages.specs.Messages.{rejection_text}
+use Rattle.messages.specs.Messages.{rejection_text, code_line}
 use Rattle.commands.specs.Statuses.{IsWordsEnd, message_of, status_of}
 use Rattle.commands.specs.Saying.{AppendsPart, LacksMemory}
 use Rattle.commands.specs.Known.{Plainly, told_of}
@@ -62,12 +62,13 @@ TellsWordsError error old new before after status =
     (o : TaskOutcome) × IsWordsEnd error o × (status ≡ status_of o) × (new ≡ old)
     × AppendsPart before after (message_of o)
 
--- standard error got why something is refused, or a beginning of it
+-- standard error got why something is refused, and its code, or a beginning of that
 abbrev pub TellsRejection : Option (List ℕ) → Option (List ℕ) → Type 0
-TellsRejection old new = (rejection : Rejection) × AppendsPart old new (rejection_text rejection)
+TellsRejection old new =
+    (rejection : Rejection) × AppendsPart old new (rejection_text rejection ++ code_line rejection)
 
--- a program is refused, and standard error got why, and then what is known of that refusal; or a
--- beginning of this text
+-- a program is refused, and standard error got why, then what is known of that refusal, and its
+-- code; or a beginning of this text
 pub record TellsKnown (old new : Option (List ℕ)) : Type 0 where
   pub program : Program
   pub refusal : Refusal
@@ -75,10 +76,12 @@ pub record TellsKnown (old new : Option (List ℕ)) : Type 0 where
   pub insn : Option Insn
   pub why : List ℕ
   pub known : IsReason program refusal slot why
-  pub said : AppendsPart old new (rejection_text (rejection.Program refusal slot insn) ++ why)
+  pub said : AppendsPart old new
+      ((rejection_text (rejection.Program refusal slot insn) ++ why)
+      ++ code_line (rejection.Program refusal slot insn))
 
--- a table is refused, and standard error got why, and then what is known of the entry whose step
--- was tested; or a beginning of this text
+-- a table is refused, and standard error got why, then what is known of the entry whose step was
+-- tested, and its code; or a beginning of this text
 pub record TellsEntryKnown (old new : Option (List ℕ)) : Type 0 where
   pub program : Program
   pub bytes : List ℕ
@@ -87,16 +90,19 @@ pub record TellsEntryKnown (old new : Option (List ℕ)) : Type 0 where
   pub insn : Insn
   pub why : List ℕ
   pub known : IsEntryReason program bytes error slot insn why
-  pub said : AppendsPart old new (rejection_text (rejection.Table error (Some (slot, insn))) ++ why)
+  pub said : AppendsPart old new
+      ((rejection_text (rejection.Table error (Some (slot, insn))) ++ why)
+      ++ code_line (rejection.Table error (Some (slot, insn))))
 
--- a text is refused, and standard error got why, and then its line and a hint; or a beginning of
--- these lines
+-- a text is refused, and standard error got why, then its line and a hint, and its code; or a
+-- beginning of these lines
 pub record TellsShown (old new : Option (List ℕ)) : Type 0 where
   pub source : KeptText
   pub error : AsmError
   pub why : List ℕ
   pub known : ShowsError source error why
-  pub said : AppendsPart old new (rejection_text (rejection.Text error) ++ why)
+  pub said : AppendsPart old new
+      ((rejection_text (rejection.Text error) ++ why) ++ code_line (rejection.Text error))
 
 -- standard error got why something is refused, with what is known of it, or a beginning of that
 abbrev pub IsTold : Option (List ℕ) → Option (List ℕ) → Type 0

@@ -17,6 +17,7 @@ use Rattle.listeners.specs.Reasons.{IsReason}
 use Rattle.explanations.specs.declared.entries.EntryReason.{EntryReason}
 use Rattle.explanations.specs.Entries.{IsEntryReason}
 use Rattle.messages.specs.declared.rejections.Rejection.TheVariants as rejection
+use Rattle.messages.specs.Messages.{code_line}
 
 -- the lines at the end of the message after a task that read this program text: if it was refused,
 -- its line with a caret, as far as it was kept, and a hint
@@ -43,14 +44,19 @@ ShowsKept bytes e ending = TellsKept bytes e ending.outcome ending.why
 abbrev pub Plainly : (TaskOutcome → Type 0) → Ending → Type 0
 Plainly P ending = P ending.outcome × (ending.why ≡ None)
 
--- what standard error gets, the whole message: that of the outcome, and then what is known
+-- what standard error gets: the message of the outcome, and then what is known
 abbrev pub outcome_text : TaskOutcome → Option (String Global) → List ℕ
 outcome_text outcome None = message_of outcome
 outcome_text outcome (Some text) = message_of outcome ++ string_bytes text
 
+-- after a refusal the last line names its code
+abbrev pub with_code : TaskOutcome → List ℕ → List ℕ
+with_code (Refused rejection) text = text ++ code_line rejection
+with_code outcome text = text
+
 -- the same for how a task ended
 abbrev pub told_of : Ending → List ℕ
-told_of ending = outcome_text ending.outcome ending.why
+told_of ending = with_code ending.outcome (outcome_text ending.outcome ending.why)
 
 -- the lines at the end of the message after a task on this program: there are some only if the
 -- program was refused, and they say what is known of the refusal at its slot

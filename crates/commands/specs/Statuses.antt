@@ -3,7 +3,7 @@ use Rattle.std.specs.Prelude.{◌≡◌, ℕ, Bool, true, false, List, [], ◌++
 use Rattle.std.specs.declared.io.ErrorKind.{ErrorKind}
 use Rattle.std.specs.String.{string_bytes}
 use Rattle.words.specs.declared.tasks.WordsError.{WordsError}
-use Rattle.words.specs.declared.tasks.WordsError.TheVariants.{Wrong, Memory}
+use Rattle.words.specs.declared.tasks.WordsError.TheVariants.{Wrong, NotUnicode, Memory}
 use Rattle.commands.specs.declared.outcomes.TaskOutcome.{TaskOutcome}
 use Rattle.commands.specs.declared.outcomes.TaskOutcome.TheVariants.{Done, WrongWords, Refused, Faulted, CannotRead, CannotWrite, CannotReplace, NoMemory}
 use Rattle.commands.specs.Causes.{line_after, conflict_line, unread_text}
@@ -47,6 +47,10 @@ is_unsaid NoMemory = false
 abbrev pub usage : List ℕ
 usage = codes "usage: xdpvm asm|dis|verify|run|trace|prove|recheck\n"
 
+abbrev pub no_code : List ℕ
+no_code =
+    codes "error: there is no such code: codes are a letter and a number, as V9, or a trap reason\n"
+
 -- the message on standard error
 abbrev pub message_of : TaskOutcome → List ℕ
 message_of Done = []
@@ -75,6 +79,7 @@ IsWrongWords outcome = ⊥
 -- how the task ends if the arguments ask for nothing
 abbrev pub IsWordsEnd : WordsError → TaskOutcome → Type 0
 IsWordsEnd (Wrong text) outcome = SaysWrongWords (string_bytes text) outcome
+IsWordsEnd NotUnicode outcome = SaysWrongWords (codes "error: an argument is not UTF-8\n") outcome
 IsWordsEnd Memory outcome = outcome ≡ NoMemory
 
 -- the output of this name cannot be written

@@ -1,5 +1,5 @@
 -- The message on standard error about packet frames whose runs ended without an action.
-use Rattle.std.specs.Prelude.{◌≡◌, ℕ, ◌-◌, ◌==◌, List, [], ◌∷◌, ◌++◌, length, Option, Some, None, String, Result, Ok, Err, IfSome, codes, decimal, if◌then◌else◌}
+use Rattle.std.specs.Prelude.{◌≡◌, ℕ, ◌+◌, ◌-◌, ◌==◌, nat_lt, List, [], ◌∷◌, ◌++◌, length, Option, Some, None, String, Result, Ok, Err, IfSome, codes, decimal, if◌then◌else◌}
 use Rattle.std.specs.declared.alloc.Global.{Global}
 use Rattle.std.specs.String.{string_bytes}
 use Rattle.isa_model.specs.declared.values.Value.{Value}
@@ -50,15 +50,26 @@ end_line (Exit value steps) =
 end_line (Trap reason steps) = trap_line reason
 end_line Limit = codes "the limit of steps is reached: give more by --limit, or end a loop\n"
 
--- a packet frame, and where its run stopped
+-- how many frames more stopped at the slot
+abbrev pub others_words : ℕ → List ℕ
+others_words count =
+    if nat_lt 1 count then codes " and " ++ (decimal (count - 1) ++ codes " more") else []
+
+-- the first packet frame whose run stopped at a slot, and where
 abbrev pub stop_line : FrameStop → List ℕ
 stop_line f =
-    codes "frame " ++ (decimal f.frame ++ (codes ", slot " ++ (decimal f.stop.slot ++ (codes ": "
-    ++ (insn_lines f.stop.insn f.stop.registers ++ end_line f.stop.end)))))
+    codes "frame " ++ (decimal f.frame ++ (others_words f.count ++ (codes ", slot "
+    ++ (decimal f.stop.slot ++ (codes ": "
+    ++ (insn_lines f.stop.insn f.stop.registers ++ end_line f.stop.end))))))
 
 abbrev pub first_lines : List FrameStop → List ℕ
 first_lines [] = []
 first_lines (f ∷ fs) = stop_line f ++ first_lines fs
+
+-- how many frames are counted with the first ones
+abbrev pub told_of : List FrameStop → ℕ
+told_of [] = 0
+told_of (f ∷ fs) = f.count + told_of fs
 
 -- how many more runs ended without an action
 abbrev pub more_line : ℕ → List ℕ
@@ -66,7 +77,7 @@ more_line more = if more == 0 then []
     else codes "and " ++ (decimal more ++ codes " more frames that ended without an action\n")
 
 abbrev pub stop_lines : Noted → List ℕ
-stop_lines noted = first_lines noted.first ++ more_line (noted.count - length noted.first)
+stop_lines noted = first_lines noted.first ++ more_line (noted.count - told_of noted.first)
 
 -- ---- the message of a trace
 

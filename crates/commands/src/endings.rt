@@ -5,7 +5,7 @@ ghost use Rattle.std.specs.Io.KnownBytes.{Appends};
 ghost use Rattle.exact_io.specs.Transfers.{AppendsBeginning};
 ghost use Rattle.commands.specs.Statuses.{status_of, is_unsaid};
 ghost use Rattle.commands.specs.Saying.{AppendsPart};
-ghost use Rattle.commands.specs.Known.{ShowsKept, told_of};
+ghost use Rattle.commands.specs.Known.{ShowsKept, outcome_text, told_of};
 ghost use Rattle.commands.specs.Flushing.{Flushes};
 
 use super::outcomes::{STANDARD_OUTPUT, TaskOutcome};
@@ -68,6 +68,22 @@ impl<'a> Ending<'a> {
     }
 
     // Says what went wrong, and then what is known.
+    fn say_known<W: Write>(&self, err: &mut W) -> io::Result<()>
+        ensures ok { OnOk result (Appends (W.contents err.old) (W.contents err.new)
+            (outcome_text self.now.outcome self.now.why)) }
+        ensures err { OnErr result (AppendsBeginning (W.contents err.old) (W.contents err.new)
+            (outcome_text self.now.outcome self.now.why)) }
+        ensures unsaid { is_unsaid self.now.outcome ≡ true → self.now.why ≡ None
+            → W.contents err.new ≡ W.contents err.old }
+    {
+        self.outcome.say(err)?;
+        match &self.why {
+            Some(why) => write_bytes(err, why.as_bytes()),
+            None => Ok(()),
+        }
+    }
+
+    // Says what went wrong, what is known, and of a refusal how to read the entry of its code.
     fn say<W: Write>(&self, err: &mut W) -> io::Result<()>
         ensures ok { OnOk result
             (Appends (W.contents err.old) (W.contents err.new) (told_of self.now)) }
@@ -76,10 +92,10 @@ impl<'a> Ending<'a> {
         ensures unsaid { is_unsaid self.now.outcome ≡ true → self.now.why ≡ None
             → W.contents err.new ≡ W.contents err.old }
     {
-        self.outcome.say(err)?;
-        match &self.why {
-            Some(why) => write_bytes(err, why.as_bytes()),
-            None => Ok(()),
+        self.say_known(err)?;
+        match self.outcome {
+            TaskOutcome::Refused(rejection) => rejection.say_code(err),
+            _ => Ok(()),
         }
     }
 

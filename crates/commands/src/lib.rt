@@ -5,6 +5,7 @@
 
 mod buffering;
 mod causes;
+mod codes;
 mod endings;
 mod executing;
 mod files;

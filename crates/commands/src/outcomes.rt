@@ -15,7 +15,7 @@ use isa_model::Fault;
 use messages::{FileForm, Rejection, say_fault};
 use std::io;
 use std::io::{ErrorKind, Write};
-use words::WordsError;
+use words::{NOT_UNICODE, WordsError};
 
 /// Names standard output in messages.
 pub const STANDARD_OUTPUT: &str = "standard output";
@@ -50,6 +50,7 @@ impl<'a> TaskOutcome<'a> {
     {
         match error {
             WordsError::Wrong(text) => TaskOutcome::WrongWords(text.as_str()),
+            WordsError::NotUnicode => TaskOutcome::WrongWords(NOT_UNICODE),
             WordsError::Memory => TaskOutcome::NoMemory,
         }
     }

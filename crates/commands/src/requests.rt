@@ -4,6 +4,7 @@ ghost use Rattle.std.specs.Prelude.{Some, option_map};
 ghost use Rattle.words.specs.Requests.{Run, files_of, request_of};
 ghost use Rattle.commands.specs.Commands.{Serves};
 
+use super::codes::explain_code;
 use super::endings::Ending;
 use super::files::{run_verified, trace, verify_file};
 use super::images::{assemble_file, disassemble_file};
@@ -49,6 +50,10 @@ pub fn serve<'a, R: Files + Clock, W: Write>(
         Task::Assemble(paths) => assemble_file(rt, alloc, paths, out),
         Task::Disassemble(path) => Ending {
             outcome: disassemble_file(rt, alloc, path, out),
+            why: None,
+        },
+        Task::Explain(code) => Ending {
+            outcome: explain_code(code, out),
             why: None,
         },
     }

@@ -1,10 +1,10 @@
 //! The message about packet frames whose runs ended without an action.
 
-ghost use Rattle.std.specs.Prelude.{◌≡◌, None, IfOk, IfSome};
+ghost use Rattle.std.specs.Prelude.{◌≡◌, ◌<◌, ◌^◌, None, IfOk, IfSome, length};
 ghost use Rattle.std.specs.String.{string_bytes};
 ghost use Rattle.isa_model.specs.Text.CanonicalText as canonical;
 ghost use Rattle.host.specs.Stops.{noted_of};
-ghost use Rattle.commands.specs.Stopped.{insn_lines, trap_line, end_line, stop_line, first_lines, more_line, stop_lines, TellsStopsOf, at_end};
+ghost use Rattle.commands.specs.Stopped.{insn_lines, trap_line, end_line, others_words, stop_line, first_lines, told_of, more_line, stop_lines, TellsStopsOf, at_end};
 
 use super::outcomes::TaskOutcome;
 use disassembler::write_insn;
@@ -83,15 +83,28 @@ fn end_line(end: End) -> &'static str
     }
 }
 
-// The lines for a packet frame.
+// How many frames more stopped at the slot.
+fn others_words(alloc: Global, count: u32) -> Result<String, AllocError>
+    ensures { IfOk result (λ text. string_bytes text ≡ others_words count) }
+{
+    if count > 1 {
+        let others = count - 1;
+        format!(in alloc; " and {others} more")
+    } else {
+        Ok(String::new(alloc))
+    }
+}
+
+// The lines for the first packet frame whose run stopped at a slot.
 fn stop_line(alloc: Global, found: &FrameStop) -> Result<String, AllocError>
     ensures { IfOk result (λ text. string_bytes text ≡ stop_line found.now) }
 {
     let frame = found.frame;
+    let others = others_words(alloc, found.count)?;
     let slot = found.stop.slot;
     let lines = insn_lines(alloc, found.stop.insn, &found.stop.registers)?;
     let hint = end_line(found.stop.end);
-    format!(in alloc; "frame {frame}, slot {slot}: {lines}{hint}")
+    format!(in alloc; "frame {frame}{others}, slot {slot}: {lines}{hint}")
 }
 
 // The lines for the first frames.
@@ -104,6 +117,18 @@ fn first_lines(alloc: Global, first: &[FrameStop]) -> Result<String, AllocError>
         text = format!(in alloc; "{text}{line}")?;
     }
     Ok(text)
+}
+
+// How many frames are counted with the first ones.
+fn told_of(first: &[FrameStop]) -> u64
+    requires { length first.now < 2 ^ 32 }
+    ensures { result ≡ told_of first.now }
+{
+    let mut count = 0;
+    for index in 0..first.len() {
+        count += u64::from(first[index].count);
+    }
+    count
 }
 
 // The line that says how many more frames there are, if any.
@@ -121,7 +146,7 @@ fn stop_lines(alloc: Global, stops: &Stops) -> Result<String, AllocError>
     ensures { IfOk result (λ text. string_bytes text ≡ stop_lines (noted_of stops.now)) }
 {
     let first = stops.first.as_slice();
-    let more = u64::from(stops.count).saturating_sub(first.len() as u64);
+    let more = u64::from(stops.count).saturating_sub(told_of(first));
     let lines = first_lines(alloc, first)?;
     let rest = more_line(alloc, more)?;
     format!(in alloc; "{lines}{rest}")

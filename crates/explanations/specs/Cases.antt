@@ -1,11 +1,12 @@
 -- What a refused instruction needs, or what helps.
-use Rattle.std.specs.Prelude.{ℕ, ◌==◌, ℤ, pos, ◌+ℤ◌, ◌-ℤ◌, List, [], ◌++◌, length, slice_get, Option, Some, None, Bool, true, false, ◌&&◌, not, codes, decimal, if◌then◌else◌}
+use Rattle.std.specs.Prelude.{ℕ, ◌==◌, ℤ, pos, int_lt, ◌+ℤ◌, ◌-ℤ◌, List, [], ◌++◌, length, slice_get, Option, Some, None, Bool, true, false, ◌&&◌, not, codes, decimal, if◌then◌else◌}
 use Rattle.std.specs.Fmt.{signed_decimal}
 use Rattle.isa_model.specs.declared.instructions.Insn.{Insn}
-use Rattle.isa_model.specs.declared.instructions.Insn.TheVariants.{Load, LoadSx, StoreConstant, Store, Atomic, Exchange, CompareExchange, CallHelper}
+use Rattle.isa_model.specs.declared.instructions.Insn.TheVariants.{CallHelper}
 use Rattle.isa_model.specs.declared.instructions.Place.{Place}
 use Rattle.isa_model.specs.declared.sizes.Size.{Size}
-use Rattle.isa_model.specs.Code.Sizes.{size_bytes, width_size, unsigned_size}
+use Rattle.isa_model.specs.Code.Registers.{reg_number}
+use Rattle.isa_model.specs.Code.Sizes.{size_bytes}
 use Rattle.isa_model.specs.declared.helpers.Helper.{Helper}
 use Rattle.isa_model.specs.declared.helpers.Helper.TheVariants.{MapLookupElem, MapUpdateElem, MapDeleteElem, KtimeGetNs}
 use Rattle.isa_model.specs.Code.Helpers.{helper_numbered}
@@ -17,22 +18,12 @@ use Rattle.stack_state.specs.declared.states.State.{State}
 use Rattle.stack_state.specs.Places.{kind_of}
 use Rattle.transfer.specs.HelperCalls.{points_to_bytes}
 use Rattle.transfer.specs.declared.refusals.Refusal.{Refusal as StepRefusal}
-use Rattle.transfer.specs.declared.refusals.Refusal.TheVariants.{UnsetRegister, ReadOnlyRegister, PointerOperand, PointerOffset, NotMemory, StackPlace, StackBytes, PacketBytes, MapValueBytes, NullNotTested, PointerStored, Comparison, HelperArgument, HelperBytes, TooManyFrames, ExitValue, PacketAtomic}
+use Rattle.transfer.specs.declared.refusals.Refusal.TheVariants.{ReadOnlyRegister, PointerOperand, PointerOffset, NotMemory, StackPlace, StackBytes, ContextAccess, PacketBytes, MapValueBytes, NullNotTested, PointerStored, Comparison, HelperArgument, HelperBytes, TooManyFrames, ExitValue, PacketAtomic}
 use Rattle.walks.specs.declared.refusals.Refusal.{Refusal}
 use Rattle.walks.specs.declared.refusals.Refusal.TheVariants.{Step, Repeats}
+use Rattle.explanations.specs.Pointers.{access, operand_line, offset_line, memory_line}
 
 -- ---- places
-
--- the size and the place of an access
-abbrev pub access : Insn → Option (Size × Place)
-access (Load size d place) = Some (size, place)
-access (LoadSx size d place) = Some (unsigned_size size, place)
-access (StoreConstant size place constant) = Some (size, place)
-access (Store size place r) = Some (size, place)
-access (Atomic w op fetched place r) = Some (width_size w, place)
-access (Exchange w place r) = Some (width_size w, place)
-access (CompareExchange w place r) = Some (width_size w, place)
-access i = None
 
 abbrev pub needs_words : (first last : ℤ) → List ℕ
 needs_words first last =
@@ -64,10 +55,40 @@ frame_line span bytes =
     span ++ (codes ", and the first at a multiple of "
     ++ (decimal bytes ++ codes "; a frame has bytes -512 to -1\n"))
 
-abbrev pub packet_line : (span behind : List ℕ) → (proved : ℕ) → List ℕ
-packet_line span behind proved =
-    span ++ (behind ++ (codes "; " ++ (decimal proved ++ codes
-    " are proved: compare a pointer after them with the packet end, or correct the offset\n")))
+-- a test for the packet's bytes up to this offset from a base register
+abbrev pub test_words : (base : ℕ) → (until : ℤ) → List ℕ
+test_words base until =
+    codes "r5 = r" ++ (decimal base ++ (codes "; r5 += " ++ (signed_decimal until
+    ++ codes "; if r5 > packet end goto short")))
+
+-- of the packet, with the test that is missing
+abbrev pub packet_line : (span behind : List ℕ) → (proved base : ℕ) → (test : List ℕ) → List ℕ
+packet_line span behind proved base test =
+    span ++ (behind ++ (codes "; " ++ (decimal proved ++ (codes
+    " are proved: test before this, and after the last move of r"
+    ++ (decimal base ++ (codes ": " ++ (test ++ codes "\n")))))))
+
+-- where the first byte is before the point from which the packet's bytes are counted
+abbrev pub before_line : (span : List ℕ) → (identity : ℕ) → List ℕ
+before_line span identity =
+    span ++ (if identity == 0
+    then codes ": none are before the packet's beginning: correct the offset\n"
+    else codes " after the part: read what is before it through a copy that was made earlier\n")
+
+-- how far after its base register an access ends
+abbrev pub access_end : Place → Size → ℤ
+access_end place size = place.offset +ℤ pos (size_bytes size)
+
+abbrev pub after_line : (span : List ℕ) → (identity proved : ℕ) → Place → Size → List ℕ
+after_line span identity proved place size =
+    packet_line span (behind_words identity) proved
+    (reg_number place.base) (test_words (reg_number place.base) (access_end place size))
+
+abbrev pub packet_case : ℤ → (identity proved : ℕ) → Place → Size → List ℕ
+packet_case fixed identity proved place size =
+    if int_lt (fixed +ℤ place.offset) (pos 0)
+    then before_line (span_words fixed fixed place.offset size) identity
+    else after_line (span_words fixed fixed place.offset size) identity proved place size
 
 abbrev pub map_value_line : (span : List ℕ) → (bytes : ℕ) → List ℕ
 map_value_line span bytes =
@@ -79,7 +100,7 @@ abbrev pub access_line : List MapDef → Kind → Place → Size → List ℕ
 access_line rows (kind.Stack frame offset) place size =
     frame_line (span_words offset offset place.offset size) (size_bytes size)
 access_line rows (kind.Packet fixed identity least greatest proved) place size =
-    packet_line (span_words fixed fixed place.offset size) (behind_words identity) proved
+    packet_case fixed identity proved place size
 access_line rows (kind.MapValue m least greatest) place size =
     map_value_line (span_words least greatest place.offset size) (value_size rows m)
 access_line rows k place size = []
@@ -134,7 +155,7 @@ row_line m None = []
 row_line m (Some row) =
     codes "a key of map " ++ (decimal m ++ (codes " has " ++ (decimal row.key_size
     ++ (codes " bytes, a value " ++ (decimal row.value_size
-    ++ codes ": write all of them to the stack first\n")))))
+    ++ codes ": write all of them to the stack first, and point to the lowest\n")))))
 
 abbrev pub sizes_by : List MapDef → Kind → List ℕ
 sizes_by rows (kind.Map m) = row_line m (slice_get rows m)
@@ -154,28 +175,28 @@ exit_line callers =
 -- ---- what helps, whatever the state is
 
 abbrev pub hint_line : StepRefusal → List ℕ
-hint_line UnsetRegister = codes "set it on every path that leads here\n"
 hint_line ReadOnlyRegister = codes "copy it and change the copy: r2 = r10\n"
-hint_line PointerOperand =
-    codes "stack, packet and value pointers move by += and -= of a number, at 64 bits\n"
-hint_line PointerOffset =
-    codes "a frame pointer moves by constants, any pointer by at most 536870912 bytes\n"
-hint_line NotMemory =
-    codes "memory is reached by r1 of the start, r10, a packet or a value pointer\n"
-hint_line StackBytes = codes "write the bytes first; a stored pointer is read whole, with 8 bytes\n"
+hint_line StackBytes = codes
+    "write the bytes first; read a stored pointer whole, with 8 bytes, and one to a value before a delete\n"
+hint_line ContextAccess = codes
+    "load 4 bytes: r2 = *(u32 *)(r1 + 0) is the packet, + 4 its end, + 12 the interface, + 16 the queue\n"
 hint_line NullNotTested =
     codes "test it first, as by if r0 == 0 goto .., and use it where it is not 0\n"
 hint_line PointerStored =
     codes "store it with 8 bytes into the function's own stack: *(u64 *)(r10 - 8) = r1\n"
 hint_line Comparison =
-    codes "compare a packet pointer with the packet end, a value pointer with 0, at 64 bits\n"
-hint_line TooManyFrames = codes "write the function's instructions in place of the call\n"
+    codes "compare a packet pointer with the packet end by < <= > >=, a value pointer with 0, at 64 bits\n"
+hint_line TooManyFrames = codes
+    "write the function's instructions in place of the call; in place of a recursion, a loop\n"
 hint_line PacketAtomic = codes "load, compute and store instead\n"
 hint_line refusal = []
 
 -- ---- cases
 
 abbrev pub case_line : List MapDef → State → Insn → Refusal → List ℕ
+case_line rows a i (Step PointerOperand) = operand_line a i
+case_line rows a i (Step PointerOffset) = offset_line a i
+case_line rows a i (Step NotMemory) = memory_line a i
 case_line rows a i (Step StackPlace) = place_line rows a i
 case_line rows a i (Step PacketBytes) = place_line rows a i
 case_line rows a i (Step MapValueBytes) = place_line rows a i

@@ -2,7 +2,9 @@ pub mod Numbers
 pub mod Kinds
 pub mod Slots
 pub mod Lines
+pub mod Unset
 pub mod Loops
+pub mod Pointers
 pub mod Cases
 pub mod Flows
 pub mod Values

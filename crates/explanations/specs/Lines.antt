@@ -1,5 +1,5 @@
 -- The registers and stack slots of a state that concern an instruction, a line each.
-use Rattle.std.specs.Prelude.{ℕ, ◌+◌, ◌-◌, ◌/◌, ◌%◌, min, ◌+ℤ◌, ℤ, List, [], ◌∷◌, ◌++◌, length, slice_get, Option, Some, None, codes, decimal}
+use Rattle.std.specs.Prelude.{ℕ, ◌+◌, ◌-◌, ◌/◌, ◌%◌, min, ◌+ℤ◌, ℤ, List, [], ◌∷◌, ◌++◌, length, slice_get, Option, Some, None, Bool, ◌==◌, ◌&&◌, nat_lt, codes, decimal, if◌then◌else◌}
 use Rattle.std.specs.List.{flat_map}
 use Rattle.isa_model.specs.declared.registers.Reg.{Reg}
 use Rattle.isa_model.specs.declared.registers.Reg.TheVariants.{R0, R1, R2, R3}
@@ -113,14 +113,26 @@ stack_lines rows a i = []
 
 -- ---- the last jumps
 
--- the jumps after the first
-abbrev pub more_jumps : List Jump → List ℕ
-more_jumps [] = []
-more_jumps (j ∷ js) =
-    codes ", " ++ (decimal j.from ++ (codes " -> " ++ (decimal j.to ++ more_jumps js)))
+abbrev pub is_same : Jump → Jump → Bool
+is_same j k = (j.from == k.from) && (j.to == k.to)
+
+abbrev pub jump_words : Jump → List ℕ
+jump_words j = decimal j.from ++ (codes " -> " ++ decimal j.to)
+
+-- a jump, with how often it follows itself, where it does
+abbrev pub taken_words : Jump → ℕ → List ℕ
+taken_words j times =
+    if nat_lt 1 times then jump_words j ++ (codes ", " ++ (decimal times ++ codes " times"))
+    else jump_words j
+
+-- a jump that was taken so often, and the jumps after it
+abbrev pub way_words : Jump → ℕ → List Jump → List ℕ
+way_words j times [] = taken_words j times
+way_words j times (k ∷ js) =
+    if is_same j k then way_words j (times + 1) js
+    else taken_words j times ++ (codes ", " ++ way_words k 1 js)
 
 -- the jumps in their order, if there is one
 abbrev pub way_line : List Jump → List ℕ
 way_line [] = []
-way_line (j ∷ js) = codes "way: "
-    ++ (decimal j.from ++ (codes " -> " ++ (decimal j.to ++ (more_jumps js ++ codes "\n"))))
+way_line (j ∷ js) = codes "way: " ++ (way_words j 1 js ++ codes "\n")

@@ -4,44 +4,17 @@ ghost use Rattle.std.specs.Prelude.{◌≡◌, ◌+ℤ◌, IfOk, slice_get};
 ghost use Rattle.std.specs.Option.{option_copied};
 ghost use Rattle.std.specs.String.{string_bytes};
 ghost use Rattle.isa_model.specs.Code.Helpers.{helper_numbered};
-ghost use Rattle.isa_model.specs.Code.Sizes.{unsigned_size};
 ghost use Rattle.transfer.specs.HelperCalls.{points_to_bytes};
 ghost use Rattle.explanations.specs.Cases as spec;
-ghost use Rattle.explanations.specs.Cases.{access, needs_words, last_byte, span_words, behind_words, frame_line, packet_line, map_value_line, is_map, key_line, update_line, argument_line, value_size, exit_line, hint_line};
+ghost use Rattle.explanations.specs.Cases.{needs_words, last_byte, span_words, behind_words, frame_line, test_words, packet_line, before_line, access_end, after_line, packet_case, map_value_line, is_map, key_line, update_line, argument_line, value_size, exit_line, hint_line};
 
-use isa_model::{Helper, Insn, MapDef, Place, Reg, SignedSize, Size};
+use crate::pointers::{access, memory_line, offset_line, operand_line};
+use isa_model::{Helper, Insn, MapDef, Place, Reg, Size};
 use reg_state::Kind;
 use stack_state::State;
 use std::alloc::{AllocError, Global};
 use transfer::Refusal as StepRefusal;
 use walks::Refusal;
-
-// What a sign-extending load reads.
-fn unsigned_size(signed_size: SignedSize) -> Size
-    ensures { result ≡ unsigned_size signed_size }
-{
-    match signed_size {
-        SignedSize::S8 => Size::U8,
-        SignedSize::S16 => Size::U16,
-        SignedSize::S32 => Size::U32,
-    }
-}
-
-// The size and the place of an access.
-fn access(insn: &Insn) -> Option<(Size, Place)>
-    ensures { result ≡ access insn.now }
-{
-    match *insn {
-        Insn::Load(size, _, place) => Some((size, place)),
-        Insn::LoadSx(signed_size, _, place) => Some((unsigned_size(signed_size), place)),
-        Insn::StoreConstant(size, place, _) => Some((size, place)),
-        Insn::Store(size, place, _) => Some((size, place)),
-        Insn::Atomic(width, _, _, place, _) => Some((width.size(), place)),
-        Insn::Exchange(width, place, _) => Some((width.size(), place)),
-        Insn::CompareExchange(width, place, _) => Some((width.size(), place)),
-        _ => None,
-    }
-}
 
 fn needs_words(alloc: Global, first: i64, last: i64) -> Result<String, AllocError>
     ensures { IfOk result (λ text. string_bytes text ≡ needs_words first last) }
@@ -112,14 +85,86 @@ fn frame_line(alloc: Global, span: &str, bytes: usize) -> Result<String, AllocEr
     )
 }
 
-// Which bytes of the packet are needed, and how many there are.
-fn packet_line(alloc: Global, span: &str, behind: &str, proved: u32) -> Result<String, AllocError>
-    ensures { IfOk result (λ text. string_bytes text ≡ packet_line span.now behind.now proved) }
+// A test for the packet's bytes up to this offset from a base register.
+fn test_words(alloc: Global, base: usize, until: i64) -> Result<String, AllocError>
+    ensures { IfOk result (λ text. string_bytes text ≡ test_words base until) }
+{
+    format!(in alloc; "r5 = r{base}; r5 += {until}; if r5 > packet end goto short")
+}
+
+// Which bytes of the packet are needed, and the test that is missing.
+fn packet_line(
+    alloc: Global,
+    span: &str,
+    behind: &str,
+    proved: u32,
+    base: usize,
+    test: &str,
+) -> Result<String, AllocError>
+    ensures { IfOk result (λ text. string_bytes text
+        ≡ packet_line span.now behind.now proved base test.now) }
 {
     format!(in alloc;
-        "{span}{behind}; {proved} are proved: \
-         compare a pointer after them with the packet end, or correct the offset\n"
+        "{span}{behind}; {proved} are proved: test before this, and after the last move of \
+         r{base}: {test}\n"
     )
+}
+
+// Which bytes are needed, where the first is before the point from which they are counted.
+fn before_line(alloc: Global, span: &str, identity: u32) -> Result<String, AllocError>
+    ensures { IfOk result (λ text. string_bytes text ≡ before_line span.now identity) }
+{
+    if identity == 0 {
+        format!(in alloc; "{span}: none are before the packet's beginning: correct the offset\n")
+    } else {
+        format!(in alloc;
+            "{span} after the part: read what is before it through a copy that was made earlier\n"
+        )
+    }
+}
+
+// How far after its base register an access ends.
+fn access_end(place: Place, size: Size) -> i64
+    ensures { result ≡ access_end place size }
+{
+    i64::from(place.offset) + (size.bytes() as i64)
+}
+
+// Which bytes of the packet are needed, where none is before the point from which they are counted.
+fn after_line(
+    alloc: Global,
+    span: &str,
+    identity: u32,
+    proved: u32,
+    place: Place,
+    size: Size,
+) -> Result<String, AllocError>
+    ensures { IfOk result (λ text. string_bytes text
+        ≡ after_line span.now identity proved place size) }
+{
+    let behind = behind_words(identity);
+    let base = place.base.number();
+    let test = test_words(alloc, base, access_end(place, size))?;
+    packet_line(alloc, span, behind, proved, base, test.as_str())
+}
+
+// Which bytes of the packet an access needs, where its base has this fixed part.
+fn packet_case(
+    alloc: Global,
+    fixed: i32,
+    identity: u32,
+    proved: u32,
+    place: Place,
+    size: Size,
+) -> Result<String, AllocError>
+    ensures { IfOk result (λ text. string_bytes text
+        ≡ packet_case fixed identity proved place size) }
+{
+    let span = span_words(alloc, fixed, fixed, place, size)?;
+    if first_byte(fixed, place) < 0 {
+        return before_line(alloc, span.as_str(), identity);
+    }
+    after_line(alloc, span.as_str(), identity, proved, place, size)
 }
 
 // Which bytes of a map value are needed, and how many there are.
@@ -150,10 +195,7 @@ fn access_line(
             identity,
             proved,
             ..
-        } => {
-            let span = span_words(alloc, fixed, fixed, place, size)?;
-            packet_line(alloc, span.as_str(), behind_words(identity), proved)
-        }
+        } => packet_case(alloc, fixed, identity, proved, place, size),
         Kind::MapValue {
             index,
             least,
@@ -263,7 +305,7 @@ fn sizes_line(alloc: Global, maps: &[MapDef], state: &State) -> Result<String, A
             let value_bytes = row.value_size;
             format!(in alloc;
                 "a key of map {index} has {key_bytes} bytes, a value {value_bytes}: \
-                 write all of them to the stack first\n"
+                 write all of them to the stack first, and point to the lowest\n"
             )
         }
         None => Ok(String::new(alloc)),
@@ -286,23 +328,23 @@ fn hint_line(refusal: StepRefusal) -> &'static str
     ensures { result.now ≡ hint_line refusal }
 {
     match refusal {
-        StepRefusal::UnsetRegister => "set it on every path that leads here\n",
         StepRefusal::ReadOnlyRegister => "copy it and change the copy: r2 = r10\n",
-        StepRefusal::PointerOperand =>
-            "stack, packet and value pointers move by += and -= of a number, at 64 bits\n",
-        StepRefusal::PointerOffset =>
-            "a frame pointer moves by constants, any pointer by at most 536870912 bytes\n",
-        StepRefusal::NotMemory =>
-            "memory is reached by r1 of the start, r10, a packet or a value pointer\n",
         StepRefusal::StackBytes =>
-            "write the bytes first; a stored pointer is read whole, with 8 bytes\n",
+            "write the bytes first; read a stored pointer whole, with 8 bytes, and one to a value \
+             before a delete\n",
+        StepRefusal::ContextAccess =>
+            "load 4 bytes: r2 = *(u32 *)(r1 + 0) is the packet, + 4 its end, + 12 the interface, \
+             + 16 the queue\n",
         StepRefusal::NullNotTested =>
             "test it first, as by if r0 == 0 goto .., and use it where it is not 0\n",
         StepRefusal::PointerStored =>
             "store it with 8 bytes into the function's own stack: *(u64 *)(r10 - 8) = r1\n",
         StepRefusal::Comparison =>
-            "compare a packet pointer with the packet end, a value pointer with 0, at 64 bits\n",
-        StepRefusal::TooManyFrames => "write the function's instructions in place of the call\n",
+            "compare a packet pointer with the packet end by < <= > >=, a value pointer with 0, \
+             at 64 bits\n",
+        StepRefusal::TooManyFrames =>
+            "write the function's instructions in place of the call; in place of a recursion, \
+             a loop\n",
         StepRefusal::PacketAtomic => "load, compute and store instead\n",
         _ => "",
     }
@@ -323,6 +365,13 @@ pub fn case_line(
         Refusal::Step(
             StepRefusal::StackPlace | StepRefusal::PacketBytes | StepRefusal::MapValueBytes,
         ) => place_line(alloc, maps, state, insn),
+        Refusal::Step(StepRefusal::PointerOperand) => {
+            String::from_str(alloc, operand_line(state, insn))
+        }
+        Refusal::Step(StepRefusal::PointerOffset) => {
+            String::from_str(alloc, offset_line(state, insn))
+        }
+        Refusal::Step(StepRefusal::NotMemory) => String::from_str(alloc, memory_line(state, insn)),
         Refusal::Step(StepRefusal::HelperArgument) => helper_line(alloc, state, insn),
         Refusal::Step(StepRefusal::HelperBytes) => sizes_line(alloc, maps, state),
         Refusal::Step(StepRefusal::ExitValue) => {

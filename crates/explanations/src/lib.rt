@@ -11,9 +11,11 @@ mod lines;
 mod loops;
 mod mismatches;
 mod numbers;
+mod pointers;
 mod slots;
 mod states;
 mod turns;
+mod unset;
 mod values;
 
 pub use entries::{EntryReason, entry_reason};

@@ -1,13 +1,13 @@
 //! The registers and stack slots that concern a refused instruction, a line each, and the line of
 //! the last jumps on the path to it.
 
-ghost use Rattle.std.specs.Prelude.{◌≡◌, ◌++◌, IfOk, MatchOption, None, Some, option_to_list};
+ghost use Rattle.std.specs.Prelude.{◌≡◌, ◌++◌, ◌+◌, ◌<◌, ◌^◌, IfOk, MatchOption, None, Some, length, option_to_list};
 ghost use Rattle.std.specs.List.{flat_map};
 ghost use Rattle.std.specs.Option.{option_copied};
 ghost use Rattle.std.specs.String.{string_bytes};
 ghost use Rattle.isa_model.specs.Code.Helpers.{helper_numbered};
 ghost use Rattle.explanations.specs.Lines as spec;
-ghost use Rattle.explanations.specs.Lines.{concerned, register_lines, called_row, stack_lines, more_jumps};
+ghost use Rattle.explanations.specs.Lines.{concerned, register_lines, called_row, stack_lines, is_same, jump_words, taken_words, way_words};
 
 use crate::kinds::kind_words;
 use crate::numbers::half_words;
@@ -174,28 +174,54 @@ pub fn stack_lines(
 
 // ---- the last jumps
 
-/// The jumps after the first, each after a comma.
-fn more_jumps(alloc: Global, way: &[Jump]) -> Result<String, AllocError>
-    ensures { IfOk result (λ text. string_bytes text ≡ more_jumps way.now) }
+fn is_same(one: Jump, other: Jump) -> bool
+    ensures { result ≡ is_same one other }
 {
-    let mut text = String::new(alloc);
-    for index in 0..way.len() {
-        let from = way[index].from;
-        let to = way[index].to;
-        text = format!(in alloc; "{text}, {from} -> {to}")?;
+    one.from == other.from && one.to == other.to
+}
+
+fn jump_words(alloc: Global, jump: Jump) -> Result<String, AllocError>
+    ensures { IfOk result (λ text. string_bytes text ≡ jump_words jump) }
+{
+    let from = jump.from;
+    let to = jump.to;
+    format!(in alloc; "{from} -> {to}")
+}
+
+/// A jump, with how often it follows itself, where it does.
+fn taken_words(alloc: Global, jump: Jump, times: usize) -> Result<String, AllocError>
+    ensures { IfOk result (λ text. string_bytes text ≡ taken_words jump times) }
+{
+    let words = jump_words(alloc, jump)?;
+    if times <= 1 {
+        return Ok(words);
     }
-    Ok(text)
+    format!(in alloc; "{words}, {times} times")
+}
+
+/// A jump that was taken so often, and the jumps after it.
+fn way_words(alloc: Global, jump: Jump, times: usize, way: &[Jump]) -> Result<String, AllocError>
+    requires { times + length way.now < 2 ^ 64 }
+    ensures { IfOk result (λ text. string_bytes text ≡ way_words jump times way.now) }
+{
+    let Some((next, rest)) = way.split_first() else {
+        return taken_words(alloc, jump, times);
+    };
+    if is_same(jump, *next) {
+        return way_words(alloc, jump, times + 1, rest);
+    }
+    let first = taken_words(alloc, jump, times)?;
+    let others = way_words(alloc, *next, 1, rest)?;
+    format!(in alloc; "{first}, {others}")
 }
 
 /// The line of the last jumps, if there are any.
 pub fn way_line(alloc: Global, way: &[Jump]) -> Result<String, AllocError>
     ensures { IfOk result (λ text. string_bytes text ≡ spec.way_line way.now) }
 {
-    if way.is_empty() {
+    let Some((first, rest)) = way.split_first() else {
         return Ok(String::new(alloc));
-    }
-    let from = way[0].from;
-    let to = way[0].to;
-    let rest = more_jumps(alloc, &way[1..])?;
-    format!(in alloc; "way: {from} -> {to}{rest}\n")
+    };
+    let words = way_words(alloc, *first, 1, rest)?;
+    format!(in alloc; "way: {words}\n")
 }

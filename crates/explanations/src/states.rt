@@ -8,6 +8,7 @@ use crate::cases::case_line;
 use crate::lines::{answer_line, register_lines, stack_lines, way_line};
 use crate::loops::loop_line;
 use crate::turns::turn_lines;
+use crate::unset::unset_lines;
 use image::Image;
 use isa_model::Insn;
 use std::alloc::{AllocError, Global};
@@ -36,13 +37,14 @@ pub fn lines_of(
         ≡ lines_of image.now insn.now refusal found.now) }
 {
     let registers = register_lines(alloc, &found.state, insn)?;
-    let way = found.way.as_slice();
+    let slots = found.slots.as_slice();
+    let unset = unset_lines(alloc, image, slots, &found.state, insn, refusal)?;
     let case = case_line(alloc, image.maps(), &found.state, insn, refusal)?;
-    let taken = loop_line(alloc, image, found.slots.as_slice(), refusal)?;
+    let taken = loop_line(alloc, image, slots, refusal)?;
     let turns = turn_lines(alloc, &found.earlier, &found.state, refusal)?;
     let answer = answer_line(alloc, &found.state, refusal)?;
     let stack = stack_lines(alloc, image.maps(), &found.state, insn)?;
-    let way = way_line(alloc, way)?;
+    let way = way_line(alloc, found.way.as_slice())?;
     let cut = cut_line(found.is_cut_off);
-    format!(in alloc; "{registers}{case}{taken}{turns}{answer}{stack}{way}{cut}")
+    format!(in alloc; "{registers}{unset}{case}{taken}{turns}{answer}{stack}{way}{cut}")
 }

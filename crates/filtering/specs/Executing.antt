@@ -6,7 +6,7 @@ use Rattle.exact_io.specs.Waiting.{held}
 use Rattle.words.specs.declared.filter_tasks.FilterWordsError.{FilterWordsError}
 use Rattle.words.specs.declared.filter_tasks.FilterWordsError.TheVariants as error
 use Rattle.words.specs.declared.tasks.WordsError.{WordsError}
-use Rattle.words.specs.declared.tasks.WordsError.TheVariants.{Wrong, Memory}
+use Rattle.words.specs.declared.tasks.WordsError.TheVariants.{Wrong, NotUnicode, Memory}
 use Rattle.words.specs.FilterRequests.{FilterRequest}
 use Rattle.words.specs.FilterAsked.{AsksForText, filter_asked}
 use Rattle.commands.specs.declared.endings.Ending.{Ending}
@@ -118,5 +118,7 @@ FiltersWords contents words old new before after status =
 abbrev pub TellsUnread : WordsError → Option (List ℕ) → Option (List ℕ) → ℕ → Type 0
 TellsUnread (Wrong text) before after status =
     (status ≡ 1) × AppendsPart before after (string_bytes text ++ usage)
+TellsUnread NotUnicode before after status =
+    (status ≡ 1) × AppendsPart before after (codes "error: an argument is not UTF-8\n" ++ usage)
 TellsUnread Memory before after status =
     (status ≡ 5) × AppendsPart before after (codes "out of memory\n")

@@ -14,7 +14,7 @@ use messages::write_texts;
 use std::alloc::Global;
 use std::io::Write;
 use std::rt::{Clock, Files};
-use words::{FilterTask, FilterWordsError, WordsError, read_filter_words};
+use words::{FilterTask, FilterWordsError, NOT_UNICODE, WordsError, read_filter_words};
 
 const USAGE: &str = "usage: xdpvm_filter IMAGE FRAMES OUT\n";
 
@@ -80,6 +80,10 @@ fn say_unread<W: Write>(error: WordsError, err: &mut W) -> u8
     match error {
         WordsError::Wrong(text) => {
             let _ = write_texts(err, text.as_str(), USAGE, "");
+            1
+        }
+        WordsError::NotUnicode => {
+            let _ = write_texts(err, NOT_UNICODE, USAGE, "");
             1
         }
         WordsError::Memory => TaskOutcome::NoMemory.tell(err),

@@ -1,5 +1,6 @@
 -- What is noted of the packet frames whose runs end without an action.
-use Rattle.std.specs.Prelude.{◌≡◌, ℕ, ◌+◌, ◌-◌, ◌^◌, ◌==◌, nat_lt, min, Bool, true, false, if◌then◌else◌, List, [], ◌∷◌, ◌++◌, length}
+use Rattle.std.specs.Prelude.{◌≡◌, ℕ, ◌+◌, ◌==◌, nat_lt, Bool, true, false, if◌then◌else◌, List, [], ◌∷◌, ◌++◌, length, Option, Some, None, slice_set, get_or}
+use Rattle.std.specs.List.{position}
 use Rattle.isa_model.specs.declared.frames.Action.{Action}
 use Rattle.isa_model.specs.declared.frames.Action.TheVariants as action
 use Rattle.isa_model.specs.declared.frames.FrameHead.{FrameHead}
@@ -18,9 +19,10 @@ use Rattle.host.specs.declared.stops.FrameStop.{FrameStop}
 use Rattle.host.specs.declared.stops.Stops.{Stops}
 use Rattle.host.specs.declared.stops.TheConstants.{MOST_STOPS}
 use Rattle.host.specs.declared.traced.Traced.{Traced}
+use Rattle.host.specs.EndCounts.{one_more}
 use Rattle.host.specs.Tallies.{tally_of}
 
--- the first frames that were noted, and how many were
+-- the first frames that were noted at the first slots, and how many were in all
 pub record Noted : Type 0 where
   pub first : List FrameStop
   pub count : ℕ
@@ -42,18 +44,31 @@ is_noted (Exit answer steps) = is_invalid (action_of answer)
 is_noted (Trap reason steps) = true
 is_noted Limit = true
 
-abbrev pub with_first : List FrameStop → FrameStop → List FrameStop
-with_first first stopped =
+abbrev pub is_at : ℕ → FrameStop → Bool
+is_at slot f = f.stop.slot == slot
+
+-- one more frame stopped where this one did
+abbrev pub counting : FrameStop → FrameStop
+counting f = record { frame = f.frame; stop = f.stop; count = one_more f.count }
+
+-- a frame that stopped where the one with this index did is counted with that one; another one is
+-- kept after the others, while there is room
+abbrev pub placed : List FrameStop → FrameStop → Option ℕ → List FrameStop
+placed first stopped (Some index) = slice_set first index (counting (get_or first index stopped))
+placed first stopped None =
     if nat_lt (length first) MOST_STOPS then first ++ stopped ∷ [] else first
 
--- the run of the frame with this number stopped there; the count has room for every frame of a
--- stream
+-- keeps the first frame that stopped at each slot, while there is room
+abbrev pub with_first : List FrameStop → FrameStop → List FrameStop
+with_first first stopped = placed first stopped (position (is_at stopped.stop.slot) first)
+
+-- the run of the frame with this number stopped there
 abbrev pub note : Noted → ℕ → RunEnd → Noted
 note noted number stop =
     if is_noted stop.end
     then record {
-      first = with_first noted.first (record { frame = number; stop = stop });
-      count = min (noted.count + 1) (2 ^ 32 - 1);
+      first = with_first noted.first (record { frame = number; stop = stop; count = 1 });
+      count = one_more noted.count;
     }
     else noted
 

@@ -1,20 +1,23 @@
 //! The packet frames whose runs ended without an action.
 
-ghost use Rattle.std.specs.Prelude.{◌≡◌, [], ◌∷◌, ◌++◌};
-ghost use Rattle.host.specs.Stops.{nothing_noted, is_noted, with_first, note, noted_of};
+ghost use Rattle.std.specs.Prelude.{◌≡◌, ◌<◌, [], ◌∷◌, ◌++◌, length, slice_set, get_or};
+ghost use Rattle.std.specs.List.{position};
+ghost use Rattle.host.specs.Stops.{nothing_noted, is_noted, is_at, counting, with_first, note, noted_of};
 
 use arrayvec::ArrayVec;
 use checked_vm::RunEnd;
 use isa_model::{Action, End, Value};
 
-/// Says how many frames are kept at most: the first ones.
+/// Says of how many slots a frame is kept at most: the first ones.
 pub const MOST_STOPS: usize = 20;
 
-/// A frame by its number, and where its run stopped.
+/// The first frame by its number whose run stopped at a slot, and where it did.
 #[derive(Clone, Copy)]
 pub struct FrameStop {
     pub frame: u32,
     pub stop: RunEnd,
+    /// Says how many frames stopped at that slot.
+    pub count: u32,
 }
 
 impl Default for FrameStop {
@@ -27,6 +30,7 @@ impl Default for FrameStop {
                 insn: None,
                 registers: [Value::Unset; 11],
             },
+            count: 0,
         }
     }
 }
@@ -35,9 +39,9 @@ impl Default for FrameStop {
 /// action.
 #[derive(Drop)]
 pub struct Stops {
-    /// The first ones.
+    /// The first one of each slot.
     pub first: ArrayVec<FrameStop, 20>,
-    /// Says how many there are.
+    /// Says how many there are in all.
     pub count: u32,
 }
 
@@ -51,12 +55,34 @@ fn is_noted(end: End) -> bool
     }
 }
 
-// Keeps a frame after the others, while there is room.
+// The index of the frame that stopped at the slot.
+fn index_at(stops: &[FrameStop], slot: usize) -> Option<usize>
+    ensures { result ≡ position (is_at slot) stops.now }
+{
+    stops.iter().position(|found| found.stop.slot == slot)
+}
+
+// Counts one more frame with the one that has this index.
+fn count_at(stops: &mut [FrameStop], index: usize)
+    requires { index < length stops.old }
+    ensures { (other : FrameStop) → stops.new
+        ≡ slice_set stops.old index (counting (get_or stops.old index other)) }
+{
+    stops[index].count = stops[index].count.saturating_add(1);
+}
+
+// Counts a frame with the one that stopped at the same slot, or keeps it after the others, while
+// there is room.
 fn put_first(first: &mut ArrayVec<FrameStop, 20>, stopped: FrameStop)
     ensures { first.new.items ≡ with_first first.old.items stopped }
 {
-    if first.len() < MOST_STOPS {
-        first.push(stopped);
+    match index_at(first.as_slice(), stopped.stop.slot) {
+        Some(index) => count_at(first.as_mut_slice(), index),
+        None => {
+            if first.len() < MOST_STOPS {
+                first.push(stopped);
+            }
+        }
     }
 }
 
@@ -79,6 +105,7 @@ impl Stops {
             let stopped = FrameStop {
                 frame: number,
                 stop,
+                count: 1,
             };
             put_first(&mut self.first, stopped);
             self.count = self.count.saturating_add(1);

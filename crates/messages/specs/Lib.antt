@@ -1,3 +1,4 @@
+pub mod Entries
 pub mod Faults
 pub mod Forms
 pub mod Lines

@@ -29,6 +29,20 @@ sentence_of Explored = table_entries.sentence_of unwritten.Explored
 sentence_of (Text error) = assembler.sentence_of error.kind
 sentence_of (Maps error) = map_texts.sentence_of error.kind
 
+-- its code in docs/REFUSALS.md
+abbrev pub code_of : Rejection → List ℕ
+code_of (Image error form) = image.code_of error
+code_of (Program refusal slot insn) = walks.code_of refusal
+code_of (Table error position) = rechecking.code_of error
+code_of Explored = table_entries.code_of unwritten.Explored
+code_of (Text error) = assembler.code_of error.kind
+code_of (Maps error) = map_texts.code_of error.kind
+
+-- the last line, which says how to read the entry of its code
+abbrev pub code_line : Rejection → List ℕ
+code_line rejection =
+    codes "xdpvm explain " ++ (code_of rejection ++ codes " says more\n")
+
 -- ---- the position of what is refused, in a line
 
 -- a slot, and the instruction that begins there

@@ -3,6 +3,7 @@
 //! standard error; for a caller's buffer the same as one message.
 #![tactic(auto)]
 
+mod entries;
 mod faults;
 mod forms;
 mod lines;
@@ -11,6 +12,7 @@ mod table_texts;
 mod texts;
 mod whole_texts;
 
+pub use entries::entry_of;
 pub use faults::say_fault;
 pub use forms::{FileForm, file_form_of};
 pub use lines::{image_line, maps_line, table_line, text_line, verdict_line};

@@ -4,7 +4,7 @@ ghost use Rattle.std.specs.Prelude.{◌≡◌, ◌++◌, OnOk, OnErr, codes, dec
 ghost use Rattle.std.specs.Io.KnownBytes.{Appends};
 ghost use Rattle.isa_model.specs.Text.CanonicalText as canonical;
 ghost use Rattle.exact_io.specs.Transfers.{AppendsBeginning};
-ghost use Rattle.messages.specs.Messages.{sentence_of, form_line, hint_line, image_position, insn_position, text_position, position_of, entry_position, anew, entry_anew, step_position, table_position, maps_position, rejection_text};
+ghost use Rattle.messages.specs.Messages.{sentence_of, code_of, code_line, form_line, hint_line, image_position, insn_position, text_position, position_of, entry_position, anew, entry_anew, step_position, table_position, maps_position, rejection_text};
 
 use crate::forms::FileForm;
 use crate::texts::write_texts;
@@ -51,6 +51,30 @@ impl Rejection {
             Rejection::Text(error) => error.kind.sentence(),
             Rejection::Maps(error) => error.kind.sentence(),
         }
+    }
+
+    /// Its code in docs/REFUSALS.md, such as `V9`.
+    pub fn code(self) -> &'static str
+        ensures { result.now ≡ code_of self }
+    {
+        match self {
+            Rejection::Image(error, _) => error.code(),
+            Rejection::Program(refusal, _, _) => refusal.code(),
+            Rejection::Table(error, _) => error.code(),
+            Rejection::Explored => WriteTableError::Explored.code(),
+            Rejection::Text(error) => error.kind.code(),
+            Rejection::Maps(error) => error.kind.code(),
+        }
+    }
+
+    /// Writes the last line of a message: how to read the entry of the code.
+    pub fn say_code<W: Write>(self, err: &mut W) -> io::Result<()>
+        ensures ok { OnOk result
+            (Appends (W.contents err.old) (W.contents err.new) (code_line self)) }
+        ensures err { OnErr result
+            (AppendsBeginning (W.contents err.old) (W.contents err.new) (code_line self)) }
+    {
+        write_texts(err, "xdpvm explain ", self.code(), " says more\n")
     }
 
     // Writes the position of what is refused.

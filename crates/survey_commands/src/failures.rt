@@ -3,11 +3,12 @@
 ghost use Rattle.std.specs.Prelude.{◌≡◌, ◌≤◌};
 
 use exact_io::write_bytes;
+use messages::write_texts;
 use std::alloc::{AllocError, Global};
 use std::io;
 use std::io::{ErrorKind, Write};
 use survey_rows::shown;
-use words::WordsError;
+use words::{NOT_UNICODE, WordsError};
 
 const USAGE: &str = "usage: xdpvm_survey IMAGE|FOLDER .. | log IMAGE | dis IMAGE\n";
 
@@ -16,6 +17,8 @@ const USAGE: &str = "usage: xdpvm_survey IMAGE|FOLDER .. | log IMAGE | dis IMAGE
 pub enum SurveyError {
     /// No command was given in full. The text says what is wrong, or is the help.
     Words(String),
+    /// An argument is not UTF-8.
+    NotUnicode,
     /// A file or an output failed, as the text says.
     File(String),
     Memory,
@@ -71,6 +74,7 @@ impl SurveyError {
     pub fn of_words(error: WordsError) -> Self {
         match error {
             WordsError::Wrong(text) => SurveyError::Words(text),
+            WordsError::NotUnicode => SurveyError::NotUnicode,
             WordsError::Memory => SurveyError::Memory,
         }
     }
@@ -104,6 +108,10 @@ impl SurveyError {
                     text.as_str()
                 };
                 let _ = write_bytes(err, text.as_bytes());
+                1
+            }
+            SurveyError::NotUnicode => {
+                let _ = write_texts(err, NOT_UNICODE, USAGE, "");
                 1
             }
             SurveyError::File(line) => {

@@ -39,6 +39,13 @@ fn say<W: Write>(alloc: Global, text: &str, out: &mut W) -> Result<(), SurveyErr
     }
 }
 
+/// Says on standard error why bytes are not an image. After a failure nothing more is written.
+fn tell_malformed<W: Write>(bytes: &[u8], error: ImageError, err: &mut W) -> io::Result<()> {
+    let rejection = Rejection::Image(error, Some(file_form_of(bytes)));
+    rejection.say(err)?;
+    rejection.say_code(err)
+}
+
 /// Says that bytes are not an image, as `xdpvm verify` does, and returns the status.
 fn say_malformed<W1: Write, W2: Write>(
     alloc: Global,
@@ -51,7 +58,7 @@ fn say_malformed<W1: Write, W2: Write>(
 {
     let line = image_line(alloc, error)?;
     say(alloc, line.as_str(), out)?;
-    let _ = Rejection::Image(error, Some(file_form_of(bytes))).say(err);
+    let _ = tell_malformed(bytes, error, err);
     Ok(2)
 }
 
@@ -64,11 +71,12 @@ fn tell<W: Write>(
     slot: usize,
     err: &mut W,
 ) -> io::Result<()> {
-    Rejection::Program(refusal, slot, image.at(slot).copied()).say(err)?;
-    match reason(alloc, image, refusal, slot) {
-        Some(known) => write_bytes(err, known.as_bytes()),
-        None => Ok(()),
+    let rejection = Rejection::Program(refusal, slot, image.at(slot).copied());
+    rejection.say(err)?;
+    if let Some(known) = reason(alloc, image, refusal, slot) {
+        write_bytes(err, known.as_bytes())?;
     }
+    rejection.say_code(err)
 }
 
 fn write_look<W: Write>(

@@ -8,8 +8,8 @@ use Rattle.clap.specs.Kinds.{or_else}
 use Rattle.clap.specs.Faults.{built_fault, check_fault, defaults_fault, level_fault, settle_fault}
 use Rattle.clap.proofs.OnLiterals.{clap_on_literals}
 use Rattle.isa_model.specs.Code.Limits.{max_steps}
-use Rattle.words.specs.CommandLine.{program, asm, dis, verify, run, trace, prove, recheck}
-use Rattle.words.specs.Requests.{Assemble, Disassemble, Prove, Recheck, Run, Trace, Verify}
+use Rattle.words.specs.CommandLine.{program, asm, dis, verify, run, trace, prove, recheck, explain}
+use Rattle.words.specs.Requests.{Assemble, Disassemble, Explain, Prove, Recheck, Run, Trace, Verify}
 use Rattle.words.specs.Asked.{asked, limit_of, request_by, request_met, unless_wrong}
 use Rattle.words.proofs.WalkLaws.{ReadsTo, end_fault, fault-command, is_plain, level_fault-read, met-command, reads-none, reads-option, reads-plain, reads-value}
 
@@ -25,7 +25,7 @@ quiet-program : or_else
     (built program).top.rules)
     (check_fault (built program).top (finished (built program).top.rules nothing_held) true))
     ≡ []
-unfolding clap_on_literals program asm dis verify run trace prove recheck
+unfolding clap_on_literals program asm dis verify run trace prove recheck explain
 quiet-program = refl
 
 -- what a command asks for with the words after it
@@ -65,7 +65,7 @@ asked-read name command words s end met apart found reads quiet =
 -- `xdpvm verify IMAGE` asks for a verdict on the image
 pub asked-verify : (name image : List ℕ) → is_plain image ≡ true
     → asked (name ∷ codes "verify" ∷ image ∷ []) ≡ Some (Verify image)
-unfolding clap_on_literals program asm dis verify run trace prove recheck
+unfolding clap_on_literals program asm dis verify run trace prove recheck explain
 asked-verify name image h =
     asked-read name (codes "verify") (image ∷ []) (built_leaf verify.top) _ refl refl refl
     (reads-plain _ _ _ image _ _ _ h refl refl (reads-none _ _)) refl
@@ -73,15 +73,23 @@ asked-verify name image h =
 -- `xdpvm dis IMAGE` asks for the image's text
 pub asked-dis : (name image : List ℕ) → is_plain image ≡ true
     → asked (name ∷ codes "dis" ∷ image ∷ []) ≡ Some (Disassemble image)
-unfolding clap_on_literals program asm dis verify run trace prove recheck
+unfolding clap_on_literals program asm dis verify run trace prove recheck explain
 asked-dis name image h =
     asked-read name (codes "dis") (image ∷ []) (built_leaf dis.top) _ refl refl refl
     (reads-plain _ _ _ image _ _ _ h refl refl (reads-none _ _)) refl
 
+-- `xdpvm explain CODE` asks for what the code means
+pub asked-explain : (name code : List ℕ) → is_plain code ≡ true
+    → asked (name ∷ codes "explain" ∷ code ∷ []) ≡ Some (Explain code)
+unfolding clap_on_literals program asm dis verify run trace prove recheck explain
+asked-explain name code h =
+    asked-read name (codes "explain") (code ∷ []) (built_leaf explain.top) _ refl refl refl
+    (reads-plain _ _ _ code _ _ _ h refl refl (reads-none _ _)) refl
+
 -- `xdpvm asm TEXT IMAGE` asks for the text's image
 pub asked-asm : (name text image : List ℕ) → is_plain text ≡ true → is_plain image ≡ true
     → asked (name ∷ codes "asm" ∷ text ∷ image ∷ []) ≡ Some (Assemble text image)
-unfolding clap_on_literals program asm dis verify run trace prove recheck
+unfolding clap_on_literals program asm dis verify run trace prove recheck explain
 asked-asm name text image h i =
     asked-read name (codes "asm") (text ∷ image ∷ []) (built_leaf asm.top) _ refl refl refl
     (reads-plain _ _ _ text _ _ _ h refl refl
@@ -91,7 +99,7 @@ asked-asm name text image h i =
 pub asked-prove : (name image table : List ℕ) → is_plain image ≡ true → is_plain table ≡ true
     → asked (name ∷ codes "prove" ∷ image ∷ table ∷ [])
     ≡ Some (Prove (record { image = image; table = table }))
-unfolding clap_on_literals program asm dis verify run trace prove recheck
+unfolding clap_on_literals program asm dis verify run trace prove recheck explain
 asked-prove name image table h i =
     asked-read name (codes "prove") (image ∷ table ∷ []) (built_leaf prove.top) _ refl refl refl
     (reads-plain _ _ _ image _ _ _ h refl refl
@@ -101,7 +109,7 @@ asked-prove name image table h i =
 pub asked-recheck : (name image table : List ℕ) → is_plain image ≡ true → is_plain table ≡ true
     → asked (name ∷ codes "recheck" ∷ image ∷ table ∷ [])
     ≡ Some (Recheck (record { image = image; table = table }))
-unfolding clap_on_literals program asm dis verify run trace prove recheck
+unfolding clap_on_literals program asm dis verify run trace prove recheck explain
 asked-recheck name image table h i =
     asked-read name (codes "recheck") (image ∷ table ∷ []) (built_leaf recheck.top) _ refl refl refl
     (reads-plain _ _ _ image _ _ _ h refl refl
@@ -112,7 +120,7 @@ pub asked-run : (name image frames out : List ℕ) → is_plain image ≡ true �
     → is_plain out ≡ true
     → asked (name ∷ codes "run" ∷ image ∷ frames ∷ out ∷ [])
     ≡ Some (Run (record { image = image; frames = frames; out = out }) None)
-unfolding clap_on_literals program asm dis verify run trace prove recheck
+unfolding clap_on_literals program asm dis verify run trace prove recheck explain
 asked-run name image frames out h i j =
     asked-read name (codes "run") (image ∷ frames ∷ out ∷ []) (built_leaf run.top) _ refl refl refl
     (reads-plain _ _ _ image _ _ _ h refl refl
@@ -124,7 +132,7 @@ pub asked-trace : (name image frames out : List ℕ) → is_plain image ≡ true
     → is_plain out ≡ true
     → asked (name ∷ codes "trace" ∷ image ∷ frames ∷ out ∷ [])
     ≡ Some (Trace (record { image = image; frames = frames; out = out }) max_steps)
-unfolding clap_on_literals program asm dis verify run trace prove recheck
+unfolding clap_on_literals program asm dis verify run trace prove recheck explain
 asked-trace name image frames out h i j =
     asked-read name (codes "trace") (image ∷ frames ∷ out ∷ []) (built_leaf trace.top) _
     refl refl refl
@@ -140,7 +148,7 @@ pub asked-trace-limit : (name image frames out value : List ℕ) → is_plain im
     → is_plain frames ≡ true → is_plain out ≡ true → is_plain value ≡ true
     → asked (name ∷ codes "trace" ∷ image ∷ frames ∷ out ∷ codes "--limit" ∷ value ∷ [])
     ≡ option_map (Trace (record { image = image; frames = frames; out = out })) (limit_of value)
-unfolding clap_on_literals program asm dis verify run trace prove recheck
+unfolding clap_on_literals program asm dis verify run trace prove recheck explain
 asked-trace-limit name image frames out value h i j k =
     asked-read name (codes "trace") (image ∷ frames ∷ out ∷ codes "--limit" ∷ value ∷ [])
     (built_leaf trace.top) _ refl refl refl
@@ -156,7 +164,7 @@ pub asked-run-table : (name image frames out table : List ℕ) → is_plain imag
     → is_plain frames ≡ true → is_plain out ≡ true → is_plain table ≡ true
     → asked (name ∷ codes "run" ∷ image ∷ frames ∷ out ∷ codes "--table" ∷ table ∷ [])
     ≡ Some (Run (record { image = image; frames = frames; out = out }) (Some table))
-unfolding clap_on_literals program asm dis verify run trace prove recheck
+unfolding clap_on_literals program asm dis verify run trace prove recheck explain
 asked-run-table name image frames out table h i j k =
     asked-read name (codes "run") (image ∷ frames ∷ out ∷ codes "--table" ∷ table ∷ [])
     (built_leaf run.top) _ refl refl refl

@@ -11,18 +11,18 @@ use Rattle.clap.specs.declared.error.kind.ErrorKind.TheVariants as kind
 use Rattle.clap.specs.declared.parser.matches.ArgMatches.{ArgMatches}
 use Rattle.words.specs.declared.tasks.Task.{Task}
 use Rattle.words.specs.declared.tasks.WordsError.{WordsError}
-use Rattle.words.specs.declared.tasks.WordsError.TheVariants.{Wrong, Memory}
-use Rattle.words.specs.CommandLine.{program, asm, dis, verify, run, trace, prove, recheck}
+use Rattle.words.specs.declared.tasks.WordsError.TheVariants.{Wrong, NotUnicode, Memory}
+use Rattle.words.specs.CommandLine.{program, asm, dis, verify, run, trace, prove, recheck, explain}
 use Rattle.words.specs.Requests.{TaskRequest}
 use Rattle.words.specs.Asked.{AsksFor, TellsOf, asked, request_by, request_met, unless_wrong}
 
 -- for this command line clap's contracts say what a parse finds, and how it fails
 is_simple-program : is_simple program ≡ true
-unfolding program asm dis verify run trace prove recheck
+unfolding program asm dis verify run trace prove recheck explain
 is_simple-program = refl
 
 is_simple_and_free-program : is_simple_and_free program ≡ true
-unfolding program asm dis verify run trace prove recheck
+unfolding program asm dis verify run trace prove recheck explain
 is_simple_and_free-program = refl
 
 unless_wrong-among : (k : ErrorKind) (kinds : Kinds) (r : Option TaskRequest) → IsAmong k kinds
@@ -39,6 +39,13 @@ failed-reads a words e Memory is h memory = tt
 failed-reads a words e (Wrong text) is h memory =
     elim (h (ap is_simple_and_free is ∙ is_simple_and_free-program)) [
       | inl out ↦ let same : Wrong text ≡ Memory = memory out in cc
+      | inr among ↦
+          unless_wrong-among (kind_of e) (fault_of program words) _
+          (subst (λ (x : App). IsAmong (kind_of e) (fault_of x words)) is among)
+    ]
+failed-reads a words e NotUnicode is h memory =
+    elim (h (ap is_simple_and_free is ∙ is_simple_and_free-program)) [
+      | inl out ↦ let same : NotUnicode ≡ Memory = memory out in cc
       | inr among ↦
           unless_wrong-among (kind_of e) (fault_of program words) _
           (subst (λ (x : App). IsAmong (kind_of e) (fault_of x words)) is among)

@@ -10,8 +10,8 @@ use Rattle.clap.specs.Simple.{subcommand_of}
 use Rattle.clap.specs.Faults.{fault_of}
 use Rattle.words.specs.declared.tasks.Task.{Task}
 use Rattle.words.specs.declared.tasks.WordsError.{WordsError}
-use Rattle.words.specs.declared.tasks.WordsError.TheVariants.{Wrong, Memory}
-use Rattle.words.specs.Requests.{TaskRequest, RunFiles, TableFiles, Trace, Run, Verify, Prove, Recheck, Assemble, Disassemble, request_of}
+use Rattle.words.specs.declared.tasks.WordsError.TheVariants.{Wrong, NotUnicode, Memory}
+use Rattle.words.specs.Requests.{TaskRequest, RunFiles, TableFiles, Trace, Run, Verify, Prove, Recheck, Assemble, Disassemble, Explain, request_of}
 use Rattle.isa_model.specs.Code.Limits.{max_steps}
 use Rattle.words.specs.CommandLine.{program}
 
@@ -71,6 +71,7 @@ request_by name rows =
     else if bytes_eq name (codes "dis") then option_map Disassemble (first_of (codes "image") rows)
     else if bytes_eq name (codes "prove") then option_map Prove (table_files_in rows)
     else if bytes_eq name (codes "recheck") then option_map Recheck (table_files_in rows)
+    else if bytes_eq name (codes "explain") then option_map Explain (first_of (codes "code") rows)
     else None
 
 -- ---- what the arguments ask for
@@ -93,12 +94,14 @@ asked words = unless_wrong (fault_of program words) (request_met (subcommand_of 
 -- the error says that the arguments are wrong
 abbrev pub IsWrong : WordsError → Type 0
 IsWrong (Wrong text) = Unit {0}
+IsWrong NotUnicode = Unit {0}
 IsWrong Memory = ⊥
 
 -- the result is the task of this request, or says that there is none; or memory ran out
 abbrev pub TellsOf : Option TaskRequest → Result Task WordsError → Type 0
 TellsOf request (Ok task) = request ≡ Some (request_of task)
 TellsOf request (Err (Wrong text)) = request ≡ None
+TellsOf request (Err NotUnicode) = request ≡ None
 TellsOf request (Err Memory) = Unit {0}
 
 -- the result of reading arguments: what they ask for, or that it is nothing; or memory ran out

@@ -46,6 +46,9 @@ prove = command (codes "prove") (codes "image" ∷ codes "table" ∷ [])
 unfoldable pub recheck : App
 recheck = command (codes "recheck") (codes "image" ∷ codes "table" ∷ [])
 
+unfoldable pub explain : App
+explain = command (codes "explain") (codes "code" ∷ [])
+
 -- the command line with one more command
 abbrev pub with_command : App → App → App
 with_command program command = with_subcommand program command.top
@@ -59,4 +62,6 @@ abbrev pub empty_program : App
 empty_program = on_top (λ s. record s { subcommand_required = true }) versioned_program
 
 unfoldable pub program : App
-program = fold with_command empty_program (asm ∷ dis ∷ verify ∷ run ∷ trace ∷ prove ∷ recheck ∷ [])
+program =
+    fold with_command empty_program
+    (asm ∷ dis ∷ verify ∷ run ∷ trace ∷ prove ∷ recheck ∷ explain ∷ [])

@@ -27,6 +27,8 @@ pub data TaskRequest : Type 0 where
   -- the text, and the image that is made of it
   Assemble : List ℕ → List ℕ → TaskRequest
   Disassemble : List ℕ → TaskRequest
+  -- what a code of a refusal means
+  Explain : List ℕ → TaskRequest
 
 -- ---- the request of a task
 
@@ -44,3 +46,4 @@ request_of (task.Prove paths) = Prove (table_files_of paths)
 request_of (task.Recheck paths) = Recheck (table_files_of paths)
 request_of (task.Assemble paths) = Assemble paths.text.now paths.image.now
 request_of (task.Disassemble path) = Disassemble path.now
+request_of (task.Explain code) = Explain code.now

@@ -109,6 +109,7 @@ fn task_of<'a>(name: &str, matches: &ArgMatches<'a>) -> Option<Task<'a>>
         "dis" => Some(Task::Disassemble(value_in(matches, "image")?)),
         "prove" => Some(Task::Prove(table_paths_in(matches)?)),
         "recheck" => Some(Task::Recheck(table_paths_in(matches)?)),
+        "explain" => Some(Task::Explain(value_in(matches, "code")?)),
         _ => None,
     }
 }

@@ -51,6 +51,11 @@ const PROVED: Argument = Argument {
     help: "The proof table that is made; a file that is there is replaced",
 };
 
+const CODE: Argument = Argument {
+    name: "code",
+    help: "The code of a refusal, a fault or another answer, such as V9",
+};
+
 const TABLE: Argument = Argument {
     name: "table",
     help: "The proof table, as `prove` makes it",
@@ -92,6 +97,8 @@ const TRACE_ABOUT: &str = "Runs a program with every access tested, verified or 
 const PROVE_ABOUT: &str = "Verifies a program and writes a proof table, which others can test";
 
 const RECHECK_ABOUT: &str = "Tests a proof table and prints the most steps that a run takes";
+
+const EXPLAIN_ABOUT: &str = "Prints what a code means, with an example, and what to do";
 
 const PROGRAM_ABOUT: &str = "Verifies BPF programs of type XDP and runs them on streams of frames";
 
@@ -211,5 +218,6 @@ pub fn program<'a>(alloc: Global) -> Result<Command<'a>, AllocError>
     let with_run = with_running(alloc, with_verify, "run", RUN_ABOUT, INSTEAD);
     let with_trace = with_running(alloc, with_run, "trace", TRACE_ABOUT, LIMIT);
     let with_prove = with_command(alloc, with_trace, "prove", PROVE_ABOUT, &[IMAGE, PROVED]);
-    with_command(alloc, with_prove, "recheck", RECHECK_ABOUT, &[IMAGE, TABLE])
+    let with_recheck = with_command(alloc, with_prove, "recheck", RECHECK_ABOUT, &[IMAGE, TABLE]);
+    with_command(alloc, with_recheck, "explain", EXPLAIN_ABOUT, &[CODE])
 }

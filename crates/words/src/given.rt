@@ -5,19 +5,18 @@ ghost use Rattle.std.specs.IoError.{error_kind};
 ghost use Rattle.words.specs.Asked.{IsWrong};
 
 use super::tasks::WordsError;
-use std::alloc::Global;
 use std::env::Env;
 use std::io;
 use std::io::ErrorKind;
 
 // Why the arguments could not be read.
-fn failure_of(alloc: Global, error: &io::Error) -> WordsError
+fn failure_of(error: &io::Error) -> WordsError
     ensures memory { error_kind error.now ≡ ErrorKind.OutOfMemory → result ≡ WordsError.Memory }
     ensures wrong { error_kind error.now ≢ ErrorKind.OutOfMemory → IsWrong result }
 {
     match error.kind() {
         ErrorKind::OutOfMemory => WordsError::Memory,
-        _ => WordsError::Wrong(String::new(alloc)),
+        _ => WordsError::NotUnicode,
     }
 }
 
@@ -25,6 +24,6 @@ fn failure_of(alloc: Global, error: &io::Error) -> WordsError
 pub fn given_words<R: Env + AllocGlobal>(rt: &R) -> Result<Vec<String>, WordsError> {
     match std::env::args(rt) {
         Ok(words) => Ok(words.collect(rt.alloc())?),
-        Err(error) => Err(failure_of(rt.alloc(), &error)),
+        Err(error) => Err(failure_of(&error)),
     }
 }

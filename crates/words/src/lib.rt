@@ -13,4 +13,4 @@ pub use asked::read_words;
 pub use filter_asked::read_filter_words;
 pub use filter_tasks::{FilterTask, FilterWordsError, Judging};
 pub use given::given_words;
-pub use tasks::{AssemblyPaths, RunPaths, StepLimit, TablePaths, Task, WordsError};
+pub use tasks::{AssemblyPaths, NOT_UNICODE, RunPaths, StepLimit, TablePaths, Task, WordsError};

@@ -22,6 +22,8 @@ pub enum Task<'a> {
     Assemble(AssemblyPaths<'a>),
     /// Write the text of the image that a file has.
     Disassemble(&'a str),
+    /// Print what a code means, such as `V9`.
+    Explain(&'a str),
 }
 
 /// The limit of steps of a run: from 1 to 1,000,000.
@@ -55,12 +57,17 @@ pub struct TablePaths<'a> {
     pub table: &'a str,
 }
 
+/// The message for arguments that are not UTF-8.
+pub const NOT_UNICODE: &str = "error: an argument is not UTF-8\n";
+
 /// Says why the arguments ask for nothing.
 #[derive(Drop)]
 pub enum WordsError {
-    /// The arguments are invalid, or not UTF-8, or they ask for help or the version. With the
-    /// message, the help or the version, in whole lines, which may be empty.
+    /// The arguments are invalid, or they ask for help or the version. With the message, the help
+    /// or the version, in whole lines, which may be empty.
     Wrong(String),
+    /// An argument is not UTF-8.
+    NotUnicode,
     Memory,
 }
 

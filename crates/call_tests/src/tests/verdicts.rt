@@ -92,11 +92,11 @@ const IMAGES: &[Judging] = &[
         &UNGUARDED,
         1_000_000,
         (
-            (2, 0, 1, 240, 9),
+            (2, 0, 1, 266, 9),
             "refused V9 slot 1\nthe packet bytes are not proved to be there\n\
              slot 1: r0 = *(u8 *)(r2 + 13)\nr2: packet pointer at 0, 0 bytes proved\n\
-             needs bytes 13 to 13; 0 are proved: \
-             compare a pointer after them with the packet end, or correct the offset\n",
+             needs bytes 13 to 13; 0 are proved: test before this, and after the last move of \
+             r2: r5 = r2; r5 += 14; if r5 > packet end goto short\n",
         ),
     ),
     (

@@ -1,10 +1,12 @@
-use Rattle.std.proofs.Common.{◌∙◌, ◌≤◌, None, subst, sym}
+use Rattle.std.proofs.Common.{◌≡◌, ◌∙◌, ◌≤◌, None, subst, sym, arith}
 use Rattle.words.specs.Requests.{request_of}
 use Rattle.commands.specs.declared.endings.Ending.{Ending}
+use Rattle.commands.specs.Saying.{AppendsPart}
+use Rattle.commands.specs.Statuses.{status_of}
 use Rattle.commands.proofs.StatusesLaws.{silent_words, silent_memory, unasked_status}
 use Rattle.commands.proofs.FilesSilence.{whole_handed_on}
 use Rattle.commands.proofs.Knowing.{whole_knows}
-use Rattle.commands.proofs.ExecutingLaws.{done_by, done_plain, faulted_by, refused_by}
+use Rattle.commands.proofs.ExecutingLaws.{done_by, done_plain, faulted_by, refused_by, words_plain}
 use Rattle.commands.proofs.Silence.{whole_silent}
 use Rattle.commands.proofs.Served.{asked-served, unasked}
 use Rattle.commands.proofs.executing.execute.Goals as goal
@@ -70,8 +72,14 @@ returns-in-Err-clause-executes g c =
       c.tell-in-Err.ensures.status,
       unasked _ _ c.in-Err.error _ _ c.in-Err.ensures
           c.of_words.ensures,
-      c.tell-in-Err.ensures.said,
+      subst (AppendsPart _ _) (sym (words_plain c.in-Err.error _ _ c.of_words.ensures))
+          c.tell-in-Err.ensures.said,
     )
+
+pub returns-in-Err-clause-refused : goal.returns-in-Err-clause-refused
+returns-in-Err-clause-refused g c e =
+    let two : status_of c.of_words.result ≡ 2 = sym c.tell-in-Err.ensures.status ∙ e in
+    absurd (unasked_status _ _ c.of_words.ensures (omega arith) (λ one. omega arith))
 
 pub returns-in-Err-clause-done : goal.returns-in-Err-clause-done
 returns-in-Err-clause-done g c e =

@@ -10,3 +10,11 @@ returns-in-Wrong g c =
       said-wrong _ _ _ _ _ usage c.as_str.ensures.value c.write_texts.ensures.ok
           c.write_texts.ensures.err,
     )
+
+pub returns-in-NotUnicode : goal.returns-in-NotUnicode
+returns-in-NotUnicode g c =
+    rw c.in-NotUnicode.is (
+      refl,
+      said-wrong _ _ _ _ _ usage refl c.write_texts-in-NotUnicode.ensures.ok
+          c.write_texts-in-NotUnicode.ensures.err,
+    )

@@ -1,20 +1,23 @@
-use Rattle.std.proofs.Common.{refl, string_bytes}
-use Rattle.commands.specs.Statuses.{message_of}
-use Rattle.messages.proofs.Written.{ok_text, err_text, ok_behind, err_behind}
+use Rattle.std.proofs.Common.{ap}
+use Rattle.commands.specs.declared.outcomes.TaskOutcome.{TaskOutcome}
+use Rattle.commands.specs.declared.outcomes.TaskOutcome.TheVariants.{Refused}
+use Rattle.commands.specs.Known.{outcome_text}
+use Rattle.messages.specs.Messages.{code_line}
+use Rattle.messages.proofs.Written.{ok_behind, err_behind}
 use Rattle.commands.proofs.endings.Ending.say.Goals as goal
 
-pub returns-in-Some-clause-err : goal.returns-in-Some-clause-err
-returns-in-Some-clause-err g c =
-    rw c.in-Some.is
-    (err_behind _ _ _ _ (message_of c.args.self.now.outcome)
-    (string_bytes c.in-Some.why) _ refl c.in_ok-say.ensures.ok
-    (err_text _ _ _ _
-    (string_bytes c.in-Some.why) c.as_bytes.ensures.value c.write_bytes.ensures.err))
+pub returns-in-Refused-clause-err : goal.returns-in-Refused-clause-err
+returns-in-Refused-clause-err g c =
+    rw c.in-Refused.is
+    (err_behind _ _ _ _ (outcome_text (Refused c.in-Refused.rejection) c.args.self.now.why)
+    (code_line c.in-Refused.rejection) _
+    (ap (λ (o : TaskOutcome). outcome_text o c.args.self.now.why) c.in-Refused.is)
+    c.in_ok-say_known.ensures.ok c.say_code.ensures.err)
 
-pub returns-in-Some-clause-ok : goal.returns-in-Some-clause-ok
-returns-in-Some-clause-ok g c =
-    rw c.in-Some.is
-    (ok_behind _ _ _ _ (message_of c.args.self.now.outcome)
-    (string_bytes c.in-Some.why) _ refl c.in_ok-say.ensures.ok
-    (ok_text _ _ _ _
-    (string_bytes c.in-Some.why) c.as_bytes.ensures.value c.write_bytes.ensures.ok))
+pub returns-in-Refused-clause-ok : goal.returns-in-Refused-clause-ok
+returns-in-Refused-clause-ok g c =
+    rw c.in-Refused.is
+    (ok_behind _ _ _ _ (outcome_text (Refused c.in-Refused.rejection) c.args.self.now.why)
+    (code_line c.in-Refused.rejection) _
+    (ap (λ (o : TaskOutcome). outcome_text o c.args.self.now.why) c.in-Refused.is)
+    c.in_ok-say_known.ensures.ok c.say_code.ensures.ok)
