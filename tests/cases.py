@@ -187,8 +187,8 @@ def text_of(answer: list[Line], word: str) -> bytes:
 
 
 def last_of(answer: list[Line]) -> bytes:
-    """The last line of standard error after a refusal, which names the code that standard output says."""
-    codes = [line.rest.split()[1] for line in answer if line.word == "1>" and line.rest.startswith("refused ")]
+    """The last line of standard error after a refusal, which names the code that an output says."""
+    codes = [line.rest.split()[1] for line in answer if line.word in ("1>", "2>") and line.rest.startswith("refused ")]
     return "".join(f"xdpvm explain {code} says more\n" for code in codes).encode()
 
 
@@ -263,7 +263,8 @@ class Trial:
     def compare_calls(self, calls: list[Line], answer: list[Line]) -> None:
         """Compares what each of some commands does with the one answer that stands below them."""
         status = next((int(line.rest) for line in answer if line.word == "status"), 0)
-        out, err = text_of(answer, "1>")[: self.room], text_of(answer, "2>") + last_of(answer)
+        out, err = text_of(answer, "1>")[: self.room], text_of(answer, "2>")
+        err += last_of(answer) if status == REFUSED else b""
         for line in calls:
             if line.word == "sh":
                 self.compare(line, out, self.printed(line.rest))

@@ -39,7 +39,7 @@ computes_with_end a i = false
 -- what helps instead of an operation that is not defined for a pointer
 abbrev pub operand_by : Kind → List ℕ
 operand_by kind.Context =
-    codes "the context does not move: load with an offset: r2 = *(u32 *)(r1 + 12)\n"
+    codes "the context takes no arithmetic: load with an offset: r2 = *(u32 *)(r1 + 12)\n"
 operand_by k = codes "stack, packet and value pointers move by += and -= of a number, at 64 bits\n"
 
 abbrev pub operand_at : State → Insn → List ℕ

@@ -67,7 +67,8 @@ fn operand_by(kind: Kind) -> &'static str
     ensures { result.now ≡ operand_by kind }
 {
     match kind {
-        Kind::Context => "the context does not move: load with an offset: r2 = *(u32 *)(r1 + 12)\n",
+        Kind::Context =>
+            "the context takes no arithmetic: load with an offset: r2 = *(u32 *)(r1 + 12)\n",
         _ => "stack, packet and value pointers move by += and -= of a number, at 64 bits\n",
     }
 }

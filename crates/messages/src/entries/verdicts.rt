@@ -53,8 +53,8 @@ pub fn entry(code: &str) -> Option<&'static str>
              # the operation is not defined for a pointer\n    \
              # slot 0: r1 += 12\n    \
              # r1: context\n    \
-             # the context does not move: load with an offset: r2 = *(u32 *)(r1 + \
-             12)\n    \
+             # the context takes no arithmetic: load with an offset: r2 = *(u32 \
+             *)(r1 + 12)\n    \
              r1 += 12\n    \
              r0 = 2\n    \
              exit\n",
