@@ -31,7 +31,8 @@ pub fn entry(code: &str) -> Option<&'static str>
              $ xdpvm recheck examples/pass.image longer.table 2>&1\n    \
              refused P3\n    \
              the table is longer than its entries\n    \
-             make the table anew: xdpvm prove IMAGE TABLE\n",
+             make the table anew: xdpvm prove IMAGE TABLE\n    \
+             xdpvm explain P3 says more\n",
         "P4" => "P4, the count of entries is 0 or over 1,000,000.\n\
              \n    \
              # refused P4\n    \
