@@ -146,8 +146,11 @@ def main() -> int:
         return 0
     program = common.program()
     common.need(program)
-    wrong = [f"{path.relative_to(common.TOP)} is not what docs/REFUSALS.md says: python3 checks/entries.py --write"
-             for path, text in modules().items() if not path.is_file() or path.read_text(encoding="utf-8") != text]
+    wrong = [
+        f"{path.relative_to(common.TOP)} is not what docs/REFUSALS.md says: python3 checks/entries.py --write"
+        for path, text in modules().items()
+        if not path.is_file() or path.read_text(encoding="utf-8") != text
+    ]
     for code, text in entries().items():
         said = subprocess.run([program, "explain", code], capture_output=True, text=True, check=False)
         if (said.returncode, said.stdout, said.stderr) != (0, text, ""):

@@ -150,10 +150,6 @@ verifies-none : asked (codes "xdpvm" ∷ codes "verify" ∷ []) ≡ None
 unfolding clap_on_literals asked program asm dis verify run trace prove recheck explain
 verifies-none = refl
 
-verifies-two : asked (codes "xdpvm" ∷ codes "verify" ∷ codes "a" ∷ codes "b" ∷ []) ≡ None
-unfolding clap_on_literals asked program asm dis verify run trace prove recheck explain
-verifies-two = refl
-
 verifies-unknown : asked (codes "xdpvm" ∷ codes "verify" ∷ codes "-a" ∷ []) ≡ None
 unfolding clap_on_literals asked program asm dis verify run trace prove recheck explain
 verifies-unknown = refl
