@@ -3,7 +3,7 @@ _xdpvm() {
     local word=${COMP_WORDS[COMP_CWORD]} command=${COMP_WORDS[1]}
     COMPREPLY=()
     if ((COMP_CWORD == 1)); then
-        mapfile -t COMPREPLY < <(compgen -W "asm dis verify run trace prove recheck --help --version" -- "$word")
+        mapfile -t COMPREPLY < <(compgen -W "asm dis verify run trace prove recheck explain --help --version" -- "$word")
         return
     fi
     if [[ $word == -* ]]; then
@@ -15,6 +15,7 @@ _xdpvm() {
         trace) mapfile -t COMPREPLY < <(compgen -W "--limit --help" -- "$word") ;;
         prove) mapfile -t COMPREPLY < <(compgen -W "--help" -- "$word") ;;
         recheck) mapfile -t COMPREPLY < <(compgen -W "--help" -- "$word") ;;
+        explain) mapfile -t COMPREPLY < <(compgen -W "--help" -- "$word") ;;
         esac
         return
     fi

@@ -8,3 +8,4 @@ complete -c xdpvm -n __fish_use_subcommand -f -a trace -d 'Runs a program with e
 complete -c xdpvm -n '__fish_seen_subcommand_from trace' -l limit -r -d 'The most steps on one frame, from 1 to 1000000 [default: 1000000]'
 complete -c xdpvm -n __fish_use_subcommand -f -a prove -d 'Verifies a program and writes a proof table, which others can test'
 complete -c xdpvm -n __fish_use_subcommand -f -a recheck -d 'Tests a proof table and prints the most steps that a run takes'
+complete -c xdpvm -n __fish_use_subcommand -f -a explain -d 'Prints what a code means, with an example, and what to do'
