@@ -141,12 +141,12 @@ def message(answer: Answer) -> bytes:
 
 def lacks_reason(found: Answer, good: Answer) -> bool:
     """What is known at the refusal of a text, of control flow, of a program or of an entry of a
-    table is left out, and standard error has the sentence, the position, and for P7 the sentence of
-    its V code."""
+    table is left out, and standard error has the sentence, the position, for P7 the sentence of its
+    V code, and the last line, which names the code."""
     same, lines = found.has_outputs_of(good), good.err.splitlines(keepends=True)
     kept = lines[:2] + (lines[3:4] if good.out.startswith(b"refused P7") else [])
     known = tuple(b"refused " + code for code in (b"A", b"G", b"V", b"P7", b"P8"))
-    return same and good.out.startswith(known) and found.err == b"".join(kept)
+    return same and good.out.startswith(known) and found.err == b"".join(kept + lines[-1:])
 
 
 def lacks_stops(words: list[str], found: Answer, good: Answer) -> bool:

@@ -57,10 +57,10 @@ def without_times(out: bytes) -> bytes:
 
 
 def is_shorter(answer: Answer, whole: Answer) -> bool:
-    """Whether lines were left out at the end of what is known of a refusal."""
-    return (
-        (answer.status, answer.out) == (whole.status, whole.out) and b"refused" in answer.out and whole.err.startswith(answer.err)
-    )
+    """Whether lines were left out at the end of what is known of a refusal, before the line that names its code."""
+    found, all_lines = answer.err.splitlines(keepends=True), whole.err.splitlines(keepends=True)
+    same = (answer.status, answer.out, found[-1:]) == (whole.status, whole.out, all_lines[-1:])
+    return same and b"refused" in answer.out and found[:-1] == all_lines[: len(found) - 1]
 
 
 def is_right(kind: str, answer: Answer, whole: Answer) -> bool:
