@@ -14,7 +14,6 @@ import struct
 import subprocess
 import sys
 import tempfile
-from typing import List
 
 sys.path.insert(0, os.path.join(os.path.dirname(os.path.abspath(__file__)), "../checks"))
 import common
@@ -66,8 +65,8 @@ def measured(given: argparse.Namespace, expression: str, folder: str) -> None:
     image, report = f"{folder}/image", f"{folder}/report"
     write(f"{folder}/text", of_expression(expression, Options()))
     subprocess.run([given.program, "asm", f"{folder}/text", image], stdout=subprocess.DEVNULL, check=True)
-    theirs: List[float] = []
-    ours: List[float] = []
+    theirs: list[float] = []
+    ours: list[float] = []
     for _ in range(given.turns):
         theirs.append(taken(report, "tcpdump", "-r", f"{folder}/pcap", "-w", "/dev/null", "--", expression))
         ours.append(taken(report, given.program, "run", image, f"{folder}/frames", "/dev/null"))
