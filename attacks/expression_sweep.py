@@ -26,7 +26,7 @@ import tempfile
 from typing import Counter, NamedTuple
 
 sys.path.insert(0, os.path.join(os.path.dirname(os.path.abspath(__file__)), "../checks"))
-from common import TOP, bytes_of, command_line, write
+from common import built, bytes_of, command_line, runnable, write
 
 sys.dont_write_bytecode = True
 import expression_corpus
@@ -34,7 +34,6 @@ import expression_frames
 from classic import DIV, LSH, MOD, NEG, RSH, Failed, classic_program, compiled
 from expressions import OPERATORS, Options, translated
 
-PROGRAM = f"{TOP}/crates/xdpvm/out/xdpvm"
 SECONDS = 60
 NO_END = "tcpdump does not end"
 DIRECTION = ("inbound", "outbound")
@@ -222,7 +221,7 @@ def randoms(given: argparse.Namespace) -> int:
 
 def main() -> int:
     words = command_line()
-    words.add_argument("--program", default=PROGRAM)
+    words.add_argument("--program", type=runnable, default=built())
     for name, number in (("seed", 1), ("count", 700), ("frames", 3000), ("kinds", 60), ("random", 0)):
         words.add_argument(f"--{name}", type=int, default=number)
     words.add_argument("--unoptimized", action="store_true")

@@ -31,7 +31,7 @@ import time
 from typing import NamedTuple
 
 sys.path.insert(0, os.path.join(os.path.dirname(os.path.abspath(__file__)), "../checks"))
-from common import TOP, bytes_of, command_line, write
+from common import TOP, built, bytes_of, command_line, runnable, write
 
 sys.dont_write_bytecode = True
 import libbpf
@@ -339,13 +339,11 @@ def run_all(given: argparse.Namespace) -> int:
 def main() -> int:
     words = command_line()
     words.add_argument("images", nargs="*")
-    words.add_argument("--program", default=f"{TOP}/crates/xdpvm/out/xdpvm")
+    words.add_argument("--program", type=runnable, default=built())
     words.add_argument("--all", action="store_true")
     words.add_argument(loading.INSIDE, action="store_true", help=argparse.SUPPRESS)
     given = words.parse_args()
-    given.images, given.program = [os.path.abspath(it) for it in given.images], os.path.abspath(given.program)
-    if not os.access(given.program, os.X_OK):
-        sys.exit(f"there is no program {given.program}: give one by --program, or build it as README.md says")
+    given.images = [os.path.abspath(it) for it in given.images]
     return run_all(given) if given.inside else loading.inside(os.path.abspath(__file__), *sys.argv[1:])
 
 

@@ -25,7 +25,7 @@ from collections.abc import Callable, Iterator
 from typing import Counter
 
 sys.path.insert(0, os.path.join(os.path.dirname(os.path.abspath(__file__)), "../checks"))
-from common import TOP, bytes_of, command_line
+from common import TOP, built, bytes_of, command_line, runnable
 
 sys.dont_write_bytecode = True
 import image
@@ -153,7 +153,7 @@ def most_of(given: argparse.Namespace) -> int:
 def main() -> int:
     words = command_line()
     words.add_argument("set", choices=["stored", "random", "attacks"])
-    words.add_argument("--program", default=f"{TOP}/crates/xdpvm/out/xdpvm")
+    words.add_argument("--program", type=runnable, default=built())
     words.add_argument("--count", type=int, default=100)
     words.add_argument("--seed", type=int, default=1)
     words.add_argument("--every", type=int, default=1)

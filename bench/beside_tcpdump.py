@@ -11,6 +11,7 @@ their ratio. It needs tcpdump. """
 import argparse
 import os
 import struct
+import shutil
 import subprocess
 import sys
 import tempfile
@@ -77,10 +78,11 @@ def measured(given: argparse.Namespace, expression: str, folder: str) -> None:
 def main() -> None:
     words = common.command_line()
     words.add_argument("expressions", nargs="*", default=EXPRESSIONS)
-    words.add_argument("--program", default=common.built())
+    words.add_argument("--program", type=common.runnable, default=common.built())
     words.add_argument("--frames", type=int, default=1_000_000)
     words.add_argument("--turns", type=int, default=5)
     given = words.parse_args()
+    common.need(shutil.which("tcpdump") or "tcpdump")
     with tempfile.TemporaryDirectory() as folder:
         written(folder, given.frames)
         for expression in given.expressions:

@@ -3,7 +3,6 @@ from dataclasses import dataclass
 from pathlib import Path
 
 TOP = Path(__file__).resolve().parent.parent
-PROGRAM = "crates/xdpvm/out/xdpvm"
 
 
 @dataclass(frozen=True)
