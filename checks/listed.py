@@ -28,6 +28,7 @@ CHECKS = (
         "runs; what is said of wrong inputs",
         15,
     ),
+    Check("cases_runner", "python3 checks/test_cases.py", "that the runner of cases finds each difference", 1),
     Check("edits_fit", "python3 checks/run.py --fit", "whether the text that each edit replaces is still there", 2),
     Check(
         "near",
