@@ -15,7 +15,7 @@ import os
 import random
 import sys
 import tempfile
-from typing import Callable, Iterator
+from collections.abc import Callable, Iterator
 
 sys.path.insert(0, os.path.join(os.path.dirname(os.path.abspath(__file__)), "../checks"))
 from common import TOP, bytes_of, command_line

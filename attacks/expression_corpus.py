@@ -7,7 +7,7 @@ usage: python3 attacks/expression_corpus.py [SEED [COUNT]]
 import os
 import random
 import sys
-from typing import List, TypeVar
+from typing import TypeVar
 
 sys.path.insert(0, os.path.join(os.path.dirname(os.path.abspath(__file__)), "../checks"))
 from common import command_line
@@ -155,12 +155,12 @@ class Composer:
         return f"{before}({said})" if before else said
 
 
-def of_man_page() -> List[str]:
+def of_man_page() -> list[str]:
     with open(MAN, encoding="utf-8") as file:
         return file.read().splitlines()
 
 
-def expressions(seed: int = 1, count: int = 700) -> List[str]:
+def expressions(seed: int = 1, count: int = 700) -> list[str]:
     """Those of the file, and so many composed ones."""
     found = dict.fromkeys(of_man_page())
     composer, most = Composer(seed), len(found) + count

@@ -2,7 +2,6 @@
 import random
 import socket
 import struct
-from typing import List, Tuple
 
 from expression_corpus import ADDRESSES, ADDRESSES6, MACS, PORTS
 
@@ -71,7 +70,7 @@ class Maker:
     def sctp(self) -> bytes:
         return struct.pack(">HHII", self.port(), self.port(), 1, 0) + struct.pack(">BBHI", 1, 0, 20, 0) + self.some()
 
-    def above(self, depth: int) -> Tuple[int, bytes]:
+    def above(self, depth: int) -> tuple[int, bytes]:
         """What follows an Ethernet head: its type, and the bytes."""
         r = self.random
         kind = r.randrange(15)
@@ -108,7 +107,7 @@ class Maker:
             return 41, self.ip6(depth + 1)
         return self.chain(6 if r.random() < 0.5 else 17)
 
-    def chain(self, last: int) -> Tuple[int, bytes]:
+    def chain(self, last: int) -> tuple[int, bytes]:
         """An authentication header, as protochain follows it."""
         body = self.tcp() if last == 6 else self.udp()
         return 51, bytes([last, 4]) + bytes(22) + body
@@ -284,7 +283,7 @@ class Maker:
         return frame[:4096]
 
 
-def frames(seed: int = 1, count: int = 3000, kinds: int = 60) -> List[bytes]:
+def frames(seed: int = 1, count: int = 3000, kinds: int = 60) -> list[bytes]:
     """Frames of so many kinds, each cut at every length up to 150 bytes; three long ones; and so many of any kind."""
     maker, found = Maker(seed), []
     for _ in range(kinds):
@@ -295,7 +294,7 @@ def frames(seed: int = 1, count: int = 3000, kinds: int = 60) -> List[bytes]:
     return found
 
 
-def pcap_of(found: List[bytes], wire: int = 0) -> bytes:
+def pcap_of(found: list[bytes], wire: int = 0) -> bytes:
     """A capture; frame n has the time n seconds, so that it is known again. `wire` is the least length on the wire."""
     parts = [struct.pack("<IHHiIII", 0xA1B23C4D, 2, 4, 0, 0, 0x40000, 1)]
     for number, frame in enumerate(found):

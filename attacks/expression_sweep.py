@@ -23,10 +23,10 @@ import struct
 import subprocess
 import sys
 import tempfile
-from typing import Counter, List, NamedTuple, Optional, Set, Tuple
+from typing import Counter, NamedTuple
 
 sys.path.insert(0, os.path.join(os.path.dirname(os.path.abspath(__file__)), "../checks"))
-from common import TOP, bytes_of, command_line, write
+from common import built, bytes_of, command_line, runnable, write
 
 sys.dont_write_bytecode = True
 import expression_corpus
@@ -34,7 +34,6 @@ import expression_frames
 from classic import DIV, LSH, MOD, NEG, RSH, Failed, classic_program, compiled
 from expressions import OPERATORS, Options, translated
 
-PROGRAM = f"{TOP}/crates/xdpvm/out/xdpvm"
 SECONDS = 60
 NO_END = "tcpdump does not end"
 DIRECTION = ("inbound", "outbound")
@@ -46,7 +45,7 @@ class Trial(NamedTuple):
 
     slots: int
     bound: int
-    passed: Set[int]
+    passed: set[int]
 
 
 class Wrong(Exception):
@@ -57,7 +56,7 @@ def ran(*words: str) -> "subprocess.CompletedProcess[str]":
     return subprocess.run(words, stdin=subprocess.DEVNULL, capture_output=True, text=True, timeout=600, check=False)
 
 
-def stream_of(found: List[bytes]) -> bytes:
+def stream_of(found: list[bytes]) -> bytes:
     return b"XPF1" + b"".join(struct.pack("<QIII", 0, 0, 0, len(it)) + it for it in found)
 
 
@@ -79,7 +78,7 @@ def tried(program: str, classic: str, stream: str) -> Trial:
     return Trial(int(made.stdout.split()[-1]), int(verdict.stdout.split()[-1]), passed)
 
 
-def kept(expression: str, capture: str, optimizes: bool = True) -> Set[int]:
+def kept(expression: str, capture: str, optimizes: bool = True) -> set[int]:
     """The frames that tcpdump keeps, by their times."""
     with tempfile.TemporaryDirectory() as folder:
         words = ["tcpdump", "-r", capture, *([] if optimizes else ["-O"]), "-w", f"{folder}/out", "--", expression]
@@ -106,7 +105,7 @@ class Sweep:
         self.given, self.capture, self.stream, self.frames = given, capture, stream, frames
         self.counts: Counter[str] = collections.Counter()
 
-    def one(self, said: str) -> Tuple[str, Optional[str]]:
+    def one(self, said: str) -> tuple[str, str | None]:
         """What is counted of an expression, and what is wrong."""
         optimizes = not self.given.unoptimized
         try:
@@ -153,11 +152,11 @@ class Row(ctypes.Structure):
     _fields_ = [("code", ctypes.c_ushort), ("jt", ctypes.c_ubyte), ("jf", ctypes.c_ubyte), ("k", ctypes.c_uint)]
 
 
-Codes = List[Tuple[int, int, int, int]]
+Codes = list[tuple[int, int, int, int]]
 PLACES = [0, 1, 2, 4, 8, 12, 14, 15, 20, 23, 31, 32, 33]
 
 
-def random_row(chance: random.Random, left: int) -> Tuple[int, int, int, int]:
+def random_row(chance: random.Random, left: int) -> tuple[int, int, int, int]:
     """An instruction that has so many after it."""
     small = chance.choice([*PLACES, chance.randrange(100), chance.randrange(300)])
     big = [small, chance.randrange(256), chance.getrandbits(16), chance.getrandbits(32)]
@@ -222,7 +221,7 @@ def randoms(given: argparse.Namespace) -> int:
 
 def main() -> int:
     words = command_line()
-    words.add_argument("--program", default=PROGRAM)
+    words.add_argument("--program", type=runnable, default=built())
     for name, number in (("seed", 1), ("count", 700), ("frames", 3000), ("kinds", 60), ("random", 0)):
         words.add_argument(f"--{name}", type=int, default=number)
     words.add_argument("--unoptimized", action="store_true")

@@ -731,6 +731,7 @@ def verified(image: str) -> tuple[str, float, float]:
 
 
 def main() -> int:
+    common.need(PROGRAM)
     worst = [0.0, 0.0]
     print(f"{'seconds':>8} {'MB':>6}  {'slots':>5}  verdict")
     with tempfile.TemporaryDirectory() as folder:

@@ -391,6 +391,7 @@ def least(words: list[str], most: tuple[float, ...]) -> tuple[str, int, float, f
 
 
 def main() -> int:
+    common.need(PROGRAM)
     wrong = 0
     print(f"{'bytes in':>10} {'seconds':>8} {'MB':>6}  status")
     with tempfile.TemporaryDirectory() as room:

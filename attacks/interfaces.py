@@ -28,10 +28,10 @@ import sys
 import tempfile
 import threading
 import time
-from typing import List, NamedTuple, Optional, Tuple
+from typing import NamedTuple
 
 sys.path.insert(0, os.path.join(os.path.dirname(os.path.abspath(__file__)), "../checks"))
-from common import TOP, bytes_of, command_line, write
+from common import TOP, built, bytes_of, command_line, runnable, write
 
 sys.dont_write_bytecode = True
 import libbpf
@@ -77,7 +77,7 @@ def must(*words: str) -> str:
     return done.stdout
 
 
-def stored() -> List[str]:
+def stored() -> list[str]:
     return sorted(glob.glob(f"{EXAMPLES}/*.image") + glob.glob(f"{EXAMPLES}/compiled/*.image"))
 
 
@@ -96,7 +96,7 @@ def interfaces() -> None:
 # ---- loaders
 
 
-def loaders(program: str, tried: Tried, paths: List[str]) -> None:
+def loaders(program: str, tried: Tried, paths: list[str]) -> None:
     there = libbpf.library()
     tried.say("libbpf.so.1", there is not None, "it is not there (Debian: libbpf1)")
     for path in paths:
@@ -110,7 +110,7 @@ def loaders(program: str, tried: Tried, paths: List[str]) -> None:
         tried.same(f"{made} by libbpf", wanted, bool(there and there.loads(bytes_of(made), 2)))
 
 
-def by_ip(made: str, tags: List[str], tried: Tried) -> bool:
+def by_ip(made: str, tags: list[str], tried: Tried) -> bool:
     if ran("ip", "link", "set", "dev", "in0", "xdp", "obj", made, "sec", "xdp").returncode:
         return False
     shown = json.loads(must("ip", "-j", "-d", "link", "show", "dev", "in0"))[0]["xdp"]["prog"]
@@ -215,9 +215,9 @@ def received(device: str) -> socket.socket:
     return it
 
 
-def frames_of(it: socket.socket) -> List[bytes]:
+def frames_of(it: socket.socket) -> list[bytes]:
     """What arrived since the last time; a VLAN tag, which the kernel takes out, is put back."""
-    found: List[bytes] = []
+    found: list[bytes] = []
     while True:
         try:
             data, beside, _, address = it.recvmsg(65536, socket.CMSG_SPACE(20))
@@ -240,7 +240,7 @@ class Expected(NamedTuple):
     after: bytes
 
 
-def bodies(path: str) -> List[bytes]:
+def bodies(path: str) -> list[bytes]:
     """Frames for an image: those of the stream beside it, or of its source's, and changed frames of all streams."""
     chance, found = random.Random(called(path)), []
     streams = [f"{EXAMPLES}/{it}.frames" for it in (called(path), called(path).split(".")[0])]
@@ -255,7 +255,7 @@ def bodies(path: str) -> List[bytes]:
     return [it for it in found if send.LEAST <= len(it) <= LONGEST]
 
 
-def expected(program: str, path: str) -> Tuple[List[Expected], List[str]]:
+def expected(program: str, path: str) -> tuple[list[Expected], list[str]]:
     """What `xdpvm run` says of each frame, and the map lines at the end."""
     given = bodies(path)
     with open("given.frames", "wb") as file:
@@ -272,12 +272,12 @@ def expected(program: str, path: str) -> Tuple[List[Expected], List[str]]:
     return [Expected(*it) for it in zip(given, actions, after)], [it for it in lines if it.startswith("map ")]
 
 
-def arrived(here: socket.socket, back: socket.socket, waits: bool) -> Tuple[List[bytes], List[bytes]]:
+def arrived(here: socket.socket, back: socket.socket, waits: bool) -> tuple[list[bytes], list[bytes]]:
     """The frames that came through, and those that came back: for as long as a frame should take, or a while in which
     none should come."""
     end = time.monotonic() + (0.5 if waits else 0.006)
-    through: List[bytes] = []
-    returned: List[bytes] = []
+    through: list[bytes] = []
+    returned: list[bytes] = []
     while time.monotonic() < end and not through and not returned:
         select.select([here, back], [], [], 0.003)
         through += frames_of(here)
@@ -285,7 +285,7 @@ def arrived(here: socket.socket, back: socket.socket, waits: bool) -> Tuple[List
     return through, returned
 
 
-def sent_one(it: Expected, here: socket.socket, back: socket.socket) -> Optional[str]:
+def sent_one(it: Expected, here: socket.socket, back: socket.socket) -> str | None:
     """Sends a frame; the result is what differs, if something does."""
     back.send(it.body)
     wanted = "DROP" if it.action in DROPPED else it.action
@@ -298,7 +298,7 @@ def sent_one(it: Expected, here: socket.socket, back: socket.socket) -> Optional
     return None
 
 
-def frames(program: str, tried: Tried, paths: List[str]) -> Tuple[int, int]:
+def frames(program: str, tried: Tried, paths: list[str]) -> tuple[int, int]:
     """Each image on in0; the result is how many there were, and how many frames were sent. A program on out0 lets what comes
     back arrive."""
     must(*OBJECT, "--xdpvm", program, "--load", "out0", f"{EXAMPLES}/pass.image")
@@ -339,13 +339,11 @@ def run_all(given: argparse.Namespace) -> int:
 def main() -> int:
     words = command_line()
     words.add_argument("images", nargs="*")
-    words.add_argument("--program", default=f"{TOP}/crates/xdpvm/out/xdpvm")
+    words.add_argument("--program", type=runnable, default=built())
     words.add_argument("--all", action="store_true")
     words.add_argument(loading.INSIDE, action="store_true", help=argparse.SUPPRESS)
     given = words.parse_args()
-    given.images, given.program = [os.path.abspath(it) for it in given.images], os.path.abspath(given.program)
-    if not os.access(given.program, os.X_OK):
-        sys.exit(f"there is no program {given.program}: give one by --program, or build it as README.md says")
+    given.images = [os.path.abspath(it) for it in given.images]
     return run_all(given) if given.inside else loading.inside(os.path.abspath(__file__), *sys.argv[1:])
 
 

@@ -2,7 +2,7 @@
 them."""
 
 import ctypes
-from typing import List, NamedTuple, Optional, Tuple
+from typing import NamedTuple
 
 VOID, TEXT, WORD, NUMBER = ctypes.c_void_p, ctypes.c_char_p, ctypes.c_uint, ctypes.c_int
 FUNCTIONS = {
@@ -27,8 +27,8 @@ XDP = 6  # BPF_PROG_TYPE_XDP
 class Found(NamedTuple):
     """What libbpf found in an object: programs with section and type, and the rows of the maps in its order."""
 
-    programs: List[Tuple[str, str, int]]
-    rows: List[Tuple[int, int, int, int]]
+    programs: list[tuple[str, str, int]]
+    rows: list[tuple[int, int, int, int]]
 
 
 class Library:
@@ -47,10 +47,10 @@ class Library:
             raise OSError(ctypes.get_errno(), "libbpf does not open the object")
         return int(handle)
 
-    def each(self, kind: str, handle: int) -> List[int]:
-        found: List[int] = []
+    def each(self, kind: str, handle: int) -> list[int]:
+        found: list[int] = []
         step = getattr(self.it, f"bpf_object__next_{kind}")
-        one: Optional[int] = step(handle, None)
+        one: int | None = step(handle, None)
         while one:
             found.append(one)
             one = step(handle, one)
@@ -87,7 +87,7 @@ class Library:
             it.bpf_object__close(handle)
 
 
-def library() -> Optional[Library]:
+def library() -> Library | None:
     """The library, where it is there."""
     try:
         return Library()

@@ -21,10 +21,11 @@ import re
 import subprocess
 import sys
 import tempfile
-from typing import Callable, Counter, Iterator, Optional, Tuple
+from collections.abc import Callable, Iterator
+from typing import Counter
 
 sys.path.insert(0, os.path.join(os.path.dirname(os.path.abspath(__file__)), "../checks"))
-from common import TOP, bytes_of, command_line
+from common import TOP, built, bytes_of, command_line, runnable
 
 sys.dont_write_bytecode = True
 import image
@@ -44,7 +45,7 @@ def object_of(data: bytes) -> bytes:
     return object_link.Maker(program, wanted, object_link.lines_of_listing("an.image", program, "")).object()
 
 
-def of_cases(program: str, every: int = 1) -> Iterator[Tuple[str, bytes]]:
+def of_cases(program: str, every: int = 1) -> Iterator[tuple[str, bytes]]:
     """The images of the cases in tests/programs: those that are given, and those that texts are assembled to."""
     import cases
 
@@ -56,7 +57,7 @@ def of_cases(program: str, every: int = 1) -> Iterator[Tuple[str, bytes]]:
             yield f"{first.where}{case.names or ''}", made
 
 
-def case_image(program: str, kind: str, value: str, spelled: Callable[[str], bytes]) -> Optional[bytes]:
+def case_image(program: str, kind: str, value: str, spelled: Callable[[str], bytes]) -> bytes | None:
     """The image of a case, if it has one."""
     if kind == "image":
         return spelled(value)
@@ -67,13 +68,13 @@ def case_image(program: str, kind: str, value: str, spelled: Callable[[str], byt
         return bytes_of(f"{folder}/image") if ran.returncode == 0 else None
 
 
-def stored(program: str, every: int) -> Iterator[Tuple[str, bytes]]:
+def stored(program: str, every: int) -> Iterator[tuple[str, bytes]]:
     for path in sorted(glob.glob(f"{TOP}/examples/*.image") + glob.glob(f"{TOP}/examples/compiled/*.image")):
         yield os.path.relpath(path, TOP), bytes_of(path)
     yield from of_cases(program, every)
 
 
-def randoms(seed: int) -> Iterator[Tuple[str, bytes]]:
+def randoms(seed: int) -> Iterator[tuple[str, bytes]]:
     while True:
         yield f"random {seed}", Maker(seed).program()
         seed += 1
@@ -135,7 +136,7 @@ class Sweep:
                 self.say(name, f"no row is about this refusal: {asked.words}")
 
 
-def images(given: argparse.Namespace) -> Iterator[Tuple[str, bytes]]:
+def images(given: argparse.Namespace) -> Iterator[tuple[str, bytes]]:
     if given.set == "stored":
         yield from stored(given.program, given.every)
     elif given.set == "random":
@@ -152,7 +153,7 @@ def most_of(given: argparse.Namespace) -> int:
 def main() -> int:
     words = command_line()
     words.add_argument("set", choices=["stored", "random", "attacks"])
-    words.add_argument("--program", default=f"{TOP}/crates/xdpvm/out/xdpvm")
+    words.add_argument("--program", type=runnable, default=built())
     words.add_argument("--count", type=int, default=100)
     words.add_argument("--seed", type=int, default=1)
     words.add_argument("--every", type=int, default=1)

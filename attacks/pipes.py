@@ -21,7 +21,6 @@ import subprocess
 import sys
 import tempfile
 import time
-from typing import Optional
 
 sys.path.insert(0, os.path.join(os.path.dirname(os.path.abspath(__file__)), "../checks"))
 from common import TOP, need, program, write
@@ -143,7 +142,7 @@ def tell_slow() -> bool:
     return half <= SOON
 
 
-def written_by(program: subprocess.Popen[bytes]) -> Optional[int]:
+def written_by(program: subprocess.Popen[bytes]) -> int | None:
     """How many calls of a program wrote something, which is waited for. `None`: the system does not count them."""
     os.waitid(os.P_PID, program.pid, os.WEXITED | os.WNOWAIT)
     try:
@@ -153,13 +152,13 @@ def written_by(program: subprocess.Popen[bytes]) -> Optional[int]:
         return None
 
 
-def calls(frames: str, out: str, report: str) -> Optional[int]:
+def calls(frames: str, out: str, report: str) -> int | None:
     """How many calls wrote something in a run."""
     with open(report, "wb") as file, subprocess.Popen([PROGRAM, "run", IMAGE, frames, out], stdout=file) as program:
         return written_by(program)
 
 
-def calls_through_pipes(frames: bytes) -> Optional[int]:
+def calls_through_pipes(frames: bytes) -> int | None:
     """The same where the frames come through a pipe together, and the report goes into one."""
     with subprocess.Popen(
         [PROGRAM, "run", IMAGE, "/dev/stdin", "/dev/stderr"], stdin=subprocess.PIPE, stdout=subprocess.PIPE, stderr=subprocess.PIPE

@@ -11,10 +11,10 @@ their ratio. It needs tcpdump. """
 import argparse
 import os
 import struct
+import shutil
 import subprocess
 import sys
 import tempfile
-from typing import List
 
 sys.path.insert(0, os.path.join(os.path.dirname(os.path.abspath(__file__)), "../checks"))
 import common
@@ -66,8 +66,8 @@ def measured(given: argparse.Namespace, expression: str, folder: str) -> None:
     image, report = f"{folder}/image", f"{folder}/report"
     write(f"{folder}/text", of_expression(expression, Options()))
     subprocess.run([given.program, "asm", f"{folder}/text", image], stdout=subprocess.DEVNULL, check=True)
-    theirs: List[float] = []
-    ours: List[float] = []
+    theirs: list[float] = []
+    ours: list[float] = []
     for _ in range(given.turns):
         theirs.append(taken(report, "tcpdump", "-r", f"{folder}/pcap", "-w", "/dev/null", "--", expression))
         ours.append(taken(report, given.program, "run", image, f"{folder}/frames", "/dev/null"))
@@ -78,10 +78,11 @@ def measured(given: argparse.Namespace, expression: str, folder: str) -> None:
 def main() -> None:
     words = common.command_line()
     words.add_argument("expressions", nargs="*", default=EXPRESSIONS)
-    words.add_argument("--program", default=common.built())
+    words.add_argument("--program", type=common.runnable, default=common.built())
     words.add_argument("--frames", type=int, default=1_000_000)
     words.add_argument("--turns", type=int, default=5)
     given = words.parse_args()
+    common.need(shutil.which("tcpdump") or "tcpdump")
     with tempfile.TemporaryDirectory() as folder:
         written(folder, given.frames)
         for expression in given.expressions:

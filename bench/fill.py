@@ -14,7 +14,7 @@ import sys
 import tempfile
 
 sys.path.insert(0, os.path.join(os.path.dirname(os.path.abspath(__file__)), "../checks"))
-from common import TOP, built, command_line, measured, record, write
+from common import TOP, built, command_line, measured, record, runnable, write
 
 KEYS = 65_536
 FRAMES = 200_000
@@ -42,8 +42,8 @@ def least(commands: dict[str, list[str]], times: int) -> dict[str, float]:
 def main() -> None:
     """Prints the figures."""
     words = command_line()
-    words.add_argument("--xdpvm", default=built())
-    words.add_argument("--filter", default=built("xdpvm_filter"))
+    words.add_argument("--xdpvm", type=runnable, default=built())
+    words.add_argument("--filter", type=runnable, default=built("xdpvm_filter"))
     words.add_argument("--times", type=int, default=5)
     given = words.parse_args()
     for program in (given.xdpvm, given.filter):

@@ -31,7 +31,7 @@ from pathlib import Path
 
 TOP = Path(__file__).resolve().parent.parent
 sys.path.insert(0, str(TOP / "checks"))
-from common import CANNOT, command_line
+from common import CANNOT, command_line, need
 from bridge import Bridge, Ends, Wrong, can_be_tried, called, image_of
 
 RATE, DELAYS, REPEATS = 100_000, 1000, 11
@@ -198,6 +198,7 @@ def main() -> int:
     words.add_argument("--sizes", default="64,1500")
     words.add_argument("--inside", action="store_true", help=argparse.SUPPRESS)
     given = words.parse_args()
+    need(str(given.program))
     if not given.inside:
         if not can_be_tried():
             print("forwarding.py: network namespaces with virtual interfaces cannot be made here", file=sys.stderr)

@@ -46,7 +46,7 @@ elif [[ $status != 77 ]]; then
     cat said >&2
     exit 1
 fi
-[[ ! -e bin/xdpvm-limits && ! -e bin/xdpvm-filter && ! -e bin/frames.py && -s share/xdpvm/docs/GUIDE.md && -s include/xdpvm.h && -s lib/libxdpvm_c.a ]]
+[[ ! -e bin/xdpvm-limits && ! -e bin/xdpvm-__main__ && ! -e bin/xdpvm-filter && ! -e bin/frames.py && -s share/xdpvm/docs/GUIDE.md && -s include/xdpvm.h && -s lib/libxdpvm_c.a ]]
 refused bash "$top/install.sh" "$work/wrong" /bin/true
 [[ ! -e $work/wrong ]]
 

@@ -3,7 +3,6 @@ from dataclasses import dataclass
 from pathlib import Path
 
 TOP = Path(__file__).resolve().parent.parent
-PROGRAM = "crates/xdpvm/out/xdpvm"
 
 
 @dataclass(frozen=True)
@@ -30,6 +29,7 @@ CHECKS = (
         15,
     ),
     Check("entries", "python3 checks/entries.py", "whether `xdpvm explain` prints what REFUSALS.md says of each code", 1),
+    Check("cases_runner", "python3 checks/test_cases.py", "that the runner of cases finds each difference", 1),
     Check("edits_fit", "python3 checks/run.py --fit", "whether the text that each edit replaces is still there", 2),
     Check(
         "near",

@@ -16,7 +16,7 @@ import shutil
 import subprocess
 import sys
 import tempfile
-from typing import Iterator, List, Tuple
+from collections.abc import Iterator
 
 from common import CANNOT, TOP, built, command_line, runnable
 
@@ -28,7 +28,7 @@ INSIDE = "--inside"
 PREPARED = "mount -t bpf bpf /sys/fs/bpf && ip link set dev lo up && bpftool prog show > /dev/null"
 
 
-def missing() -> List[str]:
+def missing() -> list[str]:
     """The tools that are not there, each with its package."""
     return [f"{it} (Debian: {package})" for it, package in TOOLS.items() if not shutil.which(it)]
 
@@ -52,7 +52,7 @@ def inside(script: str, *words: str) -> int:
     return subprocess.run([*apart, "bash", "-c", start, "bash", sys.executable, script, INSIDE, *words], check=False).returncode
 
 
-def examples(page: str) -> Iterator[Tuple[str, str, str]]:
+def examples(page: str) -> Iterator[tuple[str, str, str]]:
     """Each command of a page, with the output that it says and the one that there is; files of the page are written."""
     for kind, body in BLOCK.findall(page):
         if kind.endswith(".text"):

@@ -149,6 +149,14 @@ class Surveys(InFolder):
         self.assertEqual(rows[4][header.index("line")], "wrong.text:2: r0 = *(u8 *)(r2 + 0)")
         self.assertIn("CO-RE", ",".join(rows[3]))
 
+    def test_a_damaged_object_has_a_row(self) -> None:
+        whole = bytes_of(os.path.join(TOP, "tests/objects/made/sections.clang14.o"))
+        for count in (10, 18, 200, len(whole) - 5):
+            write(f"{self.folder}/cut{count}.o", whole[:count])
+        rows = self.rows(*(f"cut{count}.o" for count in (10, 18, 200, len(whole) - 5)))[1:]
+        self.assertEqual([row[1] for row in rows], ["none"] * 4)
+        self.assertTrue(all("the object file is damaged" in ",".join(row) for row in rows), rows)
+
     def test_two_folders_are_compared_by_names(self) -> None:
         for folder, compiler in (("one", "clang14"), ("other", "gcc12")):
             os.mkdir(f"{self.folder}/{folder}")

@@ -13,7 +13,7 @@ import sys
 import tempfile
 import unittest
 import unittest.mock
-from typing import Iterator
+from collections.abc import Iterator
 
 from common import TOP, bytes_of
 

@@ -13,7 +13,7 @@ import sys
 import tempfile
 import unittest
 import unittest.mock
-from typing import List, Mapping, Optional, Sequence, Tuple
+from collections.abc import Mapping, Sequence
 
 from common import TOP, built, bytes_of, text_of, write
 
@@ -35,18 +35,18 @@ PASS = [(0xB7, 0, 0, 0, 2), (0x95, 0, 0, 0, 0)]
 HASH, ARRAY = Row(1, 4, 8, 256), Row(2, 4, 8, 2)
 
 
-def stored() -> List[str]:
+def stored() -> list[str]:
     return sorted(glob.glob(f"{EXAMPLES}/*.image") + glob.glob(f"{EXAMPLES}/compiled/*.image"))
 
 
-def image_of(code: Sequence[Tuple[int, int, int, int, int]], rows: Sequence[Row] = (), magic: bytes = b"XBP1") -> bytes:
+def image_of(code: Sequence[tuple[int, int, int, int, int]], rows: Sequence[Row] = (), magic: bytes = b"XBP1") -> bytes:
     """An image: instructions as opcode, destination, source, offset and imm."""
     slots = b"".join(struct.pack("<BBhi", opcode, to | of << 4, at, imm) for opcode, to, of, at, imm in code)
     heads = b"".join(struct.pack("<HHII", *row) for row in rows)
     return magic + struct.pack("<HH", len(rows), len(code)) + heads + slots
 
 
-def value(register: int, number: int, offset: int) -> List[Tuple[int, int, int, int, int]]:
+def value(register: int, number: int, offset: int) -> list[tuple[int, int, int, int, int]]:
     """A wide load of an address in a map's value."""
     return [(0x18, register, 6, 0, number), (0, 0, 0, 0, offset)]
 
@@ -54,7 +54,7 @@ def value(register: int, number: int, offset: int) -> List[Tuple[int, int, int, 
 def object_of(
     data: bytes,
     name: str = "xdpvm_prog",
-    maps: Optional[str] = None,
+    maps: str | None = None,
     is_pinned: bool = False,
     values: Mapping[int, bytes] | None = None,
 ) -> bytes:
@@ -188,7 +188,7 @@ class MapLines(unittest.TestCase):
             Lines("list", [Row(1, 4, 8, 2)]).entries("\n".join(lines))
 
     def test_what_bpftool_dumps_is_in_the_order_of_a_report(self) -> None:
-        def shown(keys: List[bytes]) -> bytes:
+        def shown(keys: list[bytes]) -> bytes:
             rows = [f'{{"key":{words(key)},"value":["0x01"],"formatted":{{"key":[1],"value":1}}}}' for key in keys]
             return ("[" + ",".join(rows) + "]").encode()
 

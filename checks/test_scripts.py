@@ -12,7 +12,7 @@ import unittest
 from pathlib import Path
 
 sys.dont_write_bytecode = True
-from common import TOP
+from common import TOP, said_by
 import damage
 import edits
 import file_map
@@ -404,6 +404,43 @@ class Hostile(unittest.TestCase):
         keys = hostile_inputs.one_chain_keys(300, 16)
         self.assertEqual((len(set(keys)), len({hostile_inputs.hash_of(key) for key in keys})), (300, 1))
         self.assertTrue(all(len(key) == 16 for key in keys))
+
+
+class WithoutProgram(unittest.TestCase):
+    """A script says which program is not there."""
+
+    def test_each_script(self) -> None:
+        for script, *words in (
+            ("attacks/break", "/nowhere"),
+            ("attacks/break_filter", "/nowhere"),
+            ("attacks/break_survey", "/nowhere"),
+            ("attacks/devices", "/nowhere"),
+            ("attacks/endless", "/nowhere"),
+            ("attacks/expression_sweep", "--program", "/nowhere"),
+            ("attacks/hostile", "/nowhere"),
+            ("attacks/hostile_inputs", "/nowhere"),
+            ("attacks/interfaces", "--program", "/nowhere"),
+            ("attacks/object_sweep", "stored", "--program", "/nowhere"),
+            ("attacks/pipes", "/nowhere"),
+            ("attacks/proofs", "--program", "/nowhere"),
+            ("attacks/terminal", "/nowhere"),
+            ("bench/fill", "--xdpvm", "/nowhere"),
+            ("bench/keys", "/nowhere"),
+            ("bench/proving", "/nowhere"),
+            ("bench/recheck", "/nowhere"),
+            ("bench/speed", "/nowhere"),
+            ("bench/steps", "/nowhere"),
+            ("checks/filters", "/nowhere"),
+            ("tests/captures", "/nowhere"),
+            ("tests/cases", "--xdpvm", "/nowhere"),
+            ("tests/object_files", "/nowhere"),
+            ("tests/tcpdump", "/nowhere"),
+        ):
+            with self.subTest(script):
+                status, said = said_by([sys.executable, os.path.join(TOP, f"{script}.py"), *words])
+                self.assertIn(status, (1, 2))
+                self.assertIn("there is no program /nowhere", said)
+                self.assertNotIn("Traceback", said)
 
 
 class Here(unittest.TestCase):

@@ -340,6 +340,13 @@ class Kernel(unittest.TestCase):
         ):
             self.assertEqual(kernel.differences(other, ran, frames_given)[0], [words])
 
+    def test_an_image_that_names_no_map_of_its_own(self) -> None:
+        unopened = kernel_calls.Kernel.__new__(kernel_calls.Kernel)
+        unopened.maps = [3]
+        slots = [insn(0x18, source=5, imm=1), bytes(8)]
+        with self.assertRaisesRegex(ValueError, "slot 0 loads map 1, which the image does not have"):
+            list(unopened.linked(slots))
+
     def test_a_command_that_cannot_be_done(self) -> None:
         program = sys.executable
         for words, status in ((["none.image", "two.frames"], 2), (["firewall.image", "run.sh"], 2)):

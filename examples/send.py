@@ -11,7 +11,7 @@ import socket
 import struct
 import sys
 from pathlib import Path
-from typing import Iterator
+from collections.abc import Iterator
 
 LEAST = 14  # bytes of an Ethernet header
 

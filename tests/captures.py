@@ -21,7 +21,7 @@ import sys
 import tempfile
 
 sys.path.insert(0, os.path.join(os.path.dirname(os.path.abspath(__file__)), "../checks"))
-from common import TOP, built, bytes_of, text_of, write
+from common import TOP, built, bytes_of, need, text_of, write
 
 STORED = os.path.join(TOP, "tests/captures.txt")
 PASS = os.path.join(TOP, "examples/pass.image")
@@ -135,6 +135,7 @@ def read(program: str, folder: str, path: str) -> str:
 def main(words: list[str]) -> int:
     named = [it for it in words if it != "--store"]
     program = os.path.abspath(named[0] if named else built("xdpvm_filter"))
+    need(program)
     with tempfile.TemporaryDirectory() as folder:
         path = os.path.join(folder, "a.capture")
         if "--store" in words:

@@ -219,7 +219,13 @@ class Trial:
             left = left[len(calls) + len(answer) or 1 :]
         return self.wrong
 
+    def content(self, name: str) -> bytes | None:
+        """The bytes of a file, if it is there."""
+        path = self.folder / name
+        return path.read_bytes() if path.exists() else None
+
     def compare(self, line: Line, wanted: object, found: object) -> None:
+        """Notes a line by which something else is wanted."""
         if wanted != found:
             named = ", ".join(f"{name} {number}" for name, number in self.names.items())
             self.wrong.append(f"{line.where}: {line.word}{named and f', {named}'}\n  wanted {wanted}\n  found  {found}")
@@ -282,19 +288,18 @@ class Trial:
         """Compares what a command does on the files that have its words, or what it wrote before."""
         if line.word == "report":
             self.answer(Line(line.where, "run", line.rest))
-            out = (self.folder / "out").read_bytes()
+            out = self.content("out")
             self.answer(Line(line.where, "trace", line.rest))
-            self.compare(line, out, (self.folder / "out").read_bytes())
+            self.compare(line, out, self.content("out"))
         elif line.word == "says":
             wanted = "".join(f"...\n{it}\n" for it in line.rest.split("\n")) + "...\n"
             self.compare(line, line.rest, line.rest if fits(wanted.encode(), f"{self.said}\n".encode()) else self.said)
         elif line.word == "same":
-            files = [self.folder / name for name in line.rest.split()]
-            found = [it.read_bytes() if it.exists() else None for it in files]
+            found = [self.content(name) for name in line.rest.split()]
             if None in found or len(set(found)) > 1:
                 self.compare(line, line.rest, found)
         elif line.word in WRITTEN:
-            self.compare(line, bytes_of(line.rest).hex(), (self.folder / WRITTEN[line.word]).read_bytes().hex())
+            self.compare(line, bytes_of(line.rest), self.content(WRITTEN[line.word]))
         else:
             self.answer(line)
 

@@ -25,7 +25,8 @@ import sys
 import tempfile
 from concurrent.futures import ProcessPoolExecutor
 from dataclasses import dataclass, field
-from typing import Counter, Iterator
+from collections.abc import Iterator
+from typing import Counter
 
 sys.path.insert(0, os.path.join(os.path.dirname(os.path.abspath(__file__)), "../checks"))
 import common  # pylint: disable=unused-import

@@ -20,7 +20,8 @@ import shutil
 import subprocess
 import sys
 import tempfile
-from typing import Dict, Iterable, List, NamedTuple, Optional, Set
+from collections.abc import Iterable
+from typing import NamedTuple
 
 sys.path.insert(0, os.path.join(os.path.dirname(os.path.abspath(__file__)), "../checks"))
 from common import TOP, built, command_line, runnable, write
@@ -45,14 +46,14 @@ class Case(NamedTuple):
     one."""
 
     said: str
-    classic: Optional[str]
-    frames: Optional[Set[int]]
-    refused: Optional[str]
+    classic: str | None
+    frames: set[int] | None
+    refused: str | None
 
 
 def spans(numbers: Iterable[int]) -> str:
     """Numbers as they are stored: 1-3 5 7-9."""
-    found: List[List[int]] = []
+    found: list[list[int]] = []
     for number in sorted(numbers):
         if found and found[-1][1] == number - 1:
             found[-1][1] = number
@@ -61,13 +62,13 @@ def spans(numbers: Iterable[int]) -> str:
     return " ".join(f"{first}-{last}" if first < last else f"{first}" for first, last in found)
 
 
-def numbers(text: str) -> Set[int]:
+def numbers(text: str) -> set[int]:
     ends = [[int(end) for end in span.split("-")] for span in text.split()]
     return {number for span in ends for number in range(span[0], span[-1] + 1)}
 
 
-def cases() -> List[Case]:
-    found: List[Case] = []
+def cases() -> list[Case]:
+    found: list[Case] = []
     with open(STORED, encoding="utf-8") as file:
         for line in file:
             kind, _, rest = line.rstrip("\n").lstrip(" ").partition(" ")
@@ -84,7 +85,7 @@ def cases() -> List[Case]:
     return found
 
 
-def stored_frames() -> List[bytes]:
+def stored_frames() -> list[bytes]:
     """The frames of the capture."""
     with tempfile.TemporaryDirectory() as folder:
         words = [sys.executable, os.path.join(TOP, "tools/frames.py"), CAPTURE, f"{folder}/frames"]
@@ -99,9 +100,9 @@ class Gate:
     def __init__(self, program: str, stream: str) -> None:
         self.program, self.stream = program, stream
         self.has_tcpdump = shutil.which("tcpdump") is not None
-        self.trials: Dict[str, Trial] = {}
+        self.trials: dict[str, Trial] = {}
 
-    def wrong(self, case: Case) -> Optional[str]:
+    def wrong(self, case: Case) -> str | None:
         """What differs of a case."""
         if case.classic is not None:
             why = self.passes(case.said, case.classic, case.frames)
@@ -109,7 +110,7 @@ class Gate:
                 return f"with the stored classic program: {why}"
         return self.again(case) if self.has_tcpdump else None
 
-    def again(self, case: Case) -> Optional[str]:
+    def again(self, case: Case) -> str | None:
         """With the tcpdump that is installed."""
         try:
             classic = compiled(case.said)
@@ -118,7 +119,7 @@ class Gate:
             return None  # other versions refuse others
         return self.passes(case.said, classic, wanted)
 
-    def passes(self, said: str, classic: str, wanted: Optional[Set[int]]) -> Optional[str]:
+    def passes(self, said: str, classic: str, wanted: set[int] | None) -> str | None:
         try:
             trial = self.trials.get(classic) or tried(self.program, classic, self.stream)
         except Failed as why:

@@ -6,7 +6,6 @@ The instructions are those of bpf(4) of the BSDs and of the kernel's page on the
 
 import shutil
 import subprocess
-from typing import List
 
 WORD = (1 << 32) - 1
 LD, LDX, ST, STX, ALU, JMP, RET, MISC = range(8)
@@ -39,7 +38,7 @@ class Insn:
         self.at, self.code, self.k = at, code, k
         self.kind, self.size, self.mode = code & 7, SIZES.get(code & 0x18, 0), code & 0xE0
         self.op, self.by_x = code & 0xF0, bool(code & BY_X)
-        self.next: List[int] = []  # where it goes: of a jump the target where the test holds first
+        self.next: list[int] = []  # where it goes: of a jump the target where the test holds first
         if self.kind == JMP:
             self.next = [at + 1 + signed(k)] if self.op == JA else [at + 1 + jt, at + 1 + jf]
         elif self.kind != RET:
@@ -107,7 +106,7 @@ class Insn:
         return "tax" if self.code == TAX else "txa"
 
 
-Program = List[Insn]
+Program = list[Insn]
 LOADS = {LD | size | mode for size in SIZES for mode in (ABS, IND)} | {LD | mode for mode in (IMM, MEM, LEN)}
 LOADS_OF_X = {LDX | mode for mode in (IMM, MEM, LEN)} | {LDX | MSH | BYTE}
 COUNTS = {ALU | op | by for op in NAMES if op != NEG for by in (0, BY_X)} | {ALU | NEG}

@@ -1,7 +1,8 @@
 """What is known before each instruction of a classic program: how many bytes a match needs, limits, and lengths."""
 
 import collections
-from typing import Callable, Counter, Dict, List, Optional, Set, Tuple, Union
+from collections.abc import Callable
+from typing import Counter
 
 from classic import ABS, ADD, ALU, AND, CELLS, DIV, IMM, IND, LD, LDX, LEN, LSH, MEM, MOD, MSH, MUL, OR, RET, RSH
 from classic import ST, STX, TAX, TXA, WORD, XOR, Insn, Program
@@ -10,13 +11,13 @@ MOST = 9216  # bytes of a frame
 NEVER = 1 << 40  # more bytes than any frame has
 MANY = 20  # turns after which what grows is not limited
 A, X = "A", "X"
-Place = Union[str, int]  # a register, or a cell of M by its number
+Place = str | int  # a register, or a cell of M by its number
 HEADER = 60  # the greatest 4*([k]&0xf)
 
 
-def reached(program: Program) -> List[int]:
+def reached(program: Program) -> list[int]:
     """The instructions that a path leads to."""
-    seen: Set[int] = set()
+    seen: set[int] = set()
     todo = [0]
     while todo:
         at = todo.pop()
@@ -26,7 +27,7 @@ def reached(program: Program) -> List[int]:
     return sorted(seen)
 
 
-def fixed_point(order: List[int], step: Callable[[int], bool]) -> None:
+def fixed_point(order: list[int], step: Callable[[int], bool]) -> None:
     """Calls step(at), which says whether what is known elsewhere has changed, until nothing changes."""
     changed = True
     while changed:
@@ -41,7 +42,7 @@ class Needs:
     A classic filter that loads a byte which is not there returns 0. So where fewer bytes are there than every way to a
     match loads, the answer is known, and one test of the length serves many loads."""
 
-    def __init__(self, program: Program, order: List[int]) -> None:
+    def __init__(self, program: Program, order: list[int]) -> None:
         self.program = program
         self.packet = dict.fromkeys(order, NEVER)
         self.behind = dict.fromkeys(order, NEVER)
@@ -53,7 +54,7 @@ class Needs:
         self.packet[at], self.behind[at] = pair
         return changed
 
-    def before(self, it: Insn) -> Tuple[int, int]:
+    def before(self, it: Insn) -> tuple[int, int]:
         if it.kind == RET:
             return (NEVER, NEVER) if it.code == RET and it.k == 0 else (0, 0)
         packet = min(self.packet[to] for to in it.next)
@@ -73,11 +74,11 @@ class Limits:
     """For each instruction the greatest number that A, X and each M may have before it, and which of them may not be
     set: these are 0."""
 
-    def __init__(self, program: Program, order: List[int]) -> None:
+    def __init__(self, program: Program, order: list[int]) -> None:
         self.program = program
-        names: List[Place] = [A, X, *range(CELLS)]
-        self.before: Dict[int, Dict[Place, int]] = {0: dict.fromkeys(names, 0)}
-        self.unset: Dict[int, Set[Place]] = {0: set(names)}
+        names: list[Place] = [A, X, *range(CELLS)]
+        self.before: dict[int, dict[Place, int]] = {0: dict.fromkeys(names, 0)}
+        self.unset: dict[int, set[Place]] = {0: set(names)}
         self.turns: Counter[int] = collections.Counter()
         fixed_point(order, self.step)
 
@@ -97,12 +98,12 @@ class Limits:
                 changed, self.before[to], self.unset[to] = True, new, missing
         return changed
 
-    def set_by(self, it: Insn) -> Set[Place]:
-        found: Set[Place] = {A} if it.sets_a() else set()
+    def set_by(self, it: Insn) -> set[Place]:
+        found: set[Place] = {A} if it.sets_a() else set()
         found |= {X} if it.sets_x() else set()
         return found | ({it.k} if it.kind in (ST, STX) else set())
 
-    def after(self, it: Insn, known: Dict[Place, int]) -> Dict[Place, int]:
+    def after(self, it: Insn, known: dict[Place, int]) -> dict[Place, int]:
         new = dict(known)
         if it.is_loading():
             new[A if it.kind == LD else X] = self.loaded(it, known)
@@ -118,7 +119,7 @@ class Limits:
             new[A] = min(counted(it, known[A], known[X]), WORD)
         return new
 
-    def loaded(self, it: Insn, known: Dict[Place, int]) -> int:
+    def loaded(self, it: Insn, known: dict[Place, int]) -> int:
         if it.mode == MEM:
             return known[it.k]
         if it.mode in (IMM, LEN, MSH):
@@ -141,9 +142,9 @@ class Lengths:
     """Where A is the packet's length plus a constant. There is no such number here: where A is only compared with
     constants, a packet pointer is compared with the packet's end instead."""
 
-    def __init__(self, program: Program, order: List[int]) -> None:
+    def __init__(self, program: Program, order: list[int]) -> None:
         self.program = program
-        self.offset: Dict[int, Optional[int]] = {0: None}  # before each instruction: the constant
+        self.offset: dict[int, int | None] = {0: None}  # before each instruction: the constant
         fixed_point(order, self.step)
         self.wanted = dict.fromkeys(order, False)  # is A's number used after the instruction
         fixed_point(list(reversed(order)), self.back)
@@ -189,17 +190,17 @@ class Shown:
     """How many bytes of the packet, and behind the place X, tests have shown before each instruction (None: no pointer
     to the place X is kept there); and which instructions no path leads to, where ways without a match are cut."""
 
-    def __init__(self, program: Program, order: List[int], needs: Needs, lengths: Lengths) -> None:
+    def __init__(self, program: Program, order: list[int], needs: Needs, lengths: Lengths) -> None:
         self.program, self.needs, self.lengths = program, needs, lengths
         self.live = self.lived()
-        self.have: Dict[int, Tuple[int, Optional[int]]] = {0: (0, None)}
+        self.have: dict[int, tuple[int, int | None]] = {0: (0, None)}
         fixed_point(order, self.step)
 
     def dies(self, at: int) -> bool:
         """Whether no way from here leads to a match."""
         return self.needs.packet[at] >= NEVER
 
-    def lived(self) -> Set[int]:
+    def lived(self) -> set[int]:
         live, todo = {0}, [0]
         while todo:
             at = todo.pop()
@@ -219,7 +220,7 @@ class Shown:
                 self.have[to], changed = new, True
         return changed
 
-    def after(self, at: int) -> Tuple[int, Optional[int]]:
+    def after(self, at: int) -> tuple[int, int | None]:
         it, (packet, behind) = self.program[at], self.have[at]
         is_header = it.kind == LDX and it.mode == MSH
         if it.loads(ABS) and packet < it.k + it.size or is_header and packet < it.k + 1:
@@ -233,6 +234,6 @@ class Shown:
         return packet, behind
 
 
-def least(one: Optional[int], other: Optional[int]) -> Optional[int]:
+def least(one: int | None, other: int | None) -> int | None:
     """What is known on two ways."""
     return None if one is None or other is None else min(one, other)

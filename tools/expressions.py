@@ -6,7 +6,6 @@ stack; r0 has the action of what does not match.
 """
 
 from dataclasses import dataclass
-from typing import List, Optional, Set, Tuple
 
 from classic import (
     ABS,
@@ -80,7 +79,7 @@ class Options:
 
     match: int = ACTIONS["PASS"]
     other: int = ACTIONS["DROP"]
-    reason: Optional[int] = None
+    reason: int | None = None
     turns: int = TURNS
 
 
@@ -98,7 +97,7 @@ class Translator:
         self.lengths = Lengths(program, self.order)
         self.shown = Shown(program, self.order, self.needs, self.lengths)
         self.text, self.fresh = Text(), 0
-        self.used: Set[str] = set()
+        self.used: set[str] = set()
 
     # where control goes
 
@@ -175,13 +174,13 @@ class Translator:
         is_end = it.kind == RET and it.code == RET or self.shown.dies(at)
         return at in self.shown.live and not is_end and not it.is_forward
 
-    def unset(self) -> List[Place]:
+    def unset(self) -> list[Place]:
         """What may be read before it is set."""
-        found: List[Place] = []
+        found: list[Place] = []
         for at in self.order:
             it = self.program[at]
             if self.is_put(at):
-                reads: List[Place] = [A] if it.uses_a() and not (self.lengths.is_length(at) and it.compares_length()) else []
+                reads: list[Place] = [A] if it.uses_a() and not (self.lengths.is_length(at) and it.compares_length()) else []
                 reads += [X] if it.uses_x() else []
                 reads += [it.k] if it.is_loading() and it.mode == MEM else []
                 found += [name for name in reads if name in self.limits.unset[at] and name not in found]
@@ -378,7 +377,7 @@ class Translator:
             self.text.put(f"if r4 > r3 goto {self.target(here)}")
         self.goto(yes if changes[-1][1] else no, following)
 
-    def changes(self, it: Insn) -> List[Tuple[int, bool]]:
+    def changes(self, it: Insn) -> list[tuple[int, bool]]:
         """The lengths from which on the comparison holds, or does not."""
         offset, k = self.lengths.offset[it.at] or 0, it.k
         edges = {(edge - offset + more) & WORD for edge in (k, 0) for more in (0, 1)} | {0}

@@ -28,7 +28,7 @@ cannot be translated; then no text is written. """
 import argparse
 import os
 import sys
-from typing import Callable
+from collections.abc import Callable
 
 from classic import Failed, classic_program
 from expressions import TURNS, Options, of_expression, translated

@@ -33,7 +33,8 @@ import argparse
 import contextlib
 import struct
 from dataclasses import dataclass
-from typing import BinaryIO, Iterator
+from collections.abc import Iterator
+from typing import BinaryIO
 
 from core_relocations import Kernel
 from image_link import Image, Linker

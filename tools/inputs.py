@@ -2,7 +2,7 @@
 import os
 import re
 import sys
-from typing import Callable, Iterator
+from collections.abc import Callable, Iterator
 
 # Tools that are not installed as xdpvm-NAME: xdpvm-filter would be xdpvm_filter, the program, but for one character.
 INSTALLED = {"filter": "expression"}

@@ -8,7 +8,7 @@ import os
 import re
 import struct
 from types import TracebackType
-from typing import Iterable, Iterator
+from collections.abc import Iterable, Iterator
 
 SYS_BPF, SYS_CAPSET = 321, 126
 MAP_CREATE, MAP_LOOKUP, MAP_UPDATE, MAP_NEXT, PROG_LOAD, TEST_RUN = 0, 1, 2, 4, 5, 10

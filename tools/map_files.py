@@ -11,7 +11,7 @@ import re
 import shutil
 import sys
 from dataclasses import dataclass
-from typing import Iterable
+from collections.abc import Iterable
 
 from objects import Refused
 from outputs import is_plain, refuse_inputs, write_whole

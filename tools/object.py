@@ -44,7 +44,7 @@ import shutil
 import subprocess
 import sys
 import tempfile
-from typing import Dict, List, NamedTuple, Optional
+from typing import NamedTuple
 
 import object_check
 import object_link
@@ -65,7 +65,7 @@ class Verdict(NamedTuple):
     """What `xdpvm verify` said: the status, and the bound of an accepted program."""
 
     status: int
-    bound: Optional[int]
+    bound: int | None
 
 
 def content(path: str) -> bytes:
@@ -85,7 +85,7 @@ def verified(given: argparse.Namespace, says_yes: bool = True) -> Verdict:
     return Verdict(ran.returncode, int(bound[1]) if bound else None)
 
 
-def lines(given: argparse.Namespace, program: Program, data: bytes) -> Dict[int, Line]:
+def lines(given: argparse.Namespace, program: Program, data: bytes) -> dict[int, Line]:
     """The lines of the source, or of the listing, if xdpvm may be called."""
     if given.source:
         if not given.unverified and assembled(given) != data:
@@ -98,7 +98,7 @@ def lines(given: argparse.Namespace, program: Program, data: bytes) -> Dict[int,
     return object_link.lines_of_listing(given.image, program, listing)
 
 
-def assembled(given: argparse.Namespace) -> Optional[bytes]:
+def assembled(given: argparse.Namespace) -> bytes | None:
     """The image that xdpvm makes of the source."""
     with tempfile.TemporaryDirectory() as folder:
         words = [given.xdpvm, "asm", given.source, f"{folder}/image"]
@@ -107,7 +107,7 @@ def assembled(given: argparse.Namespace) -> Optional[bytes]:
         return content(f"{folder}/image")
 
 
-def values_beside(given: argparse.Namespace, program: Program) -> Dict[int, bytes]:
+def values_beside(given: argparse.Namespace, program: Program) -> dict[int, bytes]:
     """What the image's variables and constants begin with, as the file of maps beside it says."""
     text = lines_beside(given.image, given.taken)
     entries = object_maps.Lines(path_of(given.image), program.rows).entries(text)
@@ -160,7 +160,7 @@ def load(given: argparse.Namespace, data: bytes) -> int:
             return verdict.status
         is_accepted = verdict.status == 0
     place, it = object_load.place_of(given.load), made(given, data)
-    entries: List[object_maps.Entry] = []
+    entries: list[object_maps.Entry] = []
     if given.fill:
         text = sys.stdin.read() if given.fill == "-" else content(given.fill).decode(errors="replace")
         entries = object_maps.Lines(given.fill, program.rows).entries(text)

@@ -5,7 +5,7 @@ By rules that need only the image, and by loading it where bpf(2) is allowed.
 
 import re
 import struct
-from typing import Dict, List, NamedTuple, Optional, Tuple
+from typing import NamedTuple
 
 from object_image import Program, Slot
 
@@ -102,24 +102,24 @@ class Finding(NamedTuple):
     row: Row
 
 
-def row_of(words: str) -> Optional[Row]:
+def row_of(words: str) -> Row | None:
     """The row that a refusal of the kernel is about, if there is one."""
     return next((row for row in ROWS if re.search(row.words, words)), None)
 
 
-def told(row: Optional[Row]) -> str:
+def told(row: Row | None) -> str:
     """A row in a line."""
     if row is None:
         return "  no row of docs/DECISIONS.md says this"
     return f"  here: {row.here}; Linux: {row.linux} (docs/DECISIONS.md)"
 
 
-def findings(program: Program, bound: Optional[int]) -> List[Finding]:
+def findings(program: Program, bound: int | None) -> list[Finding]:
     """What the rules find. `bound` is that of `verify`, if it is known."""
     return constants(program) + subtractions(program) + atomics(program) + stack(program) + jumps(program, bound)
 
 
-def constants(program: Program) -> List[Finding]:
+def constants(program: Program) -> list[Finding]:
     """Shifts and divisions by constants that the kernel does not take (check_alu_op)."""
     found = []
     for slot in program.instructions:
@@ -134,7 +134,7 @@ def constants(program: Program) -> List[Finding]:
     return found
 
 
-def atomics(program: Program) -> List[Finding]:
+def atomics(program: Program) -> list[Finding]:
     """Atomic instructions at an offset that is no multiple of their size."""
     found = []
     for slot in program.instructions:
@@ -152,7 +152,7 @@ class Stack:
 
     def __init__(self, program: Program) -> None:
         self.program, self.depths = program, dict.fromkeys(program.begins, 0)
-        self.subtractions: List[int] = []
+        self.subtractions: list[int] = []
         self.copies = {FRAME: 0}
         targets = {slot + 1 + distance(it) for slot in program.instructions for it in [program.slot(slot)] if is_jump(it)}
         begin = 0
@@ -192,18 +192,18 @@ def distance(it: Slot) -> int:
     return it.imm if it.opcode & 7 == JMP32 and it.opcode >> 4 == GOTO else it.offset
 
 
-def subtractions(program: Program) -> List[Finding]:
+def subtractions(program: Program) -> list[Finding]:
     """Stack pointers that are moved by a subtraction."""
     return [Finding(True, f"slot {slot} subtracts from a stack pointer", SUBTRACTIONS) for slot in Stack(program).subtractions]
 
 
-def callees(program: Program) -> Dict[int, List[int]]:
+def callees(program: Program) -> dict[int, list[int]]:
     """The functions that each one calls, by the slots where they begin."""
     spans = {begin: range(begin, program.end(begin)) for begin in program.begins}
     return {begin: sorted({to for slot, to in program.calls.items() if slot in spans[begin]}) for begin in spans}
 
 
-def stack(program: Program) -> List[Finding]:
+def stack(program: Program) -> list[Finding]:
     """Calls whose call frames have over 512 bytes together, or are too many (check_max_stack_depth)."""
     own, called = Stack(program).depths, callees(program)
     for step, is_sure, where in ((WITH_JIT, True, ""), (WITHOUT, False, " without the JIT, and in older kernels")):
@@ -218,26 +218,26 @@ def rounded(size: int, step: int) -> int:
     return -(-max(size, step == WITHOUT) // step) * step
 
 
-def listed(chain: List[int]) -> str:
+def listed(chain: list[int]) -> str:
     return ", ".join(map(str, chain[:-1])) + f" and {chain[-1]}"
 
 
-def dearest(called: Dict[int, List[int]], sizes: Dict[int, int]) -> Tuple[int, List[int]]:
+def dearest(called: dict[int, list[int]], sizes: dict[int, int]) -> tuple[int, list[int]]:
     """The chain of at most 8 calls whose functions have most bytes of stack, and how many."""
     best = {begin: (sizes[begin], [begin]) for begin in called}
     for _ in range(CALL_FRAMES - 1):
-        after: Dict[int, Tuple[int, List[int]]] = {
+        after: dict[int, tuple[int, list[int]]] = {
             begin: max((best[to] for to in called[begin]), default=(0, [])) for begin in called
         }
         best = {begin: (sizes[begin] + more, [begin, *chain]) for begin, (more, chain) in after.items()}
     return best[0]
 
 
-def deep(called: Dict[int, List[int]]) -> List[Finding]:
+def deep(called: dict[int, list[int]]) -> list[Finding]:
     """A chain of over 8 calls, if the code has one."""
     longest = {begin: [begin] for begin in called}
     for _ in range(CALL_FRAMES):
-        after: Dict[int, List[int]] = {begin: max((longest[to] for to in called[begin]), key=len, default=[]) for begin in called}
+        after: dict[int, list[int]] = {begin: max((longest[to] for to in called[begin]), key=len, default=[]) for begin in called}
         longest = {begin: [begin, *chain] for begin, chain in after.items()}
     chain = longest[0]
     return (
@@ -245,7 +245,7 @@ def deep(called: Dict[int, List[int]]) -> List[Finding]:
     )
 
 
-def jumps(program: Program, bound: Optional[int]) -> List[Finding]:
+def jumps(program: Program, bound: int | None) -> list[Finding]:
     """Loops with a jump that may go either way, in a program whose runs may take more jumps than the kernel keeps."""
     if bound is None or bound <= JUMPS:
         return []
@@ -275,7 +275,7 @@ def asked(image: bytes) -> Answer:
         return Answer(False, False, str(why))
 
 
-def checked(program: Program, image: bytes, bound: Optional[int]) -> bool:
+def checked(program: Program, image: bytes, bound: int | None) -> bool:
     """Prints what is found; the result is whether the kernel takes the program, as far as that is known."""
     found = findings(program, bound)
     for it in found:

@@ -5,7 +5,8 @@ The layouts are those of elf(5), and the numbers for BPF those of the kernel's p
 """
 
 import struct
-from typing import List, NamedTuple, Sequence, Tuple
+from collections.abc import Sequence
+from typing import NamedTuple
 
 from object_types import Texts
 from objects import FUNCTION_SYMBOL, LOCAL_CALL, MACHINE, NO_BITS, OBJECT_SYMBOL, RELOCATIONS, SYMBOLS, WIDE_LOAD
@@ -58,7 +59,7 @@ class Elf:
     def __init__(self) -> None:
         self.sections = [Section("", 0, 0, b"", 0, 0, 0, 0)]
         self.texts = Texts()
-        self.symbols: List[Symbol] = []
+        self.symbols: list[Symbol] = []
 
     def section(self, name: str, kind: int, flags: int, body: bytes, align: int, size: int = 0) -> int:
         """Adds a section, and returns its number. `size` is that of a section without bytes."""
@@ -70,7 +71,7 @@ class Elf:
         self.symbols.append(it)
         return len(self.symbols) - 1
 
-    def file(self, relocations: Sequence[Tuple[int, Sequence[Relocation]]]) -> bytes:
+    def file(self, relocations: Sequence[tuple[int, Sequence[Relocation]]]) -> bytes:
         """The object. `relocations` are those of each section that has some. Local symbols come first, as elf(5)
         wants."""
         order = sorted(range(len(self.symbols)), key=lambda key: self.symbols[key].binding)

@@ -3,7 +3,7 @@
 import hashlib
 import re
 import struct
-from typing import Dict, List, NamedTuple, Optional, Set
+from typing import NamedTuple
 
 HASH, ARRAY = 1, 2  # BPF_MAP_TYPE_HASH, BPF_MAP_TYPE_ARRAY (linux/bpf.h)
 MAP, VALUE, LOCAL_CALL = (
@@ -62,9 +62,9 @@ class Program:
         self.rows = [Row(*struct.unpack_from("<HHII", data, 8 + 12 * index)) for index in range(maps)]
         self.code = data[8 + 12 * maps :]
         self.count = count
-        self.loads: Dict[int, Load] = {}
-        self.calls: Dict[int, int] = {}
-        self.instructions: List[int] = []
+        self.loads: dict[int, Load] = {}
+        self.calls: dict[int, int] = {}
+        self.instructions: list[int] = []
         self.read()
         self.begins = sorted({0, *self.calls.values()})
 
@@ -102,7 +102,7 @@ class Program:
             raise Refused(f"slot {slot} calls slot {target}, which the image does not have")
         return target
 
-    def kinds(self, number: int) -> Set[int]:
+    def kinds(self, number: int) -> set[int]:
         """How the program loads a map: as itself, as an address in its value, both or never."""
         return {it.kind for it in self.loads.values() if it.map == number}
 
@@ -124,7 +124,7 @@ class Program:
         return order == self.begins
 
 
-def tags(program: Program) -> List[str]:
+def tags(program: Program) -> list[str]:
     """The tags by which the kernel names the program, from Linux 6.18 on, and before: the first 8 bytes of a hash of
     the code with the maps' numbers left out (bpf_prog_calc_tag, kernel/bpf/core.c)."""
     code = bytearray(program.code)
@@ -143,7 +143,7 @@ def known_name(name: str) -> str:
     return name
 
 
-def map_names(program: Program, given: Optional[str], own: str) -> List[str]:
+def map_names(program: Program, given: str | None, own: str) -> list[str]:
     """The maps' names: those given, divided by commas, or map0, map1 and so on. `own` is the program's name."""
     names = given.split(",") if given else [f"map{index}" for index in range(len(program.rows))]
     if len(names) != len(program.rows):

@@ -5,7 +5,8 @@ of .maps, and an array that the program has as memory is a section of its own, .
 
 import os
 import struct
-from typing import Dict, List, Mapping, NamedTuple, Optional, Tuple
+from collections.abc import Mapping
+from typing import NamedTuple
 
 import object_elf as elf
 import object_types as types
@@ -20,21 +21,21 @@ class Wanted(NamedTuple):
     """What an object is called and has, beside the program; `values` has what maps begin with that are no zeros."""
 
     name: str
-    maps: List[str]
+    maps: list[str]
     is_pinned: bool
-    license: Optional[str]
+    license: str | None
     values: Mapping[int, bytes] = {}
 
 
 class Maker:
     """An object in the making."""
 
-    def __init__(self, program: Program, wanted: Wanted, lines: Dict[int, Line]) -> None:
+    def __init__(self, program: Program, wanted: Wanted, lines: dict[int, Line]) -> None:
         self.program, self.wanted, self.lines = program, wanted, lines
         self.elf, self.types = elf.Elf(), types.Types()
         self.split = program.end(0)  # the program's own function is before it, and those that are called after it
-        self.functions: Dict[int, int] = {}  # the symbol of each function, by the slot where it begins
-        self.maps: Dict[int, int] = {}  # and of each map, by its index
+        self.functions: dict[int, int] = {}  # the symbol of each function, by the slot where it begins
+        self.maps: dict[int, int] = {}  # and of each map, by its index
 
     def object(self) -> bytes:
         code, flags = self.code(), elf.ALLOC | elf.EXEC
@@ -56,7 +57,7 @@ class Maker:
         changes = [(home, self.relocations(place)) for place, home in enumerate(homes)]
         return self.elf.file([(home, rows) for home, rows in changes if rows])
 
-    def place(self, slot: int) -> Tuple[str, int]:
+    def place(self, slot: int) -> tuple[str, int]:
         """The section that has a slot, and its number there."""
         return (SECTION, slot) if slot < self.split else (CALLED, slot - self.split)
 
@@ -72,7 +73,7 @@ class Maker:
                 struct.pack_into("<i", code, 8 * slot + 4, -1)
         return bytes(code)
 
-    def relocations(self, place: int) -> List[elf.Relocation]:
+    def relocations(self, place: int) -> list[elf.Relocation]:
         """What the first or the second of the two sections with code names. A call inside .text needs no symbol."""
         found = []
         for slot in self.program.instructions:
@@ -145,12 +146,12 @@ class Maker:
         return infos.section_bytes()
 
 
-def map_order(program: Program) -> List[int]:
+def map_order(program: Program) -> list[int]:
     """The maps' indexes in the order in which libbpf numbers those of the object: .maps, then the sections."""
     return sorted(range(len(program.rows)), key=program.is_value)
 
 
-def lines_of_text(path: str, program: Program) -> Dict[int, Line]:
+def lines_of_text(path: str, program: Program) -> dict[int, Line]:
     """The line of each instruction in the text that the image was assembled of, by its slot."""
     slots = Source.of_text(path).slots
     if len(slots) != program.count:
@@ -163,7 +164,7 @@ def lines_of_text(path: str, program: Program) -> Dict[int, Line]:
     return found
 
 
-def lines_of_listing(path: str, program: Program, listing: str) -> Dict[int, Line]:
+def lines_of_listing(path: str, program: Program, listing: str) -> dict[int, Line]:
     """The same in the canonical text, as `xdpvm dis` prints it; where there is none a line says the slot. libbpf warns
     of functions without lines."""
     lines = listing.splitlines()

@@ -11,7 +11,8 @@ import shutil
 import socket
 import subprocess
 import tempfile
-from typing import Any, Dict, List, NamedTuple, Optional, Sequence
+from collections.abc import Sequence
+from typing import Any, NamedTuple
 
 from object_image import ARRAY, HASH, Row
 from object_link import SECTION
@@ -44,7 +45,7 @@ class Place(NamedTuple):
     """Where a program is pinned, and the interface that it is for, if there is one."""
 
     folder: str
-    device: Optional[str]
+    device: str | None
 
     @property
     def said(self) -> str:
@@ -57,11 +58,11 @@ class Object(NamedTuple):
 
     bytes: bytes
     name: str
-    maps: List[str]
-    rows: List[Row]
-    order: List[int]
-    sections: List[int]
-    begins: List[int]
+    maps: list[str]
+    rows: list[Row]
+    order: list[int]
+    sections: list[int]
+    begins: list[int]
 
 
 def tool(name: str) -> str:
@@ -126,14 +127,14 @@ class Attached(NamedTuple):
     mode: str
 
 
-def attached(device: str) -> Optional[Attached]:
+def attached(device: str) -> Attached | None:
     for it in shown("net", "show", "dev", device)[0]["xdp"]:
         if it["devname"] == device:
             return Attached(it["id"], SHOWN.get(it["mode"], it["mode"]))
     return None
 
 
-def pinned(place: Place) -> List[int]:
+def pinned(place: Place) -> list[int]:
     """The programs that are pinned for a place: an update that was interrupted leaves two."""
     paths = [f"{it}/program" for it in (place.folder, next_to(place))]
     return [shown("prog", "show", "pinned", it)["id"] for it in paths if os.path.exists(it)]
@@ -152,7 +153,7 @@ def remove(folder: str) -> None:
         os.rmdir(folder)
 
 
-def map_paths(folder: str) -> Dict[int, str]:
+def map_paths(folder: str) -> dict[int, str]:
     """The pins of the maps, by their indexes."""
     paths = [it for it in glob.glob(f"{glob.escape(folder)}/*") if re.match(r"\d+_", os.path.basename(it))]
     return dict(sorted((int(os.path.basename(it).split("_")[0]), it) for it in paths))
@@ -167,7 +168,7 @@ class Loader:
     def __init__(self, place: Place, it: Object) -> None:
         self.place, self.it, self.next = place, it, next_to(place)
 
-    def load(self, entries: Sequence[Entry], keeps: bool, replaces: bool, mode: Optional[str]) -> str:
+    def load(self, entries: Sequence[Entry], keeps: bool, replaces: bool, mode: str | None) -> str:
         """The line that says what was done."""
         need_file_system(self.place.folder)
         there = attached(self.place.device) if self.place.device else None
@@ -190,7 +191,7 @@ class Loader:
         done = "loaded" if not self.place.device else "attached" if not there else "attached in place of the old program"
         return f"{self.place.said}: {done}; pinned in {self.place.folder}"
 
-    def kept(self) -> Dict[int, str]:
+    def kept(self) -> dict[int, str]:
         """The maps that are there, for a program that goes on with them."""
         paths = map_paths(self.place.folder)
         for index, path in paths.items():
@@ -203,7 +204,7 @@ class Loader:
                 raise Failed(f"{path} is another map than map {index} of the image; without --keep maps begin anew")
         return paths
 
-    def made(self, kept: Dict[int, str]) -> None:
+    def made(self, kept: dict[int, str]) -> None:
         """Loads the object, and pins the program and the maps."""
         with tempfile.TemporaryDirectory() as folder:
             path = f"{folder}/{self.it.name}.o"
@@ -246,7 +247,7 @@ class Loader:
                 file.flush()
                 ran("bpftool", "batch", "file", file.name)
 
-    def attach(self, device: str, there: Optional[Attached], mode: Optional[str]) -> None:
+    def attach(self, device: str, there: Attached | None, mode: str | None) -> None:
         kind = MODES[mode if mode or not there else there.mode][0]
         ran(
             "bpftool",
@@ -261,7 +262,7 @@ class Loader:
         )
 
 
-def digits(data: bytes) -> List[str]:
+def digits(data: bytes) -> list[str]:
     return [f"{it:02x}" for it in data]
 
 
@@ -281,7 +282,7 @@ def unload(place: Place) -> str:
     return f"{place.said}: {'detached' if there else 'nothing was attached'}; {place.folder} removed"
 
 
-def read(place: Place) -> List[Entry]:
+def read(place: Place) -> list[Entry]:
     """The contents of the maps."""
     if not os.path.isdir(place.folder):
         raise Failed(f"nothing is loaded for {place.said}: there is no {place.folder}")
@@ -295,7 +296,7 @@ def read(place: Place) -> List[Entry]:
 # ---- ip and xdp-loader, which load the object themselves and keep no pins
 
 
-def load_by(name: str, place: Place, it: Object, replaces: bool, mode: Optional[str]) -> str:
+def load_by(name: str, place: Place, it: Object, replaces: bool, mode: str | None) -> str:
     """Has a loader of Linux attach the object; what it said."""
     if not place.device:
         raise Failed(f"{name} loads on an interface, and {place.folder} is none; --by bpftool pins")

@@ -2,7 +2,7 @@
 maps."""
 
 import re
-from typing import Dict, List, NamedTuple, Set
+from typing import NamedTuple
 
 from object_image import ARRAY, Refused, Row
 
@@ -25,11 +25,11 @@ class Lines:
     """The map lines of a text, each tested against the maps of an image. Blank lines, those that begin with #, and the
     other lines of a report are passed over."""
 
-    def __init__(self, name: str, rows: List[Row]) -> None:
+    def __init__(self, name: str, rows: list[Row]) -> None:
         self.name, self.rows = name, rows
-        self.keys: Dict[int, Set[bytes]] = {}
+        self.keys: dict[int, set[bytes]] = {}
 
-    def entries(self, text: str) -> List[Entry]:
+    def entries(self, text: str) -> list[Entry]:
         found = []
         for number, line in enumerate(text.split("\n"), 1):
             if line.startswith("map ") or line == "map":
@@ -76,7 +76,7 @@ class Lines:
         return bytes.fromhex(word)
 
 
-def dumped(index: int, is_hash: bool, text: bytes) -> List[Entry]:
+def dumped(index: int, is_hash: bool, text: bytes) -> list[Entry]:
     """What `bpftool -j map dump` says of a map, in the order of a report: a hash map's keys in that of their bytes."""
     pairs = [
         (bytes.fromhex(key.replace(b'","0x', b"").decode()), bytes.fromhex(value.replace(b'","0x', b"").decode()))

@@ -5,7 +5,8 @@ described by a structure of pointers is libbpf's (`__uint` and `__type` of bpf_h
 libbpf.c). """
 
 import struct
-from typing import Dict, List, NamedTuple, Sequence, Tuple
+from collections.abc import Sequence
+from typing import NamedTuple
 
 from object_image import ARRAY, Row
 from type_information import ARRAY as ARRAY_OF
@@ -48,7 +49,7 @@ class Types:
 
     def __init__(self) -> None:
         self.texts, self.body = Texts(), bytearray()
-        self.known: Dict[bytes, int] = {}
+        self.known: dict[bytes, int] = {}
 
     def add(self, name: str, kind: int, parts: int, size: int, rest: bytes = b"") -> int:
         """struct btf_type: `parts` is vlen, or for a function its linkage; `size` is size or type."""
@@ -74,7 +75,7 @@ class Types:
         """struct btf_array: the element's type, the index's, and how many there are."""
         return self.add("", ARRAY_OF, 0, 0, struct.pack("<III", of, self.word(4), count))
 
-    def structure(self, name: str, size: int, members: Sequence[Tuple[str, int, int]]) -> int:
+    def structure(self, name: str, size: int, members: Sequence[tuple[str, int, int]]) -> int:
         """`members` are triples: a name, a type, an offset in bytes."""
         rows = [struct.pack("<III", self.texts.at(part), of, 8 * at) for part, of, at in members]
         return self.add(name, STRUCT, len(members), size, b"".join(rows))
@@ -88,7 +89,7 @@ class Types:
         width = next(it for it in (8, 4, 1) if it <= most and size % it == 0)
         return self.word(width) if width == size else self.array(self.word(width), size // width)
 
-    def map(self, name: str, row: Row, is_pinned: bool) -> Tuple[int, int]:
+    def map(self, name: str, row: Row, is_pinned: bool) -> tuple[int, int]:
         """A map's variable, and its size in .maps. The key of an array is a number, since bpftool wants that; that of
         a hash map is bytes, since most are addresses and ports as packets have them."""
         members = [("type", self.said(row.kind)), ("max_entries", self.said(row.entries))]
@@ -102,11 +103,11 @@ class Types:
     def variable(self, name: str, of: int) -> int:
         return self.add(name, VARIABLE, 0, of, struct.pack("<I", GLOBAL))
 
-    def section(self, name: str, size: int, variables: Sequence[Tuple[int, int, int]]) -> None:
+    def section(self, name: str, size: int, variables: Sequence[tuple[int, int, int]]) -> None:
         """struct btf_var_secinfo: `variables` are triples of a variable, its offset and its size."""
         self.add(name, SECTION, len(variables), size, b"".join(struct.pack("<III", *it) for it in variables))
 
-    def function(self, name: str, linkage: int, arguments: Sequence[Tuple[str, int]]) -> int:
+    def function(self, name: str, linkage: int, arguments: Sequence[tuple[str, int]]) -> int:
         """A function that returns an int; struct btf_param: `arguments` are pairs of a name and a type."""
         rows = [struct.pack("<II", self.texts.at(argument), of) for argument, of in arguments]
         return self.add(name, FUNCTION, linkage, self.add("", PROTOTYPE, len(rows), self.number(), b"".join(rows)))
@@ -131,8 +132,8 @@ class Infos:
 
     def __init__(self, types: Types) -> None:
         self.types = types
-        self.functions: Dict[str, List[Tuple[int, ...]]] = {}
-        self.lines: Dict[str, List[Tuple[int, ...]]] = {}
+        self.functions: dict[str, list[tuple[int, ...]]] = {}
+        self.lines: dict[str, list[tuple[int, ...]]] = {}
 
     def function(self, section: str, slot: int, of: int) -> None:
         """struct bpf_func_info, with its place in bytes, as in an object."""
@@ -143,7 +144,7 @@ class Infos:
         at = self.types.texts.at
         self.lines.setdefault(section, []).append((8 * slot, at(line.file), at(line.text), line.number << 10))
 
-    def part(self, size: int, sections: Dict[str, List[Tuple[int, ...]]]) -> bytes:
+    def part(self, size: int, sections: dict[str, list[tuple[int, ...]]]) -> bytes:
         """rec_size, and then for each section struct btf_ext_info_sec and its records."""
         out = struct.pack("<I", size)
         for name, rows in sections.items():

@@ -6,7 +6,8 @@ import stat
 import sys
 import tempfile
 from types import TracebackType
-from typing import BinaryIO, Iterable
+from collections.abc import Iterable
+from typing import BinaryIO
 
 
 class IsRead(Exception):

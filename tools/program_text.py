@@ -2,7 +2,6 @@
 out."""
 
 import re
-from typing import List, Set, Tuple
 
 ACTIONS = {"ABORTED": 0, "DROP": 1, "PASS": 2, "TX": 3}
 SENT = (ACTIONS["PASS"], ACTIONS["TX"])
@@ -18,8 +17,8 @@ class Text:
     """The statements of the program text, each with its labels and a comment."""
 
     def __init__(self) -> None:
-        self.rows: List[Tuple[List[str], str, str]] = []
-        self.labels: List[str] = []
+        self.rows: list[tuple[list[str], str, str]] = []
+        self.labels: list[str] = []
         self.note = ""
 
     def put(self, statement: str) -> None:
@@ -30,10 +29,10 @@ class Text:
     def mark(self, label: str) -> None:
         self.labels.append(label)
 
-    def reached(self) -> Set[int]:
+    def reached(self) -> set[int]:
         """The rows that a path from the first one leads to: the verifier refuses others."""
         place = {label: at for at, (labels, _, _) in enumerate(self.rows) for label in labels}
-        seen: Set[int] = set()
+        seen: set[int] = set()
         todo = [0]
         while todo:
             at = todo.pop()
@@ -50,8 +49,8 @@ class Text:
         seen = self.reached()
         rows = [row for at, row in enumerate(self.rows) if at in seen]
         named = {word for _, statement, _ in rows for word in re.findall(r"goto (\w+)$", statement)}
-        lines: List[str] = []
-        kept: List[str] = []
+        lines: list[str] = []
+        kept: list[str] = []
         for labels, statement, note in rows:
             kept += [label for label in labels if label in named]
             begin = ""

@@ -4,7 +4,7 @@ import collections
 import re
 import subprocess
 import sys
-from typing import Iterable, Iterator
+from collections.abc import Iterable, Iterator
 
 from failures import shown
 from sources import Source, TextRefused

@@ -7,7 +7,8 @@ import subprocess
 import sys
 import threading
 from dataclasses import dataclass, field
-from typing import IO, BinaryIO, Iterator
+from collections.abc import Iterator
+from typing import IO, BinaryIO
 
 from map_files import Filling
 from outputs import write_whole

@@ -8,7 +8,7 @@ import stat
 import subprocess
 import sys
 from dataclasses import dataclass, field
-from typing import Mapping
+from collections.abc import Mapping
 
 import image as images
 from failures import tell

@@ -29,7 +29,8 @@ import subprocess
 import sys
 import tempfile
 from dataclasses import replace
-from typing import Iterator, NamedTuple
+from collections.abc import Iterator
+from typing import NamedTuple
 
 from image import listed, read_object
 from failures import Words, end, said, shown

@@ -1,6 +1,7 @@
 """Type information of objects and of the kernel (BTF), as docs.kernel.org/bpf/btf.html describes it."""
 import struct
-from typing import Iterator, NamedTuple
+from collections.abc import Iterator
+from typing import NamedTuple
 
 from objects import Object, Refused, text_at
 
