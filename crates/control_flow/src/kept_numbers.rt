@@ -8,6 +8,7 @@ ghost use Rattle.control_flow.specs.Masks.{HasHome, AreWithin, mask_at};
 ghost use Rattle.control_flow.specs.Nodes.{HasEdges, AreNodes};
 
 use crate::accesses::registers_read;
+use crate::deciding::{last_writes, mark_deciding};
 use crate::functions::functions_of;
 use crate::homes::{HomeMask, mask_of};
 use crate::loops::Loops;
@@ -21,6 +22,9 @@ use crate::wanted::wanted_homes;
 use image::Image;
 use isa_model::{Insn, Reg};
 use std::alloc::{AllocError, Global};
+
+/// Says how often more jumps are looked for that decide what is kept.
+const ROUNDS: usize = 8;
 
 /// For each slot the registers and stack slots whose numbers a long search keeps.
 #[derive(Drop)]
@@ -140,12 +144,37 @@ fn kept_homes(
     wanted_homes(alloc, &nodes)
 }
 
-/// The loops of a program.
-fn loops_of(alloc: Global, image: &Image, functions: &[usize]) -> Result<Loops, AllocError>
+/// The slots of loops and of called functions.
+fn inside_of(alloc: Global, loops: &Loops, functions: &[usize]) -> Result<Vec<bool>, AllocError> {
+    let mut inside = Vec::with_capacity(alloc, functions.len())?;
+    for slot in 0..functions.len() {
+        inside.push(is_marked(&loops.bodies, slot) || functions[slot] != 0)?;
+    }
+    Ok(inside)
+}
+
+/// For each slot what flows into what instructions take, into a jump that may leave a loop, or into
+/// one that decides which number gets there.
+fn kept_at_exits(
+    alloc: Global,
+    image: &Image,
+    functions: &[usize],
+    nodes: &[Node],
+    loops: &Loops,
+) -> Result<Vec<HomeMask>, AllocError>
     requires { (slot : ℕ) → ¬ Fails image.now TheError.TargetOutside slot }
 {
-    let nodes = keeping_nodes(alloc, image, functions, &[])?;
-    Loops::of(alloc, &nodes, functions)
+    let inside = inside_of(alloc, loops, functions)?;
+    let mut marks = loops.exits.clone()?;
+    let mut kept = kept_homes(alloc, image, functions, &marks)?;
+    for _ in 0..ROUNDS {
+        let writes = last_writes(alloc, nodes, &kept)?;
+        if !mark_deciding(nodes, &writes, &inside, &mut marks) {
+            break;
+        }
+        kept = kept_homes(alloc, image, functions, &marks)?;
+    }
+    Ok(kept)
 }
 
 /// What flows into accesses and calls and into jumps that may leave a loop, or into accesses and
@@ -154,6 +183,24 @@ fn loops_of(alloc: Global, image: &Image, functions: &[usize]) -> Result<Loops, 
 struct Flows {
     exits: Vec<HomeMask>,
     bodies: Vec<HomeMask>,
+}
+
+impl Flows {
+    /// What flows there in a program with these loops.
+    fn of(
+        alloc: Global,
+        image: &Image,
+        functions: &[usize],
+        nodes: &[Node],
+        loops: &Loops,
+    ) -> Result<Self, AllocError>
+        requires { (slot : ℕ) → ¬ Fails image.now TheError.TargetOutside slot }
+    {
+        Ok(Flows {
+            exits: kept_at_exits(alloc, image, functions, nodes, loops)?,
+            bodies: kept_homes(alloc, image, functions, &loops.bodies)?,
+        })
+    }
 }
 
 /// What is kept at a slot; those of the tested numbers if it is `known` which these are.
@@ -174,8 +221,8 @@ fn kept_at(loops: &Loops, flows: &Flows, slot: usize, tested: HomeMask, known: b
 }
 
 /// Which numbers a long search of a program keeps: what flows into an access, into another call
-/// frame, or into a jump that may leave a loop; on a loop, its head aside, what flows into any jump
-/// there. These are of the `tested` numbers if it is `known` which these are.
+/// frame, or into a jump that may leave a loop or decides which number gets there; on a loop, its
+/// head aside, what flows into any jump there. These are of the `tested` numbers if it is `known` which these are.
 pub fn kept_numbers(
     alloc: Global,
     image: &Image,
@@ -186,11 +233,9 @@ pub fn kept_numbers(
     ensures { IsTrue known → IfOk result (λ kept. AreWithin kept.masks.items tested.now) }
 {
     let functions = functions_of(alloc, image)?;
-    let loops = loops_of(alloc, image, &functions)?;
-    let flows = Flows {
-        exits: kept_homes(alloc, image, &functions, &loops.exits)?,
-        bodies: kept_homes(alloc, image, &functions, &loops.bodies)?,
-    };
+    let nodes = keeping_nodes(alloc, image, &functions, &[])?;
+    let loops = Loops::of(alloc, &nodes, &functions)?;
+    let flows = Flows::of(alloc, image, &functions, &nodes, &loops)?;
     let mut masks = Vec::with_capacity(alloc, image.slots())?;
     for slot in 0..image.slots() {
         let tested = mask_of(tested, slot);
