@@ -43,7 +43,7 @@ UNWRITTEN = b"cannot write standard output\r\nthe system gave another error\r\n"
 # The tests of bits in `many_paths`, and its instructions: each test and each addition once for each
 # path that leads there, two at the end of each path, four at the start, and the exit.
 TESTS = 17
-TO_EXPLORE = 2 * (2**TESTS - 1) + 2 * 2**TESTS + 5
+TO_EXPLORE = 2 * (2**TESTS - 1) + 3 * 2**TESTS + 3
 # What numbers Linux gives to terminals, and those beside them.
 TERMINALS = {3: False, 4: True, 5: True, 6: False, 135: False, 136: True, 143: True, 144: False}
 
@@ -135,8 +135,7 @@ def tell_numbers(folder: str) -> bool:
 
 
 def many_paths() -> str:
-    """A program on whose paths r0 is another number each, until all of them end in one state. It
-    calls a function, so these numbers are kept."""
+    """A program on whose paths r0 is another number each, until all of them end in one state."""
     return branches(TESTS, ["r0 &= 0", "goto +0", "exit"])
 
 

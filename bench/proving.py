@@ -69,7 +69,7 @@ ROWS = [
     ("loop of 100,000 turns, counted on the stack", stack_loop(100_000)),
     ("loop of 50,000 turns, six values on the stack", text_of("spills")),
     ("15 branches on unknown bits in a row", branches(15)),
-    ("18 branches on unknown bits in a row", branches(18)),
+    ("17 branches on unknown bits in a row", branches(17)),
     ("a call in each turn, 50,000 turns", call_loop(50_000)),
     ("calls from the seventh frame, 15,500 turns", nested_calls(15_500)),
     ("a look-up and a null test in the eighth frame", seven_frames([HASH], LOOK_UP, 10_000)),

@@ -40,7 +40,7 @@ PROGRAMS = {
     "a call in each turn": "r6 = 0\nloop: r1 = r6\ncall f\nr6 += 1\nif r6 < 40000 goto loop\nr0 = 2\nexit\n"
     "f: r0 = r1\n*(u64 *)(r10 - 8) = r1\nr0 += 1\nr2 = *(u64 *)(r10 - 8)\nr0 += r2\nexit\n",
     "calls from the seventh frame": DEEP,
-    "18 branches": common.branches(18),
+    "17 branches": common.branches(17),
 }
 
 

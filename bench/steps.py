@@ -169,7 +169,7 @@ def verification() -> None:
     rows = [
         ("straight code of 3,000 slots", straight(3_000), "ok bound 3000", 3_000),
         ("loop of 300,000 turns", counted_loop(300_000), "ok bound 600003", 600_003),
-        ("18 branches on unknown bits in a row", branches(18), "ok bound 41", 3 * 2**18 + 2),
+        ("17 branches on unknown bits in a row", branches(17), "ok bound 38", 4 * 2**17),
         ("20 branches on unknown bits in a row", branches(20), None, 1_000_000),
         ("loop without an end, signed limits that sink", sinking(), None, 1_000_000),
         ("loop of 100,000 turns, counted on the stack", stack_loop(100_000), "ok bound 400003", 400_003),

@@ -183,8 +183,8 @@ def straight(slots: int, action: int = 2) -> str:
 
 def branches(count: int, last: Sequence[str] = ("exit",)) -> str:
     """count tests of the unknown bits of one number, one after the other. Each path leaves another number in r0, which is not
-    forgotten, since the program calls a function. So no state covers another: 3 * 2^count + 2 instructions are explored in all."""
-    lines = ["r6 = *(u32 *)(r1 + 12)", "call zero"]
+    forgotten, since the end of a loop tests it. So no state covers another: 4 * 2^count instructions are explored in all."""
+    lines = ["r6 = *(u32 *)(r1 + 12)", "r0 = 0"]
     for bit in range(count):
         lines += [f"if r6 & {1 << bit} goto +1", f"r0 += {1 << bit}"]
-    return "\n".join([*lines, *last, "zero: r0 = 0", "exit"]) + "\n"
+    return "\n".join([*lines, "if r0 s< 0 goto -1", *last]) + "\n"

@@ -4,7 +4,7 @@ use Rattle.std.specs.Prelude.{◌↔◌, ◌≢◌, ◌||◌, IsTrue}
 use Rattle.std.proofs.lemmas.Bool.{cases_lt}
 use Rattle.isa_model.specs.Code.Instructions.{Program}
 use Rattle.control_flow.specs.Graph.{call_to, Calls}
-use Rattle.control_flow.specs.TestedNumbers.{TakesInputAt, MayForgetNumbers}
+use Rattle.control_flow.specs.TestedNumbers.{TakesInputAt, HasInput, MayForgetNumbers}
 use Rattle.control_flow.proofs.FlowLaws.{BeginsInsn-inside, fetch-BeginsInsn, HasEdge-inside}
 
 -- an instruction below slot n takes input
@@ -49,6 +49,13 @@ below_more p n takes here none at below = record {
   ];
   input = either p n takes here below.input at;
 }
+
+-- where no slot of the code takes input, the program has none
+pub none_takes_input : (p : Program) (n : ℕ) → length p.insns ≤ n
+    → ((k : ℕ) → k < n → ¬ TakesInputAt p k) → ¬ HasInput p
+none_takes_input p n all none (k, (i, here, takes)) =
+    let inside = BeginsInsn-inside p k (fetch-BeginsInsn p k i here) in
+    none k (omega arith) (i, here, takes)
 
 -- all slots
 pub below_all : (p : Program) (n : ℕ) (takes : Bool) → length p.insns ≤ n → KnowsBelow p n takes

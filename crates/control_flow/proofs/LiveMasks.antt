@@ -1,14 +1,16 @@
 -- What a `Flow` says of a slot of the code, by what it knows of all slots.
-use Rattle.std.proofs.Common.{◌≡◌, ℕ, Bool, List, sym, ap, ◌∙◌, subst}
-use Rattle.std.specs.Prelude.{◌↔◌, IsTrue}
+use Rattle.std.proofs.Common.{◌≡◌, ℕ, Bool, List, Result, sym, ap, ◌∙◌, subst}
+use Rattle.std.specs.Prelude.{◌↔◌, IsTrue, IfOk}
+use Rattle.std.proofs.lemmas.Result.{IfOk-weaker}
 use Rattle.isa_model.specs.declared.registers.Reg.{Reg}
 use Rattle.isa_model.specs.Code.Instructions.{Program}
 use Rattle.control_flow.specs.declared.homes.HomeMask.{HomeMask}
+use Rattle.control_flow.specs.declared.kept_numbers.KeptNumbers.{KeptNumbers}
 use Rattle.control_flow.specs.Endings.{EndsPlainly}
 use Rattle.control_flow.specs.Liveness.{Home, InRegister, InSlot, IsLive, IsSlotLive, IsHomeLive}
 use Rattle.control_flow.specs.TestedNumbers.{MayForgetNumbers, IsNumberTested}
-use Rattle.control_flow.specs.Masks.{HasRegister, HasSlot, HasHome, mask_at}
-use Rattle.control_flow.specs.Flows.{AreLiveMasks, IsMarked, MarksEndings, AreTestedMasks}
+use Rattle.control_flow.specs.Masks.{HasRegister, HasSlot, HasHome, AreWithin, mask_at}
+use Rattle.control_flow.specs.Flows.{AreLiveMasks, IsMarked, MarksEndings, AreTestedMasks, KeepsTested}
 
 -- the mask of a slot has the homes of which it holds there, if the masks of all slots do
 home_has : (Holds : Program → Home → ℕ → Type 0) (p q : Program) (masks items : List HomeMask)
@@ -51,6 +53,21 @@ pub slot_tested : (p q : Program) (masks items : List HomeMask) (m : HomeMask) (
 slot_tested p q masks items m slot same list is tested may j =
     home_has IsNumberTested p q masks items m slot same list is
     (tested (subst (λ x. MayForgetNumbers x) same may)) (InSlot j)
+
+-- what is kept is tested, where it is known what is
+pub keeps_tested : {E : Type 0} (p q : Program) (tested items : List HomeMask) (forgets : Bool)
+    (made : Result KeptNumbers E) → p ≡ q → tested ≡ items → IsTrue forgets ↔ MayForgetNumbers q
+    → (MayForgetNumbers q → AreTestedMasks q items)
+    → (IsTrue forgets → IfOk made (λ kept. AreWithin kept.masks.items tested))
+    → MayForgetNumbers p → IfOk made (KeepsTested p)
+keeps_tested p q tested items forgets made same list forget tests within may =
+    let known : MayForgetNumbers q = subst (λ (x : Program). MayForgetNumbers x) same may in
+    IfOk-weaker made (λ kept. AreWithin kept.masks.items tested) (KeepsTested p)
+    (λ kept inside h slot has.
+    subst (λ (x : Program). IsNumberTested x h slot) (sym same)
+    ((tests known h slot).0
+    (subst (λ (l : List HomeMask). HasHome (mask_at l slot) h) list (inside h slot has))))
+    (within (forget.1 known))
 
 -- ---- plain code
 

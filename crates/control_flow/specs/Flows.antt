@@ -9,7 +9,7 @@ use Rattle.control_flow.specs.Graph.{BeginsInsn, IsSecondHalf, jump_to, call_to,
 use Rattle.control_flow.specs.Functions.{SameFunction, EndsFunction}
 use Rattle.control_flow.specs.Masks.{HasHome, mask_at}
 use Rattle.control_flow.specs.Liveness.{Home, IsHomeLive}
-use Rattle.control_flow.specs.TestedNumbers.{MayForgetNumbers, IsNumberTested}
+use Rattle.control_flow.specs.TestedNumbers.{HasInput, MayForgetNumbers, IsNumberTested}
 use Rattle.control_flow.specs.Endings.{EndsPlainly}
 
 -- ---- good programs
@@ -94,10 +94,11 @@ abbrev pub MarksEndings : Program → List Bool → Type 0
 MarksEndings p marks = (slot : ℕ) → IsMarked marks slot ↔ EndsPlainly p slot
 
 pub record DescribesFlow (p : Program) (joins : List Bool) (masks : List HomeMask)
-    (forgets : Bool) (tested : List HomeMask) (endings : List Bool) : Type 0 where
+    (takes forgets : Bool) (tested : List HomeMask) (endings : List Bool) : Type 0 where
   pub flow : IsFlow p
   pub marked : MarksJoins p joins
   pub live : AreLiveMasks p masks
+  pub input : IsTrue takes ↔ HasInput p
   pub may_forget : IsTrue forgets ↔ MayForgetNumbers p
   -- these are empty where no number may be forgotten
   pub tests : MayForgetNumbers p → AreTestedMasks p tested

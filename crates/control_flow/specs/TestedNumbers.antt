@@ -29,10 +29,14 @@ TakesInput i = ⊥
 abbrev pub TakesInputAt : Program → ℕ → Type 0
 TakesInputAt p slot = (i : Insn) × (fetch p slot ≡ Some i) × TakesInput i
 
--- the program takes input, and calls no function of its own. All numbers of other programs stay
--- known
+-- an instruction of the program does. All numbers of other programs stay known
+abbrev pub HasInput : Program → Type 0
+HasInput p = (slot : ℕ) × TakesInputAt p slot
+
+-- the program takes input, and calls no function of its own: what a path in a function tests is all
+-- that matters then
 pub record MayForgetNumbers (p : Program) : Type 0 where
-  pub takes : (slot : ℕ) × TakesInputAt p slot
+  pub takes : HasInput p
   pub calls_none : (slot to : ℕ) → call_to p slot ≢ Some to
 
 -- ---- tests

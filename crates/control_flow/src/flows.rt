@@ -6,7 +6,7 @@ ghost use Rattle.control_flow.specs.Endings.{EndsPlainly};
 ghost use Rattle.control_flow.specs.Flows.{IsFlow, IsJoin, IsRefusal, Fails, AreTestedMasks, MarksEndings, KeepsTested};
 ghost use Rattle.control_flow.specs.Liveness.{InRegister, InSlot, IsLive, IsSlotLive};
 ghost use Rattle.control_flow.specs.StackUse.{FrameAddressIsTaken};
-ghost use Rattle.control_flow.specs.TestedNumbers.{MayForgetNumbers, IsNumberTested};
+ghost use Rattle.control_flow.specs.TestedNumbers.{HasInput, MayForgetNumbers, IsNumberTested};
 ghost use Rattle.control_flow.specs.Masks.{HasRegister, HasSlot};
 
 use crate::endings::endings_of;
@@ -17,7 +17,7 @@ use crate::kept_numbers::{KeptNumbers, kept_numbers};
 use crate::liveness::{live_homes, tested_homes};
 use crate::marks::is_marked;
 use crate::masks::RegisterMask;
-use crate::number_passes::may_forget_numbers;
+use crate::number_passes::{has_input, may_forget_numbers};
 use crate::reachability::{first_unreached, reached};
 use crate::slot_masks::SlotMask;
 use crate::stack_accesses::takes_frame_address;
@@ -36,7 +36,9 @@ pub struct Flow<'a> {
     joins: Vec<bool>,
     /// Says what is live at each slot.
     masks: Vec<HomeMask>,
-    /// Says whether numbers may be forgotten. If not, the fields below are empty.
+    /// Says whether the program takes input.
+    takes_input: bool,
+    /// Says whether numbers may be forgotten that no path tests. If not, the fields below are empty.
     forgets: bool,
     /// Of what the numbers are tested.
     tested: Vec<HomeMask>,
@@ -53,7 +55,7 @@ impl<'a> Model for Flow<'a> {
     ghost view = { λ flow. flow.image.now };
 
     ghost invariant = { λ flow. DescribesFlow flow.image.now flow.joins.items flow.masks.items
-        flow.forgets flow.tested.items flow.endings.items };
+        flow.takes_input flow.forgets flow.tested.items flow.endings.items };
 }
 
 /// Makes the tests in their order; each looks at the whole code.
@@ -134,6 +136,7 @@ impl<'a> Flow<'a> {
             image,
             joins,
             masks,
+            takes_input: has_input(image),
             forgets,
             tested,
             endings,
@@ -164,6 +167,13 @@ impl<'a> Flow<'a> {
         ensures { (j : ℕ) → HasSlot result j ↔ IsSlotLive self.now j slot }
     {
         mask_of(&self.masks, slot).slots
+    }
+
+    /// Returns whether a program takes input. A search forgets no numbers of other programs.
+    pub fn takes_input(&self) -> bool
+        ensures { IsTrue result ↔ HasInput self.now }
+    {
+        self.takes_input
     }
 
     /// Returns whether a verifier may forget numbers that do not matter: the program takes input,
@@ -200,8 +210,11 @@ impl<'a> Flow<'a> {
         is_marked(&self.endings, slot)
     }
 
-    /// Which numbers a verifier keeps once its search is long; a part of those that are tested.
-    pub fn kept_numbers(&self, alloc: Global) -> Result<KeptNumbers, AllocError> {
-        kept_numbers(alloc, self.image, &self.tested)
+    /// Which numbers a verifier keeps once its search is long. Where it is known which numbers are
+    /// tested, they are a part of those.
+    pub fn kept_numbers(&self, alloc: Global) -> Result<KeptNumbers, AllocError>
+        ensures { MayForgetNumbers self.now → IfOk result (KeepsTested self.now) }
+    {
+        kept_numbers(alloc, self.image, &self.tested, self.forgets)
     }
 }

@@ -7,6 +7,7 @@
 #![tactic(auto)]
 
 mod accesses;
+mod deciding;
 mod endings;
 pub mod errors;
 pub mod flows;

@@ -43,15 +43,23 @@ fn unfound_successor(nodes: &[Node], found: &[bool], slot: usize) -> Option<usiz
     }
 }
 
-/// For each slot the turn in which a depth-first walk leaves it. The walk takes a turn to find a
-/// slot, and one to leave it.
-fn turns_of(alloc: Global, nodes: &[Node]) -> Result<Vec<usize>, AllocError> {
-    let mut turns = vec![in alloc; 0; nodes.len()]?;
-    let mut walk = SlotSearch::new(alloc, nodes.len())?;
-    if nodes.is_empty() {
-        return Ok(turns);
+/// A walk that has found where each function of a program begins.
+fn walk_from(alloc: Global, functions: &[usize]) -> Result<SlotSearch, AllocError> {
+    let mut walk = SlotSearch::new(alloc, functions.len())?;
+    for slot in 0..functions.len() {
+        if functions[slot] == slot {
+            let beginning = unfound(&walk.found, Some(slot));
+            walk.find(beginning)?;
+        }
     }
-    walk.find(Some(0))?;
+    Ok(walk)
+}
+
+/// For each slot the turn in which a depth-first walk through each function leaves it. The walk
+/// takes a turn to find a slot, and one to leave it.
+fn turns_of(alloc: Global, nodes: &[Node], functions: &[usize]) -> Result<Vec<usize>, AllocError> {
+    let mut turns = vec![in alloc; 0; nodes.len()]?;
+    let mut walk = walk_from(alloc, functions)?;
     for turn in 0..2 * nodes.len() {
         let Some(slot) = walk.frontier.last().copied() else {
             break;
@@ -151,13 +159,13 @@ impl Loops {
         }
     }
 
-    /// The loops of a graph.
-    pub fn of(alloc: Global, nodes: &[Node]) -> Result<Self, AllocError>
+    /// The loops of a graph, where these are the functions that its slots belong to.
+    pub fn of(alloc: Global, nodes: &[Node], functions: &[usize]) -> Result<Self, AllocError>
         requires near { FallsNear nodes.now }
         requires inside { (slot to : ℕ) → jump_from nodes.now slot ≡ Some to → to < length nodes.now }
     {
         let sources = sources_of(alloc, nodes)?;
-        let turns = turns_of(alloc, nodes)?;
+        let turns = turns_of(alloc, nodes, functions)?;
         let mut loops = Loops {
             heads: heads_of(alloc, nodes, &turns)?,
             bodies: vec![in alloc; false; nodes.len()]?,

@@ -5,7 +5,7 @@ ghost use Rattle.isa_model.specs.declared.registers.Reg.{Reg as TheReg};
 ghost use Rattle.isa_model.specs.MustAccept.Paths.{IsOneOf};
 ghost use Rattle.control_flow.specs.Accesses.{read_registers};
 ghost use Rattle.control_flow.specs.Liveness.{Home};
-ghost use Rattle.control_flow.specs.TestedNumbers.{TakesInput, TakesInputAt, TestsNumbers, MayBeInSlot, MayReadSlot, MayWriteSlot, MayRead, MayWrite, MayForgetNumbers};
+ghost use Rattle.control_flow.specs.TestedNumbers.{TakesInput, TakesInputAt, TestsNumbers, MayBeInSlot, MayReadSlot, MayWriteSlot, MayRead, MayWrite, HasInput, MayForgetNumbers};
 ghost use Rattle.control_flow.specs.Masks.{HasHome, HasRegister, HasSlot};
 
 use crate::accesses::{registers_read, registers_written};
@@ -120,8 +120,20 @@ fn takes_input_at(image: &Image, slot: usize) -> bool
     }
 }
 
-/// Returns whether numbers of a program may be forgotten: it takes input, and calls no function of
-/// its own.
+/// Returns whether a program takes input.
+pub fn has_input(image: &Image) -> bool
+    ensures { IsTrue result ↔ HasInput image.now }
+{
+    for slot in 0..image.slots() {
+        if takes_input_at(image, slot) {
+            return true;
+        }
+    }
+    false
+}
+
+/// Returns whether numbers of a program may be forgotten that no path tests: it takes input, and
+/// calls no function of its own.
 pub fn may_forget_numbers(image: &Image) -> bool
     ensures { IsTrue result ↔ MayForgetNumbers image.now }
 {

@@ -15,7 +15,7 @@ use crate::sources::{Sources, sources_of};
 use std::alloc::{AllocError, Global};
 
 /// Returns what is wanted at a successor, if there is one.
-fn mask_behind(masks: &[HomeMask], to: Option<usize>) -> HomeMask
+pub fn mask_behind(masks: &[HomeMask], to: Option<usize>) -> HomeMask
     ensures { (h : Home) → HasHome result h ↔ HasBehind masks.now to h }
 {
     match to {

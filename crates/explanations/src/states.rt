@@ -2,7 +2,7 @@
 
 ghost use Rattle.std.specs.Prelude.{◌≡◌, IfOk};
 ghost use Rattle.std.specs.String.{string_bytes};
-ghost use Rattle.explanations.specs.States.{cut_line, lines_of};
+ghost use Rattle.explanations.specs.States.{limit_line, lines_of};
 
 use crate::cases::case_line;
 use crate::lines::{answer_line, register_lines, stack_lines, way_line};
@@ -12,16 +12,20 @@ use crate::unset::unset_lines;
 use image::Image;
 use isa_model::Insn;
 use std::alloc::{AllocError, Global};
-use walks::{Explanation, Refusal};
+use walks::{Explanation, Refusal, SearchLimit};
 
-/// If states were no longer compared, the line that says so.
-fn cut_line(is_cut_off: bool) -> &'static str
-    ensures { result.now ≡ cut_line is_cut_off }
+/// If the search had reached a limit, the line that says so.
+fn limit_line(limit: Option<SearchLimit>) -> &'static str
+    ensures { result.now ≡ limit_line limit }
 {
-    if is_cut_off {
-        "states could not be told apart any more: too many that are alike were stored\n"
-    } else {
-        ""
+    match limit {
+        Some(SearchLimit::Comparisons) => {
+            "states were no longer looked up: that had taken 250000000 comparisons\n"
+        }
+        Some(SearchLimit::StoredWords) => {
+            "states were no longer stored: those before had taken 15000000 words of 8 bytes\n"
+        }
+        None => "",
     }
 }
 
@@ -45,6 +49,6 @@ pub fn lines_of(
     let answer = answer_line(alloc, &found.state, refusal)?;
     let stack = stack_lines(alloc, image.maps(), &found.state, insn)?;
     let way = way_line(alloc, found.way.as_slice())?;
-    let cut = cut_line(found.is_cut_off);
-    format!(in alloc; "{registers}{unset}{case}{taken}{turns}{answer}{stack}{way}{cut}")
+    let limit = limit_line(found.limit);
+    format!(in alloc; "{registers}{unset}{case}{taken}{turns}{answer}{stack}{way}{limit}")
 }

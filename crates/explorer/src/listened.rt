@@ -26,7 +26,7 @@ use image::Image;
 use isa_model::MAX_EXPLORED;
 use std::alloc::Global;
 use std::mem;
-use walks::Refusal;
+use walks::{Refusal, SearchLimit};
 
 /// The control flow of a program, and a search that is at its start; or why there is no search, and
 /// the slot.
@@ -56,9 +56,8 @@ pub struct Searched<S> {
     pub result: Result<u32, Halt<S>>,
     /// The states that were stored, by the indexes that the listener was given.
     pub stored: Vec<StoredState>,
-    /// Says whether the limit of look-ups or of stored states was reached: from then on states were
-    /// not compared, and each was explored as a new one.
-    pub is_cut_off: bool,
+    /// The limit of the search that was reached, if one was.
+    pub limit: Option<SearchLimit>,
 }
 
 impl<S: Drop> Searched<S> {
@@ -69,7 +68,7 @@ impl<S: Drop> Searched<S> {
         Searched {
             result: ended,
             stored: mem::replace(&mut search.states.states, Vec::new(alloc)),
-            is_cut_off: search.states.is_cut_off(),
+            limit: search.states.limit(),
         }
     }
 
@@ -80,7 +79,7 @@ impl<S: Drop> Searched<S> {
         Searched {
             result: Err(halt),
             stored: Vec::new(alloc),
-            is_cut_off: false,
+            limit: None,
         }
     }
 }

@@ -25,7 +25,7 @@ pub fn lengthen(
     ensures exact { IsTrue is_exact → kept.new ≡ kept.old }
     ensures coarser { IsNoFiner (precision_in kept.new) (precision_in kept.old) }
 {
-    if explored == LONG_SEARCH && !is_exact && flow.forgets_numbers() {
+    if explored == LONG_SEARCH && !is_exact && flow.takes_input() {
         *kept = Some(flow.kept_numbers(alloc)?);
     }
     Ok(())

@@ -16,6 +16,7 @@ use stack_state::State;
 use state_cover::covers;
 use state_index::{Effort, Key, LONG_SCAN, OwnShape, StateIndex};
 use std::alloc::{AllocError, Global};
+use walks::SearchLimit;
 
 /// A state that was met at a join, with its number: 0 until it is finished.
 #[derive(Drop)]
@@ -110,9 +111,15 @@ impl StoredStates {
         }
     }
 
-    /// Returns whether some states are no longer looked up, or no longer stored.
-    pub fn is_cut_off(&self) -> bool {
-        self.is_over || self.is_full
+    /// The limit that is reached, if one is.
+    pub fn limit(&self) -> Option<SearchLimit> {
+        if self.is_over {
+            Some(SearchLimit::Comparisons)
+        } else if self.is_full {
+            Some(SearchLimit::StoredWords)
+        } else {
+            None
+        }
     }
 
     /// The state that was stored last.

@@ -18,7 +18,7 @@ use explorer::{Halt, Listener, search_with};
 use image::Image;
 use stack_state::State;
 use std::alloc::{AllocError, Global};
-use walks::{Explanation, Jump, MOST_JUMPS, Refusal};
+use walks::{Explanation, Jump, MOST_JUMPS, Refusal, SearchLimit};
 
 /// Adds a jump at the end; a full list loses its first one.
 fn note(way: &mut ArrayVec<Jump, 8>, jump: Jump)
@@ -89,9 +89,9 @@ impl<'a> Follower<'a> {
         self.turns.leave(self.slots.len());
     }
 
-    /// Returns what is known at the end of the path, which is at this slot, and whether states were
-    /// no longer compared. None: another path was asked for.
-    fn into_explanation(self, slot: usize, is_cut_off: bool) -> Option<Explanation>
+    /// Returns what is known at the end of the path, which is at this slot, and the limit that was
+    /// reached. None: another path was asked for.
+    fn into_explanation(self, slot: usize, limit: Option<SearchLimit>) -> Option<Explanation>
         ensures { IfSome result (λ x. (how : Precision) (p : Program)
             (before : List TheState) (s : TheState)
             → HasFollowed how self.entry.image.now self.entry.slots.items self.entry.slot
@@ -118,7 +118,7 @@ impl<'a> Follower<'a> {
             earlier,
             way,
             slots: self.slots,
-            is_cut_off,
+            limit,
         })
     }
 }
@@ -200,10 +200,10 @@ pub fn explain(alloc: Global, image: &Image, refusal: Refusal, slot: usize) -> O
     image.recall();
     let mut follower = Follower::new(alloc, image, slot);
     let searched = search_with(alloc, image, &mut follower);
-    let is_cut_off = searched.is_cut_off;
+    let limit = searched.limit;
     match refusal_in(searched.result) {
         Some((found, at)) if are_one(found, refusal) && at == slot => {
-            follower.into_explanation(slot, is_cut_off)
+            follower.into_explanation(slot, limit)
         }
         _ => None,
     }

@@ -258,7 +258,7 @@ pub fn explore(alloc: Global, image: &Image) -> Result<Explored, (Refusal, usize
     let Searched {
         result,
         mut stored,
-        is_cut_off: _,
+        limit: _,
     } = search_with(alloc, image, &mut lister);
     match result {
         Ok(number) => {

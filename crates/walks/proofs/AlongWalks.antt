@@ -27,7 +27,7 @@ use Rattle.transfer.specs.declared.Ways.{Ways}
 use Rattle.transfer.specs.declared.Ways.TheVariants as ways
 use Rattle.walks.specs.Walks.{IsAmong, StepsTo, HasSteps}
 use Rattle.control_flow.specs.Liveness.{IsLive, IsSlotLive, IsHomeLive}
-use Rattle.control_flow.specs.TestedNumbers.{MayForgetNumbers, TakesInput}
+use Rattle.control_flow.specs.TestedNumbers.{HasInput, TakesInput}
 use Rattle.walks.specs.Forgetting.{Coarse, DeadForgotten, Forgets}
 use Rattle.walks.specs.Counts.{AreForgotten, StepsInto}
 use Rattle.walks.proofs.DeadForgottenLaws.{DeadForgotten-slot, DeadForgotten-depth, DeadForgotten-live, DeadForgotten-stack_slot_live}
@@ -45,9 +45,9 @@ takes_none (CallHelper number) form takes = absurd form
 takes_none i form takes = absurd takes
 
 -- so none of their numbers is forgotten
-numbers_known : (p : Program) (steps : ℕ) → IsDetermined p steps → MayForgetNumbers p → ⊥
-numbers_known p steps d may =
-    let at = may.takes.1 in takes_none at.0 (d.forms may.takes.0 at.0 at.1) at.2
+numbers_known : (p : Program) (steps : ℕ) → IsDetermined p steps → HasInput p → ⊥
+numbers_known p steps d takes =
+    let at = takes.1 in takes_none at.0 (d.forms takes.0 at.0 at.1) at.2
 
 -- ---- beside the run
 

@@ -17,7 +17,7 @@ use Rattle.stack_state.specs.Places.{kind_of}
 use Rattle.branch_refine.specs.Refining.{IsNumberKind}
 use Rattle.control_flow.specs.Flows.{IsJoin}
 use Rattle.control_flow.specs.Liveness.{IsLive}
-use Rattle.control_flow.specs.TestedNumbers.{MayForgetNumbers}
+use Rattle.control_flow.specs.TestedNumbers.{HasInput}
 use Rattle.transfer.specs.declared.Ways.{Ways}
 use Rattle.transfer.specs.declared.Ways.TheVariants as ways
 use Rattle.transfer.specs.Leading.{LeadsTo, InSome}
@@ -97,7 +97,7 @@ callers_forgotten p a b k f below =
     (f.dead.callers.each k below)
 
 -- only what is dead is forgotten
-pub Forgets-dead : {how : Precision} (p : Program) (a b : State) → (MayForgetNumbers p → ⊥)
+pub Forgets-dead : {how : Precision} (p : Program) (a b : State) → (HasInput p → ⊥)
     → Forgets how p a b
     → DeadForgotten p a b
 Forgets-dead p a b none f =

@@ -12,13 +12,13 @@ use Rattle.control_flow.specs.declared.masks.RegisterMask.{RegisterMask}
 use Rattle.control_flow.specs.declared.slot_masks.SlotMask.{SlotMask}
 use Rattle.control_flow.specs.Masks.{HasRegister, HasSlot}
 use Rattle.control_flow.specs.Flows.{IsJoin}
-use Rattle.control_flow.specs.TestedNumbers.{MayForgetNumbers}
+use Rattle.control_flow.specs.TestedNumbers.{HasInput}
 use Rattle.walks.specs.Forgetting.{slots_in, Coarse, IsKept, IsSlotKept, DeadForgotten, Forgets, KnowsNumbersOf, KeepsNumbersOf, ForgetsNumbersBeside, ForgetsNumbersIn}
 use Rattle.walks.proofs.NumberLoops.{AreNumbersKept-beside, AreSpilledNumbersKept-in, any_left, none_left, with_frame}
 
 -- what is dead is forgotten, and then all numbers but those that are kept
 pub forgets_beside : (p : Program) (a m : State) (Kept : Reg → Type 0) (Chosen : ℕ → Type 0)
-    (ks : List Kind) (slots : List StackSlot) → MayForgetNumbers p → IsJoin p m.slot
+    (ks : List Kind) (slots : List StackSlot) → HasInput p → IsJoin p m.slot
     → DeadForgotten p a m → ForgetsNumbersBeside Kept (registers_of m) ks
     → ForgetsNumbersIn Chosen (slots_in m) slots → Forgets Coarse p a (with_frame m ks slots)
 forgets_beside p a m Kept Chosen ks slots may join dead registers own = record {

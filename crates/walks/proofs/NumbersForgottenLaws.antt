@@ -26,9 +26,9 @@ use Rattle.branch_refine.specs.Refining.{IsNumberKind}
 use Rattle.control_flow.specs.Flows.{IsJoin}
 use Rattle.control_flow.specs.Endings.{EndsPlainly}
 use Rattle.control_flow.specs.Liveness.{Home, InRegister, InSlot, IsLive}
-use Rattle.control_flow.specs.TestedNumbers.{MayForgetNumbers, IsNumberTested}
+use Rattle.control_flow.specs.TestedNumbers.{HasInput, IsNumberTested}
 use Rattle.transfer.specs.Following.{returns_of}
-use Rattle.walks.specs.Forgetting.{IsNumberKept, IsSpilledNumberKept, slots_in, MayForgetAll, Precision, Exact, Coarse, MayBeLost, MayForgetNumber, NumbersForgotten}
+use Rattle.walks.specs.Forgetting.{IsNumberKept, IsSpilledNumberKept, slots_in, MayForgetAll, Precision, Exact, Coarse, MayForgetIn, MayBeLost, MayForgetNumber, NumbersForgotten}
 use Rattle.walks.proofs.DeadForgottenLaws.{frame_keeps, frames_keep}
 
 -- ---- what stays
@@ -105,24 +105,29 @@ NumbersForgotten-alone p a b r f own alone = elim (NumbersForgotten-each p a b r
   | inr gone ↦ absurd (alone gone.0.1)
 ]
 
--- and so it is in a program whose numbers may not be forgotten
+-- only programs with input have numbers that may be forgotten
+has_input : (how : Precision) (p : Program) → MayForgetIn how p → HasInput p
+has_input Exact p may = may.takes
+has_input Coarse p takes = takes
+
+-- so all stay in a program without
 pub AreNumbersKept-none : {how : Precision} (p : Program) (a b : State) (r : Reg)
     → NumbersForgotten how p a b
-    → (MayForgetNumbers p → ⊥) → r ≢ R10
+    → (HasInput p → ⊥) → r ≢ R10
     → kind_at (registers_of b) (reg_number r) ≡ kind_at (registers_of a) (reg_number r)
-AreNumbersKept-none p a b r f none own = elim (f.registers.each r own) [
+AreNumbersKept-none {how = how} p a b r f none own = elim (f.registers.each r own) [
   | inl same ↦ same
-  | inr gone ↦ absurd (none gone.0.0)
+  | inr gone ↦ absurd (none (has_input how p gone.0.0))
 ]
 
 -- ---- what is known of stack slots
 
 pub AreSpilledNumbersKept-none : {how : Precision} (p : Program) (a b : State) (j : ℕ)
     → NumbersForgotten how p a b
-    → (MayForgetNumbers p → ⊥) → j < 64 → slot_at (slots_in b) j ≡ slot_at (slots_in a) j
-AreSpilledNumbersKept-none p a b j f none below = elim (f.slots.each j below) [
+    → (HasInput p → ⊥) → j < 64 → slot_at (slots_in b) j ≡ slot_at (slots_in a) j
+AreSpilledNumbersKept-none {how = how} p a b j f none below = elim (f.slots.each j below) [
   | inl same ↦ same
-  | inr gone ↦ absurd (none gone.0.0)
+  | inr gone ↦ absurd (none (has_input how p gone.0.0))
 ]
 
 -- where no value was spilled, the stack slot stays as it is

@@ -7,7 +7,7 @@ use Rattle.stack_state.specs.declared.slots.StackSlot.{StackSlot}
 use Rattle.stack_state.specs.declared.states.State.{State}
 use Rattle.control_flow.specs.Liveness.{Home, InRegister, InSlot}
 use Rattle.transfer.specs.declared.refusals.Refusal.{Refusal}
-use Rattle.walks.specs.Forgetting.{Precision, Exact, Coarse, IsNoFiner, MayBeLost, IsNumberKept, IsSpilledNumberKept, NumbersForgotten, Forgets}
+use Rattle.walks.specs.Forgetting.{Precision, Exact, Coarse, IsNoFiner, MayForgetIn, MayBeLost, IsNumberKept, IsSpilledNumberKept, NumbersForgotten, Forgets}
 use Rattle.walks.specs.Walks.{StepsTo, HasSteps, WalksTo, IsStuck, ComesBack}
 
 -- no walks are finer than exact ones
@@ -20,6 +20,13 @@ IsNoFiner-trans Coarse b c one other = tt
 IsNoFiner-trans Exact Exact c one other = other
 IsNoFiner-trans Exact Coarse c one other = absurd one
 
+MayForgetIn-as : (to how : Precision) (p : Program) → IsNoFiner to how → MayForgetIn how p
+    → MayForgetIn to p
+MayForgetIn-as Coarse Exact p fine may = may.takes
+MayForgetIn-as Coarse Coarse p fine may = may
+MayForgetIn-as Exact Exact p fine may = may
+MayForgetIn-as Exact Coarse p fine may = absurd fine
+
 MayBeLost-as : (to how : Precision) (p : Program) (s : State) (h : Home) → IsNoFiner to how
     → MayBeLost how p s h → MayBeLost to p s h
 MayBeLost-as Coarse how p s h fine lost = tt
@@ -31,7 +38,11 @@ IsNumberKept-as : (to how : Precision) (p : Program) (s : State) (r : Reg) (befo
 IsNumberKept-as to how p s r before after fine (inl same) = inl same
 IsNumberKept-as to how p s r before after fine (inr gone) =
     inr (
-      (gone.0.0, gone.0.1, MayBeLost-as to how p s (InRegister r) fine gone.0.2),
+      (
+        MayForgetIn-as to how p fine gone.0.0,
+        gone.0.1,
+        MayBeLost-as to how p s (InRegister r) fine gone.0.2,
+      ),
       gone.1,
       gone.2,
     )
@@ -42,7 +53,11 @@ IsSpilledNumberKept-as : (to how : Precision) (p : Program) (s : State) (j : ℕ
 IsSpilledNumberKept-as to how p s j before after fine (inl same) = inl same
 IsSpilledNumberKept-as to how p s j before after fine (inr gone) =
     inr (
-      (gone.0.0, gone.0.1, MayBeLost-as to how p s (InSlot j) fine gone.0.2),
+      (
+        MayForgetIn-as to how p fine gone.0.0,
+        gone.0.1,
+        MayBeLost-as to how p s (InSlot j) fine gone.0.2,
+      ),
       gone.1,
       gone.2,
     )

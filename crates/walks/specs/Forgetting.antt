@@ -21,7 +21,7 @@ use Rattle.control_flow.specs.declared.slot_masks.SlotMask.{SlotMask}
 use Rattle.control_flow.specs.Masks.{HasRegister, HasSlot}
 use Rattle.control_flow.specs.Flows.{IsJoin}
 use Rattle.control_flow.specs.Liveness.{Home, InRegister, InSlot, IsLive, IsSlotLive}
-use Rattle.control_flow.specs.TestedNumbers.{MayForgetNumbers, IsNumberTested}
+use Rattle.control_flow.specs.TestedNumbers.{HasInput, MayForgetNumbers, IsNumberTested}
 use Rattle.control_flow.specs.Endings.{EndsPlainly}
 
 -- the slot is a join at which the register is dead
@@ -118,6 +118,11 @@ pub data Precision : Type 0 where
   Exact : Precision
   Coarse : Precision
 
+-- in which programs numbers may be forgotten: coarse walks may forget those of each call frame
+abbrev pub MayForgetIn : Precision → Program → Type 0
+MayForgetIn Exact p = MayForgetNumbers p
+MayForgetIn Coarse p = HasInput p
+
 -- no path from the state tests the number that is there, or all numbers of the state may be
 -- forgotten; in coarse walks any number may be
 abbrev pub MayBeLost : Precision → Program → State → Home → Type 0
@@ -126,7 +131,7 @@ MayBeLost Coarse p s h = Unit {0}
 
 -- the state is at a join, and the number that is there may be forgotten
 abbrev pub MayForgetNumber : Precision → Program → State → Home → Type 0
-MayForgetNumber how p s h = MayForgetNumbers p × IsJoin p s.slot × MayBeLost how p s h
+MayForgetNumber how p s h = MayForgetIn how p × IsJoin p s.slot × MayBeLost how p s h
 
 -- what walks of the second precision forget, those of the first may forget too
 abbrev pub IsNoFiner : Precision → Precision → Type 0
@@ -201,7 +206,7 @@ KnowsNoNumber s =
 -- at a join no number is known but in these registers and stack slots
 abbrev pub KnowsNumbersOf : RegisterMask → SlotMask → Program → State → Type 0
 KnowsNumbersOf registers slots p s =
-    MayForgetNumbers p → IsJoin p s.slot
+    HasInput p → IsJoin p s.slot
     → ((r : Reg) → r ≢ R10 → (¬ HasRegister registers r)
     → IsNumberKind (kind_at (registers_of s) (reg_number r))
     → IsAnyNumber (kind_at (registers_of s) (reg_number r)))

@@ -13,6 +13,16 @@ pub struct Jump {
     pub to: usize,
 }
 
+/// Says which limit of a search was reached.
+#[derive(Clone, Copy)]
+pub enum SearchLimit {
+    /// That of comparisons: from then on states were neither looked up nor stored, and each was
+    /// explored as a new one.
+    Comparisons,
+    /// That of words that stored states take: from then on no state was stored.
+    StoredWords,
+}
+
 /// Says what is known where a program is refused.
 #[derive(Drop)]
 pub struct Explanation {
@@ -25,7 +35,6 @@ pub struct Explanation {
     pub way: ArrayVec<Jump, 8>,
     /// The slots of all states on the path there, the first one first.
     pub slots: Vec<usize>,
-    /// Says whether the limit of look-ups or of stored states was reached: from then on states were
-    /// not compared, and each was explored as a new one.
-    pub is_cut_off: bool,
+    /// The limit that the search had reached, if it had reached one.
+    pub limit: Option<SearchLimit>,
 }

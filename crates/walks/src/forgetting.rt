@@ -133,7 +133,7 @@ pub fn forget_beside(
     ensures keeps { KeepsNumbersOf registers slots flow.now state.old state.new }
 {
     forget_dead(flow, has_called, state);
-    if flow.forgets_numbers() && flow.is_join(state.slot) {
+    if flow.takes_input() && flow.is_join(state.slot) {
         let frame = &mut state.innermost;
         forget_registers_beside(registers, &mut frame.registers);
         forget_slots_of(SlotMask::all().without(slots), &mut frame.stack);

@@ -12,6 +12,6 @@ pub mod forgetting;
 mod numbers;
 pub mod refusals;
 
-pub use explained::{Explanation, Jump, MOST_JUMPS};
+pub use explained::{Explanation, Jump, MOST_JUMPS, SearchLimit};
 pub use forgetting::{forget, forget_all, forget_beside, kept_slots, may_forget_all};
 pub use refusals::Refusal;

@@ -339,8 +339,8 @@ pub fn entry(code: &str) -> Option<&'static str>
              333333 to 4294967295\n    \
              # r3 from turn to turn: number 333332, then number 333333\n    \
              # way: 4 -> 3, 8 times\n    \
-             # states could not be told apart any more: too many that are alike \
-             were stored\n            \
+             # states were no longer stored: those before had taken 15000000 words \
+             of 8 bytes\n            \
              r2 = *(u32 *)(r1 + 12)\n            \
              r0 = 2\n            \
              r3 = 0\n    \

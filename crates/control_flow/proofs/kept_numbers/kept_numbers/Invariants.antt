@@ -1,5 +1,6 @@
+use Rattle.std.specs.Prelude.{IsTrue}
 use Rattle.control_flow.proofs.KeptMasks.{AreWithinBelow}
 use Rattle.control_flow.proofs.kept_numbers.kept_numbers.Given as goal
 
 abbrev pub invariant-loop-slot : goal.invariant-loop-slot
-invariant-loop-slot l = AreWithinBelow l.slot l.masks.items l.tested
+invariant-loop-slot l = IsTrue l.known → AreWithinBelow l.slot l.masks.items l.tested

@@ -3,11 +3,11 @@ use Rattle.control_flow.specs.Masks.{HasRegister, HasSlot}
 use Rattle.walks.proofs.NumberLoops.{forgets_dead}
 use Rattle.walks.proofs.KeptNumbersLaws.{forgets_beside, knows_beside, keeps_beside, keeps_dead}
 use Rattle.walks.proofs.forgetting.forget_beside.Goals as goal
-use Rattle.walks.proofs.forgetting.forget_beside.Goals.{else-forgets_numbers-via-then-forgets_numbers+else-is_join, else-forgets_numbers-via-else-forgets_numbers}
+use Rattle.walks.proofs.forgetting.forget_beside.Goals.{else-takes_input-via-then-takes_input+else-is_join, else-takes_input-via-else-takes_input}
 
 pub returns-then-is_join-clause-forgets : goal.returns-then-is_join-clause-forgets
 returns-then-is_join-clause-forgets c =
-    let may = c.forgets_numbers.ensures.0 c.if-forgets_numbers.true in
+    let may = c.takes_input.ensures.0 c.if-takes_input.true in
     forgets_beside c.args.flow.now c.args.state.now c.forget_dead.new.state
     (HasRegister c.args.registers) (HasSlot c.without.result)
     c.forget_registers_beside.new.registers
@@ -29,19 +29,19 @@ returns-then-is_join-clause-keeps c =
     c.forget_slots_of.new.stack.slots (λ j chosen. ((c.without.ensures j).0 chosen).1)
     c.forget_dead.ensures c.forget_registers_beside.ensures c.forget_slots_of.ensures
 
-pub returns-else-forgets_numbers-clause-forgets : goal.returns-else-forgets_numbers-clause-forgets
-returns-else-forgets_numbers-clause-forgets c =
+pub returns-else-takes_input-clause-forgets : goal.returns-else-takes_input-clause-forgets
+returns-else-takes_input-clause-forgets c =
     forgets_dead c.args.flow.now c.args.state.now _ c.forget_dead.ensures
 
-pub returns-else-forgets_numbers-clause-all : goal.returns-else-forgets_numbers-clause-all
-returns-else-forgets_numbers-clause-all c = λ may join. elim c.else-forgets_numbers.branch [
-  | else-forgets_numbers-via-then-forgets_numbers+else-is_join w ↦
+pub returns-else-takes_input-clause-all : goal.returns-else-takes_input-clause-all
+returns-else-takes_input-clause-all c = λ may join. elim c.else-takes_input.branch [
+  | else-takes_input-via-then-takes_input+else-is_join w ↦
       absurd (iff_false w.is_join.ensures.join w.if-is_join.false join)
-  | else-forgets_numbers-via-else-forgets_numbers w ↦
-      absurd (iff_false c.forgets_numbers.ensures w.if-forgets_numbers.false may)
+  | else-takes_input-via-else-takes_input w ↦
+      absurd (iff_false c.takes_input.ensures w.if-takes_input.false may)
 ]
 
-pub returns-else-forgets_numbers-clause-keeps : goal.returns-else-forgets_numbers-clause-keeps
-returns-else-forgets_numbers-clause-keeps c =
+pub returns-else-takes_input-clause-keeps : goal.returns-else-takes_input-clause-keeps
+returns-else-takes_input-clause-keeps c =
     keeps_dead c.args.flow.now c.args.state.now _ c.args.registers c.args.slots
     c.forget_dead.ensures

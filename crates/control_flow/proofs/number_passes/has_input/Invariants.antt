@@ -1,0 +1,6 @@
+use Rattle.std.proofs.Common.{ℕ, ◌<◌}
+use Rattle.control_flow.specs.TestedNumbers.{TakesInputAt}
+use Rattle.control_flow.proofs.number_passes.has_input.Given as goal
+
+abbrev pub invariant-loop-slot : goal.invariant-loop-slot
+invariant-loop-slot l = (k : ℕ) → k < l.slot → ¬ TakesInputAt l.image k
