@@ -30,11 +30,11 @@ use walks::{Refusal, SearchLimit};
 
 /// The control flow of a program, and a search that is at its start; or why there is no search, and
 /// the slot.
-fn prepared(alloc: Global, image: &Image) -> Result<(Flow<'_>, Search), Refused>
+fn prepared(alloc: Global, image: &Image) -> Result<(Flow<'_>, Box<Search>), Refused>
     ensures whole { IfOk result (λ _. IsImage image.now) }
     ensures good { IfOk result (λ _. IsFlow image.now) }
     ensures image { IfOk result (λ made. made.0 ≡ image.now) }
-    ensures new { IfOk result (λ made. IsNew made.1) }
+    ensures new { IfOk result (λ made. IsNew made.1.value) }
     ensures refused { IfErr result (λ r. IsRefused image.now r.0 r.1) }
     ensures early { IfErr result (λ r. IsOutsideSearch r.0) }
 {
@@ -62,7 +62,7 @@ pub struct Searched<S> {
 
 impl<S: Drop> Searched<S> {
     /// A search that ended so.
-    fn of(alloc: Global, ended: Result<u32, Halt<S>>, mut search: Search) -> Self
+    fn of(alloc: Global, ended: Result<u32, Halt<S>>, search: &mut Search) -> Self
         ensures { result.result ≡ ended }
     {
         Searched {
@@ -101,13 +101,13 @@ fn find_bound<L: Listener>(
     alloc: Global,
     image: &Image,
     flow: &Flow<'_>,
-    mut search: Search,
+    search: &mut Search,
     listener: &mut L,
 ) -> Searched<L::Stop>
     requires image { flow.now ≡ image.now }
     requires whole { IsImage image.now }
     requires good { IsFlow flow.now }
-    requires new { IsNew search }
+    requires new { IsNew search.old }
     requires untold { (how : Precision) → (last : TheState)
         × L.follows listener.old how flow.now [] last }
     ensures within { IfOk result.result (λ n. Within flow.now start n) }
@@ -125,11 +125,9 @@ fn find_bound<L: Listener>(
     if let Err(stop) = listener.begins_anew() {
         return Searched::early(alloc, Halt::Stopped(stop));
     }
-    let Search { states, .. } = search;
-    let Ok(states) = states.anew(alloc, image.slots()) else {
+    let Ok(()) = search.begin_anew(alloc, image.slots()) else {
         return Searched::early(alloc, Halt::Refused(Refusal::Memory, 0));
     };
-    let mut search = Search::over(alloc, states);
     let result = search.explore(alloc, image, flow, true, listener);
     Searched::of(alloc, result, search)
 }
@@ -152,7 +150,7 @@ pub fn search_with<L: Listener>(alloc: Global, image: &Image, listener: &mut L) 
         (EndsAsPrecise image.now (λ how. L.follows listener.new how image.now))) }
 {
     match prepared(alloc, image) {
-        Ok((flow, search)) => find_bound(alloc, image, &flow, search, listener),
+        Ok((flow, mut search)) => find_bound(alloc, image, &flow, &mut search, listener),
         Err((refusal, slot)) => Searched::early(alloc, Halt::Refused(refusal, slot)),
     }
 }

@@ -44,28 +44,41 @@ pub struct Search {
 }
 
 impl Search {
-    /// A search at the start, where these are the stored states.
-    pub fn over(alloc: Global, states: StoredStates) -> Self
-        ensures states { result.states ≡ states }
-        ensures new { states.states.items ≡ [] → IsNew result }
+    /// A search at the start of code of this number of slots. It is large, so it is on the heap, and
+    /// it is made out of line: its place on the machine's stack is free again when a search begins.
+    #[inline(never)]
+    pub fn new(alloc: Global, slots: usize) -> Result<Box<Self>, AllocError>
+        ensures new { IfOk result (λ search. IsNew search.value) }
+        ensures room { IfOk result (λ search. HasShapeRoom search.value.states.index slots) }
     {
-        Search {
+        let states = StoredStates::new(alloc, slots)?;
+        let search = Search {
             states,
             path: Trail::new(alloc),
             finished: 0,
             current: State::start(),
             scratch: State::start(),
             kept: None,
+        };
+        // No `?`, which would move the search on the machine's stack.
+        match Box::new(alloc, search) {
+            Ok(search) => Ok(search),
+            Err(_) => Err(AllocError),
         }
     }
 
-    /// A search at the start of code of this number of slots.
-    pub fn new(alloc: Global, slots: usize) -> Result<Self, AllocError>
-        ensures new { IfOk result (λ search. IsNew search) }
-        ensures room { IfOk result (λ search. HasShapeRoom search.states.index slots) }
+    /// Goes back to the start, without stored states. What these took and what looking them up has
+    /// cost counts.
+    #[inline(never)]
+    pub fn begin_anew(&mut self, alloc: Global, slots: usize) -> Result<(), AllocError>
+        ensures { OnOk result (IsNew self.new) }
     {
-        let states = StoredStates::new(alloc, slots)?;
-        Ok(Search::over(alloc, states))
+        self.states.begin_anew(alloc, slots)?;
+        self.path = Trail::new(alloc);
+        self.finished = 0;
+        self.current = State::start();
+        self.kept = None;
+        Ok(())
     }
 
     /// The path arrives at the current state, which may have been kept before.

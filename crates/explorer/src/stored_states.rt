@@ -92,15 +92,15 @@ impl StoredStates {
         })
     }
 
-    /// No states yet, where what these took and what looking them up has cost counts.
-    pub fn anew(self, alloc: Global, slots: usize) -> Result<Self, AllocError>
-        ensures empty { IfOk result (λ stored. stored.states.items ≡ []) }
+    /// Drops the states. What these took and what looking them up has cost counts.
+    pub fn begin_anew(&mut self, alloc: Global, slots: usize) -> Result<(), AllocError>
+        ensures empty { OnOk result (self.new.states.items ≡ []) }
     {
-        let StoredStates { effort, words, .. } = self;
-        let mut states = StoredStates::new(alloc, slots)?;
-        states.effort = effort;
-        states.words = words;
-        Ok(states)
+        let (effort, words) = (self.effort, self.words);
+        *self = StoredStates::new(alloc, slots)?;
+        self.effort = effort;
+        self.words = words;
+        Ok(())
     }
 
     /// Returns whether so many states of a slot are finished that others are likely to come.

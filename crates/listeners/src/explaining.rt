@@ -1,6 +1,6 @@
 //! What is known where a program is refused, and the path there.
 
-ghost use Rattle.std.specs.Prelude.{◌≡◌, ◌<◌, [], ◌∷◌, ◌++◌, drop, length, List, Err, IfSome, IsTrue};
+ghost use Rattle.std.specs.Prelude.{◌≡◌, ◌<◌, [], ◌∷◌, ◌++◌, drop, length, List, Err, IfOk, IfSome, IsTrue};
 ghost use Rattle.isa_model.specs.Code.Instructions.{Program};
 ghost use Rattle.stack_state.specs.declared.states.State.{State as TheState};
 ghost use Rattle.walks.specs.Forgetting.{Precision};
@@ -18,6 +18,7 @@ use explorer::{Halt, Listener, search_with};
 use image::Image;
 use stack_state::State;
 use std::alloc::{AllocError, Global};
+use std::mem;
 use walks::{Explanation, Jump, MOST_JUMPS, Refusal, SearchLimit};
 
 /// Adds a jump at the end; a full list loses its first one.
@@ -61,18 +62,26 @@ struct Follower<'a> {
 }
 
 impl<'a> Follower<'a> {
-    /// A follower before the search.
-    fn new(alloc: Global, image: &'a Image, slot: usize) -> Self
-        ensures slot { result.slot ≡ slot }
-        ensures image { result.image.now ≡ image.now }
-        ensures nothing { (how : Precision) → (s : TheState) × HasFollowed how result.image.now
-            result.slots.items result.slot result.turns image.now [] s }
+    /// A follower before the search. It has two states, so it is on the heap, and it is made out of
+    /// line.
+    #[inline(never)]
+    fn new(alloc: Global, image: &'a Image, slot: usize) -> Result<Box<Self>, AllocError>
+        ensures slot { IfOk result (λ f. f.value.slot ≡ slot) }
+        ensures image { IfOk result (λ f. f.value.image.now ≡ image.now) }
+        ensures nothing { IfOk result (λ f. (how : Precision) → (s : TheState)
+            × HasFollowed how f.value.image.now f.value.slots.items f.value.slot f.value.turns
+            image.now [] s) }
     {
-        Follower {
+        let follower = Follower {
             image,
             slots: Vec::new(alloc),
             slot,
             turns: Turns::new(),
+        };
+        // No `?`, which would move the follower on the machine's stack.
+        match Box::new(alloc, follower) {
+            Ok(follower) => Ok(follower),
+            Err(_) => Err(AllocError),
         }
     }
 
@@ -89,19 +98,13 @@ impl<'a> Follower<'a> {
         self.turns.leave(self.slots.len());
     }
 
-    /// Returns what is known at the end of the path, which is at this slot, and the limit that was
-    /// reached. None: another path was asked for.
-    fn into_explanation(self, slot: usize, limit: Option<SearchLimit>) -> Option<Explanation>
-        ensures { IfSome result (λ x. (how : Precision) (p : Program)
+    /// Returns the last jumps of the path. None: no instruction begins at one of its slots.
+    fn way(&self) -> Option<ArrayVec<Jump, 8>>
+        ensures { IfSome result (λ way. (how : Precision) (p : Program)
             (before : List TheState) (s : TheState)
-            → HasFollowed how self.entry.image.now self.entry.slots.items self.entry.slot
-            self.entry.turns p (s ∷ before) s
-            → s.slot ≡ slot → (x.state ≡ s) × IsLed how p s x.way.items
-            × IsTurnBefore how p s x.earlier × ComesThrough how p s x.slots.items) }
+            → HasFollowed how self.now.image.now self.now.slots.items self.now.slot self.now.turns
+            p (s ∷ before) s → IsLed how p s way.items) }
     {
-        if slot != self.slot {
-            return None;
-        }
         let mut way = ArrayVec::new();
         for index in 1..self.slots.len() {
             go_on(
@@ -111,15 +114,42 @@ impl<'a> Follower<'a> {
                 self.slots[index],
             )?;
         }
-        let state = self.turns.last.copy();
-        let earlier = self.turns.into_earlier(self.slots.len(), slot);
-        Some(Explanation {
-            state,
-            earlier,
+        Some(way)
+    }
+
+    /// Returns what is known at the end of the path, which is at this slot, and the limit that was
+    /// reached. It is on the heap and made out of line, as the follower is. None:
+    /// another path was asked for, or memory ran out.
+    #[inline(never)]
+    fn explanation(
+        &mut self,
+        alloc: Global,
+        slot: usize,
+        limit: Option<SearchLimit>,
+    ) -> Option<Box<Explanation>>
+        ensures { IfSome result (λ x. (how : Precision) (p : Program)
+            (before : List TheState) (s : TheState)
+            → HasFollowed how self.old.image.now self.old.slots.items self.old.slot
+            self.old.turns p (s ∷ before) s
+            → s.slot ≡ slot → (x.value.state ≡ s) × IsLed how p s x.value.way.items
+            × IsTurnBefore how p s x.value.earlier × ComesThrough how p s x.value.slots.items) }
+    {
+        if slot != self.slot {
+            return None;
+        }
+        let way = self.way()?;
+        let count = self.slots.len();
+        let explanation = Explanation {
+            state: self.turns.last.copy(),
+            earlier: self.turns.earlier_before(count, slot),
             way,
-            slots: self.slots,
+            slots: mem::replace(&mut self.slots, Vec::new(alloc)),
             limit,
-        })
+        };
+        match Box::new(alloc, explanation) {
+            Ok(explanation) => Some(explanation),
+            Err(_) => None,
+        }
     }
 }
 
@@ -189,8 +219,14 @@ fn refusal_in(ended: Result<u32, Halt<AllocError>>) -> Option<(Refusal, usize)>
 ///
 /// None: the refusal is one of control flow, memory ran out, or this is not what the program is
 /// refused for.
-pub fn explain(alloc: Global, image: &Image, refusal: Refusal, slot: usize) -> Option<Explanation>
-    ensures explains { IfSome result (Explains image.now refusal slot) }
+#[inline(never)]
+pub fn explain(
+    alloc: Global,
+    image: &Image,
+    refusal: Refusal,
+    slot: usize,
+) -> Option<Box<Explanation>>
+    ensures explains { IfSome result (λ x. Explains image.now refusal slot x.value) }
     ensures refused { IfSome result (λ _. IsRefused image.now refusal slot) }
     ensures accepts { IfSome result (λ _. AcceptsAll image.now refusal) }
 {
@@ -198,12 +234,15 @@ pub fn explain(alloc: Global, image: &Image, refusal: Refusal, slot: usize) -> O
         return None;
     }
     image.recall();
-    let mut follower = Follower::new(alloc, image, slot);
-    let searched = search_with(alloc, image, &mut follower);
+    let Ok(mut kept) = Follower::new(alloc, image, slot) else {
+        return None;
+    };
+    let follower = &mut *kept;
+    let searched = search_with(alloc, image, follower);
     let limit = searched.limit;
     match refusal_in(searched.result) {
         Some((found, at)) if are_one(found, refusal) && at == slot => {
-            follower.into_explanation(slot, limit)
+            follower.explanation(alloc, slot, limit)
         }
         _ => None,
     }

@@ -75,15 +75,16 @@ impl Turns {
         self.earlier_index = without(self.earlier_index, count);
     }
 
-    /// The earlier one, if it is at the slot, and on a path of this many states before the last.
+    /// A copy of the earlier one, if it is at the slot, and on a path of this many states before
+    /// the last.
     #[tactic(auto, using(crate::proofs::Turning::further_back))]
-    pub fn into_earlier(self, count: usize, slot: usize) -> Option<State>
+    pub fn earlier_before(&self, count: usize, slot: usize) -> Option<State>
         ensures { IfSome result (λ e. (e.slot ≡ slot) × ((path : List TheState)
-            → length path ≡ count → AreOn path self → IsFurtherBack path e)) }
+            → length path ≡ count → AreOn path self.now → IsFurtherBack path e)) }
     {
         let next = self.earlier_index?.checked_add(1)?;
         if next < count && self.earlier.slot == slot {
-            Some(self.earlier)
+            Some(self.earlier.copy())
         } else {
             None
         }

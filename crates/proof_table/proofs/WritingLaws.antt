@@ -1,5 +1,5 @@
 -- Tables and their entries that were written, whole or in part.
-use Rattle.std.specs.Prelude.{◌≡◌, ℕ, zero, suc, ◌+◌, ◌-◌, ◌^◌, ◌<◌, ◌≤◌, List, [], ◌∷◌, ◌++◌, length, replicate, slice_get, All, Option, Some, Ok, refl}
+use Rattle.std.specs.Prelude.{◌≡◌, ℕ, zero, suc, ◌+◌, ◌-◌, ◌^◌, ◌<◌, ◌≤◌, min, List, [], ◌∷◌, ◌++◌, length, replicate, slice_get, All, Option, Some, Ok, refl}
 use Rattle.std.specs.Option.{is_some}
 use Rattle.std.specs.List.{flat_map}
 use Rattle.std.proofs.Common.{ap, sym, ◌∙◌, subst, append-nil, length-append, arith}
@@ -26,7 +26,7 @@ use Rattle.table_entries.specs.Entries.{Entry}
 use Rattle.table_entries.specs.Tables.{table_read}
 use Rattle.proof_table.specs.Spelling.{entry_bytes, head_bytes, table_bytes}
 use Rattle.proof_table.specs.Fitting.{KindFits, StackSlotFits, EntryFits, entry_said}
-use Rattle.proof_table.specs.Writing.{GainsTable, BeginsTable, GainsEntries, BeginsEntries, SpellsEntry, IsNumberedAs, OfFirst}
+use Rattle.proof_table.specs.Writing.{IsForTable, IsTableSize, GainsTable, BeginsTable, GainsEntries, BeginsEntries, SpellsEntry, IsNumberedAs, OfFirst}
 use Rattle.proof_table.proofs.FittingLaws.{entry_bytes-said}
 use Rattle.proof_table.proofs.TableLaws.{table_read-table_bytes}
 
@@ -210,6 +210,18 @@ GainsTable-entries p insns n old mid new some few number head g =
           (Appends-trans old mid new (head_bytes n)
           (flat_map entry_bytes g.entries) head g.gained);
     }
+
+-- the entries that were measured have the size of a table
+pub IsTableSize-entries : (p : Program) (insns : List ExploredInsn) (written : List ℕ) (size : ℕ)
+    → IsForTable p insns
+    → GainsEntries p insns (length insns) (Some (head_bytes (length insns))) (Some written)
+    → size ≡ min (length written) (2 ^ 64 - 1) → IsTableSize p size
+IsTableSize-entries p insns written size h g is = (
+  written,
+  GainsTable-entries p insns (length insns) (Some []) (Some (head_bytes (length insns)))
+      (Some written) h.some h.few h.number refl g,
+  is,
+)
 
 pub BeginsTable-entries : (p : Program) (n : ℕ) (old mid new : Option (List ℕ)) → 1 ≤ n
     → n ≤ MAX_EXPLORED → Appends old mid (head_bytes n) → BeginsEntries p n mid new

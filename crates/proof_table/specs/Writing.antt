@@ -1,8 +1,9 @@
 -- What was written: a table, entries, or a part of them.
-use Rattle.std.specs.Prelude.{◌≡◌, ℕ, List, [], ◌∷◌, length, All, Option, Ok}
+use Rattle.std.specs.Prelude.{◌≡◌, ℕ, ◌-◌, ◌^◌, ◌≤◌, min, List, [], ◌∷◌, length, All, Option, Some, Ok}
 use Rattle.std.specs.List.{flat_map}
 use Rattle.std.specs.Io.KnownBytes.{Appends}
 use Rattle.isa_model.specs.Code.Instructions.{Program}
+use Rattle.isa_model.specs.declared.limits.TheConstants.{MAX_EXPLORED}
 use Rattle.exact_io.specs.Transfers.{AppendsBeginning}
 use Rattle.control_flow.specs.declared.errors.FlowError.TheVariants as flow
 use Rattle.stack_state.specs.Starts.{start}
@@ -10,6 +11,7 @@ use Rattle.walks.specs.Counts.{HasNumber}
 use Rattle.walks.specs.declared.refusals.Refusal.{Refusal}
 use Rattle.walks.specs.declared.refusals.Refusal.TheVariants as refusal
 use Rattle.listeners.specs.declared.listing.ExploredInsn.{ExploredInsn}
+use Rattle.listeners.specs.Listed.{OfStart}
 use Rattle.table_entries.specs.declared.errors.WriteTableError.{WriteTableError}
 use Rattle.table_entries.specs.declared.errors.WriteTableError.TheVariants.{Memory, Explored, Writer}
 use Rattle.table_entries.specs.Entries.{Entry}
@@ -22,12 +24,25 @@ abbrev pub OfFirst : List Entry → (ℕ → Type 0) → Type 0
 OfFirst [] fact = ⊥
 OfFirst (e ∷ entries) fact = fact e.number
 
+-- what was explored of a program for its table: instructions, not too many, the first of which has
+-- the number of the start
+pub record IsForTable (p : Program) (insns : List ExploredInsn) : Type 0 where
+  pub some : 1 ≤ length insns
+  pub few : length insns ≤ MAX_EXPLORED
+  pub number : OfStart insns (HasNumber p start)
+
 -- a table, which is read as the entries that it spells; the first one has the number of the start
 pub record GainsTable (p : Program) (old new : Option (List ℕ)) : Type 0 where
   pub entries : List Entry
   pub read : table_read p (table_bytes entries) ≡ Ok entries
   pub number : OfFirst entries (HasNumber p start)
   pub gained : Appends old new (table_bytes entries)
+
+-- so many bytes has such a table; the number stops at the greatest one of 64 bits
+abbrev pub IsTableSize : Program → ℕ → Type 0
+IsTableSize p size =
+    (written : List ℕ) × GainsTable p (Some []) (Some written)
+    × (size ≡ min (length written) (2 ^ 64 - 1))
 
 -- a beginning of such a table, which is not all of it
 pub record BeginsTable (p : Program) (old new : Option (List ℕ)) : Type 0 where

@@ -1,10 +1,10 @@
 //! Whole tables, written entry by entry.
 
-ghost use Rattle.std.specs.Prelude.{◌≡◌, ◌≤◌, ◌⊎◌, OnOk, OnErr, IfErr};
+ghost use Rattle.std.specs.Prelude.{◌≡◌, ◌≤◌, ◌⊎◌, OnOk, OnErr, IfOk, IfErr};
 ghost use Rattle.std.specs.Io.KnownBytes.{Appends};
 ghost use Rattle.exact_io.specs.Transfers.{AppendsBeginning};
 ghost use Rattle.proof_table.specs.Spelling.{head_bytes};
-ghost use Rattle.proof_table.specs.Writing.{GainsTable, BeginsTable, GainsEntries, BeginsEntries, SpellsEntry, Lacks, IsWriters, error_of};
+ghost use Rattle.proof_table.specs.Writing.{IsForTable, IsTableSize, GainsTable, BeginsTable, GainsEntries, BeginsEntries, SpellsEntry, Lacks, IsWriters, error_of};
 ghost use Rattle.proof_table.specs.Fitting.{entry_said};
 
 use crate::entries::spell_entry;
@@ -25,6 +25,9 @@ use table_entries::WriteTableError;
 /// The bytes of the longest entry: one of 8 call frames, in which each register and each stack slot
 /// is a number.
 const LONGEST_ENTRY: usize = 39_024;
+
+/// The bytes before the first entry.
+const HEAD: u64 = 8;
 
 fn head_bytes(count: u32) -> [u8; 8]
     ensures { result ≡ head_bytes count }
@@ -111,25 +114,17 @@ fn error_of(refusal: Refusal) -> WriteTableError
     }
 }
 
-/// Writes a table of a verified program: an entry for each instruction that the verifier explored,
-/// in its state, with its number and the entries of its successors.
-///
-/// The verifier explores the program again, which takes as much memory as it took before. Each
-/// entry is one write, so a writer to a file is to have a buffer. The writer's first error, of any
-/// kind, is the failure; a write of no byte is the failure `ErrorKind::WriteZero`. Nothing is tried
-/// again.
-pub fn write_table<W: Write>(
-    alloc: Global,
-    verified: &Verified,
-    writer: &mut W,
-) -> Result<(), WriteTableError>
-    // A table, which is read as the entries that it spells, and says the number of the start.
-    ensures ok { OnOk result
-        (GainsTable verified.now.program (W.contents writer.old) (W.contents writer.new)) }
+/// A buffer for the bytes of one entry.
+fn entry_buffer(alloc: Global) -> Result<Vec<u8>, WriteTableError> {
+    match Vec::with_capacity(alloc, LONGEST_ENTRY) {
+        Ok(buffer) => Ok(buffer),
+        Err(_) => Err(WriteTableError::Memory),
+    }
+}
 
-    // A beginning of such a table.
-    ensures err { OnErr result
-        (BeginsTable verified.now.program (W.contents writer.old) (W.contents writer.new)) }
+/// Explores a verified program again, for its table. That takes as much memory as it took before.
+pub fn explore_again(alloc: Global, verified: &Verified) -> Result<Explored, WriteTableError>
+    ensures { IfOk result (λ explored. IsForTable verified.now.program explored) }
 {
     let image = verified.image();
     image.recall();
@@ -141,9 +136,82 @@ pub fn write_table<W: Write>(
     if count == 0 || count > MAX_EXPLORED as usize {
         return Err(WriteTableError::Explored);
     }
-    let Ok(mut buffer) = Vec::with_capacity(alloc, LONGEST_ENTRY) else {
-        return Err(WriteTableError::Memory);
-    };
+    Ok(explored)
+}
+
+/// Returns how many bytes a table has at most, by the number of its entries.
+pub fn most_bytes(explored: &Explored) -> u64 {
+    (explored.len() as u64)
+        .saturating_mul(LONGEST_ENTRY as u64)
+        .saturating_add(HEAD)
+}
+
+/// Returns how many bytes the table of a program has. Each entry is spelled for that, and none is
+/// kept.
+pub fn table_size(
+    alloc: Global,
+    verified: &Verified,
+    explored: &Explored,
+) -> Result<u64, WriteTableError>
+    requires { IsForTable verified.now.program explored.now }
+    ensures { IfOk result (IsTableSize verified.now.program) }
+{
+    let image = verified.image();
+    let mut buffer = entry_buffer(alloc)?;
+    let mut state = State::start();
+    let mut size = HEAD;
+    for at in 0..explored.len() {
+        let Some(insn) = explored.insn(at) else {
+            return Err(WriteTableError::Explored);
+        };
+        spell_explored(image, insn, &mut state, &mut buffer)?;
+        size = size.saturating_add(buffer.len() as u64);
+    }
+    Ok(size)
+}
+
+/// Writes a table of a verified program: an entry for each of these instructions, which the
+/// verifier explored, in its state, with its number and the entries of its successors.
+///
+/// Each entry is one write, so a writer to a file is to have a buffer. The writer's first error, of
+/// any kind, is the failure; a write of no byte is the failure `ErrorKind::WriteZero`. Nothing is
+/// tried again.
+pub fn write_explored<W: Write>(
+    alloc: Global,
+    verified: &Verified,
+    explored: &Explored,
+    writer: &mut W,
+) -> Result<(), WriteTableError>
+    requires { IsForTable verified.now.program explored.now }
+
+    // A table, which is read as the entries that it spells, and says the number of the start.
+    ensures ok { OnOk result
+        (GainsTable verified.now.program (W.contents writer.old) (W.contents writer.new)) }
+
+    // A beginning of such a table.
+    ensures err { OnErr result
+        (BeginsTable verified.now.program (W.contents writer.old) (W.contents writer.new)) }
+{
+    let image = verified.image();
+    image.recall();
+    let count = explored.len();
+    let mut buffer = entry_buffer(alloc)?;
     write_all(writer, &head_bytes(count as u32))?;
-    write_entries(image, &explored, count, &mut buffer, writer)
+    write_entries(image, explored, count, &mut buffer, writer)
+}
+
+/// Writes a table of a verified program, which is explored again for it.
+pub fn write_table<W: Write>(
+    alloc: Global,
+    verified: &Verified,
+    writer: &mut W,
+) -> Result<(), WriteTableError>
+    ensures ok { OnOk result
+        (GainsTable verified.now.program (W.contents writer.old) (W.contents writer.new)) }
+    ensures err { OnErr result
+        (BeginsTable verified.now.program (W.contents writer.old) (W.contents writer.new)) }
+{
+    verified.image().recall();
+    let explored = explore_again(alloc, verified)?;
+    write_explored(alloc, verified, &explored, writer)
 }

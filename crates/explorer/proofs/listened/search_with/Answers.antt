@@ -1,4 +1,4 @@
-use Rattle.std.proofs.Common.{◌≡◌, ℕ, Result, subst}
+use Rattle.std.proofs.Common.{◌≡◌, ℕ, Result, subst, sym}
 use Rattle.std.specs.Prelude.{Ok, Err, IfOk, IfErr}
 use Rattle.isa_model.specs.Code.Instructions.{Program}
 use Rattle.isa_model.specs.Running.Outcomes.{StartsEnd}
@@ -8,6 +8,7 @@ use Rattle.stack_state.specs.Starts.{start}
 use Rattle.walks.specs.Counts.{HasNumber}
 use Rattle.explorer.proofs.Starts.{starts_end}
 use Rattle.explorer.proofs.Stopping.{search_refused, search_stopped, outside_ends}
+use Rattle.explorer.specs.Search.{IsNew}
 use Rattle.explorer.specs.Listening.{IfRefused, EndsAsPrecise}
 use Rattle.explorer.proofs.listened.search_with.Goals as goal
 
@@ -21,7 +22,7 @@ find_bound-requires g c = record {
   image = c.in-Ok.ensures.image;
   whole = c.in-Ok.ensures.whole;
   good = rw c.in-Ok.ensures.image c.in-Ok.ensures.good;
-  new = c.in-Ok.ensures.new;
+  new = subst IsNew (sym c.deref_mut.ensures.value) c.in-Ok.ensures.new;
   untold = rw c.in-Ok.ensures.image c.requires.untold;
 }
 

@@ -1,8 +1,7 @@
-use Rattle.std.proofs.Common.{◌≡◌, ℕ, Option, Some, None, List, rules, subst}
+use Rattle.std.proofs.Common.{◌≡◌, ℕ, Option, Some, None, List, [], rules, subst, sym}
 use Rattle.std.specs.Prelude.{IfSome}
 use Rattle.stack_state.specs.declared.states.State.{State}
 use Rattle.isa_model.specs.Code.Instructions.{Program}
-use Rattle.walks.specs.declared.explained.Explanation.{Explanation}
 use Rattle.image.proofs.Programs.{IsProgram-IsImage}
 use Rattle.walks.specs.declared.refusals.Refusal.{Refusal}
 use Rattle.walks.specs.Forgetting.{Precision}
@@ -11,19 +10,29 @@ use Rattle.walks.specs.Accepting.{AcceptsAll}
 use Rattle.walks.proofs.AcceptingLaws.{AcceptsAll-refused}
 use Rattle.walks.specs.Explained.{Explains}
 use Rattle.listeners.specs.Followed.{HasFollowed}
+use Rattle.listeners.specs.declared.explaining.Follower.{Follower}
 use Rattle.explorer.specs.Listening.{EndsAsPrecise}
 use Rattle.listeners.proofs.Following.{explains_by}
 use Rattle.listeners.proofs.Stops.{refused_with}
 use Rattle.listeners.proofs.explaining.explain.Goals as goal
 
-if_some : (o : Option Explanation) (P Q : Explanation → Type 0) → ((x : Explanation) → P x → Q x)
+if_some : {X : Type 0} (o : Option X) (P Q : X → Type 0) → ((x : X) → P x → Q x)
     → IfSome o P → IfSome o Q
 if_some None P Q weaker h = h
 if_some (Some x) P Q weaker h = weaker x h
 
-for_some : (o : Option Explanation) (P : Type 0) → P → IfSome o (λ _. P)
+for_some : {X : Type 0} (o : Option X) (P : Type 0) → P → IfSome o (λ _. P)
 for_some None P h = tt
 for_some (Some x) P h = h
+
+pub search_with-searched-requires : goal.search_with-searched-requires
+search_with-searched-requires c = record {
+  untold =
+      subst
+      (λ (f : Follower). (how : Precision) → (last : State)
+      × HasFollowed how f.image.now f.slots.items f.slot f.turns c.args.image.now [] last)
+      (sym c.deref_mut-follower.ensures.value) c.in-Ok.ensures.nothing;
+}
 
 pub returns-in-Some-clause-refused : goal.returns-in-Some-clause-refused
 returns-in-Some-clause-refused c =
@@ -35,7 +44,7 @@ returns-in-Some-clause-refused c =
     searched.ensures.refused in
     let is : e ≡ c.args.refusal = search rules in
     let here : at ≡ c.args.slot = search rules in
-    for_some c.into_explanation.result (IsRefused p c.args.refusal c.args.slot)
+    for_some c.explanation.result (IsRefused p c.args.refusal c.args.slot)
     (subst (λ (n : ℕ). IsRefused p c.args.refusal n) here
     (subst (λ (r : Refusal). IsRefused p r at) is refused))
 
@@ -48,7 +57,7 @@ returns-in-Some-clause-accepts c =
     let refused = refused_with searched.result.result e at (IsRefused p) c.in-Some.ensures
     searched.ensures.refused in
     let is : e ≡ c.args.refusal = search rules in
-    for_some c.into_explanation.result (AcceptsAll p c.args.refusal)
+    for_some c.explanation.result (AcceptsAll p c.args.refusal)
     (subst (λ (r : Refusal). AcceptsAll p r) is
     (AcceptsAll-refused p e at (IsProgram-IsImage p c.recall.ensures) refused))
 
@@ -68,7 +77,7 @@ returns-in-Some-clause-explains c =
     searched.ensures.follows in
     let is : e ≡ c.args.refusal = search rules in
     let here : at ≡ c.args.slot = search rules in
-    if_some c.into_explanation.result _ (Explains p c.args.refusal c.args.slot)
-    (λ x shown. explains_by p tale e c.args.refusal at c.args.slot x
+    if_some c.explanation.result _ (λ x. Explains p c.args.refusal c.args.slot x.value)
+    (λ x shown. explains_by p tale e c.args.refusal at c.args.slot x.value
     is here (c.is_found_by_search.ensures (search rules)) refused ends shown)
-    c.into_explanation.ensures
+    c.explanation.ensures

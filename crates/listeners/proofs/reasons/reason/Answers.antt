@@ -1,4 +1,8 @@
-use Rattle.std.proofs.Common.{sym}
+use Rattle.std.proofs.Common.{◌≡◌, sym, subst}
+use Rattle.std.specs.Prelude.{IfOk}
+use Rattle.std.specs.String.{string_bytes}
+use Rattle.walks.specs.declared.explained.Explanation.{Explanation}
+use Rattle.explanations.specs.States.{lines_of}
 use Rattle.listeners.proofs.ReasonLaws.{of_flow, of_state}
 use Rattle.listeners.proofs.reasons.reason.Goals as goal
 
@@ -11,5 +15,10 @@ returns-in-Flow c =
 pub returns : goal.returns
 returns c =
     rw c.ok-2.ensures.value
-    (of_state c.args.image.now c.args.refusal c.args.slot c.in_ok-found.found c.in_ok-insn.insn.now
-    c.lines_of.result c.in_ok-found.ensures.explains (sym c.in_ok-insn.ensures) c.lines_of.ensures)
+    (of_state c.args.image.now c.args.refusal c.args.slot c.in_ok-found.found.value
+    c.in_ok-insn.insn.now c.lines_of.result c.in_ok-found.ensures.explains
+    (sym c.in_ok-insn.ensures)
+    (subst
+    (λ (x : Explanation). IfOk c.lines_of.result (λ text. string_bytes text
+    ≡ lines_of c.args.image.now c.in_ok-insn.insn.now c.args.refusal x))
+    c.deref.ensures c.lines_of.ensures))

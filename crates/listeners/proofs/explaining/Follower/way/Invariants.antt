@@ -3,11 +3,11 @@ use Rattle.stack_state.specs.declared.states.State.{State}
 use Rattle.walks.specs.Forgetting.{Precision}
 use Rattle.listeners.specs.Followed.{HasFollowed}
 use Rattle.listeners.proofs.Following.{LedAt}
-use Rattle.listeners.proofs.explaining.Follower.into_explanation.Given as goal
+use Rattle.listeners.proofs.explaining.Follower.way.Given as goal
 
 -- the last jumps lead to the state before that of the index, along any path that was followed
 abbrev pub invariant-loop-index : goal.invariant-loop-index
 invariant-loop-index l =
     (how : Precision) (path : List State) (last : State)
-    → HasFollowed how l.self.image.now l.self.slots.items l.self.slot l.self.turns l.self.image.now
-    path last → LedAt how l.self.image.now path l.index l.way.items
+    → HasFollowed how l.self.image.now l.self.slots.items l.self.slot l.self.turns
+    l.self.image.now path last → LedAt how l.self.image.now path l.index l.way.items
