@@ -6,10 +6,11 @@ usage: python3 attacks/hostile_inputs.py [PROGRAM [FAMILY ..]]
 
 PROGRAM is an optimized xdpvm (the default: crates/xdpvm/out/xdpvm). The families are texts of `asm`, images of `dis`,
 tables of `recheck`, maps whose keys have one hash (`chains`, and `worst_keys` with the limits that the gate holds), frames by
-`trace` on a full map (`traced`, with such limits, too), and captures of tools/frames.py. For each input it prints the size, the
-processor seconds, the peak megabytes and the last line. A run that takes longer than LIMIT seconds (the default: 120) is ended.
-The exit status is 1 if one took longer than its own limit, ended by a signal or, without a limit having passed, by a status that
-is not one of the program's.
+`trace` on a full map (`traced`, with such limits, too), a small image with a large table and a long log, by the xdpvm_survey that
+`rt run` leaves in crates/xdpvm_survey (`outputs`, with such limits of time and memory), and captures of tools/frames.py. For each
+input it prints the size, the processor seconds, the peak megabytes and the last line. A run that takes longer than LIMIT seconds
+(the default: 120) is ended. The exit status is 1 if one took longer or more memory than its own limits say, ended by a signal or,
+without a limit having passed, by a status that is not one of the program's.
 """
 import gzip
 import os
@@ -26,9 +27,9 @@ from common import TOP, insn, record, write
 import table
 
 Tried = (
-    tuple[str, list[str]] | tuple[str, list[str], float]
-)  # a name, the words of a command with its input second, and its limit in seconds
-PROGRAM = common.program()
+    tuple[str, list[str]] | tuple[str, list[str], float] | tuple[str, list[str], float, float]
+)  # a name, the words of a command with its input second or third, and its limits in seconds and megabytes
+PROGRAM, SURVEY = common.program(), common.built("xdpvm_survey")
 CHOSEN = sys.argv[2:]
 LIMIT = int(os.environ.get("LIMIT", "120"))
 MOST_SLOTS, MOST_TEXT, MOST_KEYS = 4096, 16 << 20, 65536
@@ -310,6 +311,31 @@ def traced() -> Iterator[Tried]:
         yield name, [PROGRAM, "trace", "image", frames, "sent"], TRACED
 
 
+# At most so many seconds and megabytes for a table and a log of what is explored below 8 call frames; the log of 2,000 turns has
+# 10,000 states.
+MOST_OUTPUT, MOST_MEMORY = 5.0, 100.0
+
+
+def deep(turns: int) -> str:
+    """An image whose table has some 25,000 bytes for each of two entries a turn: 8 call frames, whose stack slots are read after
+    the calls."""
+    spills = "".join(f"r3 = *(u32 *)(r9 + 12)\n*(u64 *)(r10 - {8 + 8 * slot}) = r3\n" for slot in range(58))
+    after = "".join(f"r3 = *(u64 *)(r10 - {8 + 8 * slot})\n" for slot in range(58))
+    lines = "".join(f"f{at}: r9 = r1\n{spills}r1 = r9\ncall f{at + 1}\n{after}exit\n" for at in range(7))
+    end = f"r8 = 0\nloop: r8 += 1\nif r8 < {turns} goto loop\nr0 = 2\nexit\n"
+    write("text", f"{lines}f7: r9 = r1\n{spills}{end}")
+    asked("asm", "text", "image")
+    return "image"
+
+
+def outputs() -> Iterator[Tried]:
+    """A small image with a large table and a long log."""
+    limits = (MOST_OUTPUT, MOST_MEMORY)
+    yield "the log of 60,000 states", [SURVEY, "log", deep(30000)], *limits
+    yield "no table of 1.5 GB, by `--most`", [SURVEY, "image", "--tables", ".", "--most", "1000000"], *limits
+    yield "a table of 200 MB", [SURVEY, deep(4000), "--tables", "."], *limits
+
+
 def block(kind: int, body: bytes) -> bytes:
     body += bytes(-len(body) % 4)
     return struct.pack("<II", kind, len(body) + 12) + body + struct.pack("<I", len(body) + 12)
@@ -353,7 +379,7 @@ def captures() -> Iterator[Tried]:
     yield "a gzip of 2 GB of zeros behind a head", [*FRAMES, packed, "out.frames"]
 
 
-FAMILIES = [texts, images, tables, chains, worst_keys, traced, captures]
+FAMILIES = [texts, images, tables, chains, worst_keys, traced, outputs, captures]
 
 
 # ---- measuring
@@ -385,7 +411,7 @@ def measured(words: list[str]) -> tuple[str, int, float, float]:
 def least(words: list[str], most: tuple[float, ...]) -> tuple[str, int, float, float]:
     """The same, of the quickest of three runs where there is a limit that the first ones do not keep."""
     runs = [measured(words)]
-    while len(runs) < 3 and any(runs[-1][2] > limit for limit in most):
+    while len(runs) < 3 and any(runs[-1][2] > limit for limit in most[:1]):
         runs.append(measured(words))
     return min(runs, key=lambda run: run[2])
 
@@ -401,12 +427,12 @@ def main() -> int:
                 continue
             for name, words, *limits in family():
                 most = tuple(limits)
-                given = words[3 if words[1] in ("run", "trace", "recheck") else 2]
+                given = "image" if words[0] == SURVEY else words[3 if words[1] in ("run", "trace", "recheck") else 2]
                 said, status, seconds, peak = least(words, most)
                 late = seconds >= LIMIT
-                over = any(seconds > limit for limit in most)
-                wrong += over or not late and status > 5
-                said = "ended at the limit" if late else f"over {most[0]:.2f} seconds" if over else said
+                over = [f"over {it}" for it, found in zip(most, (seconds, peak)) if found > it]
+                wrong += bool(over) or not late and status > 5
+                said = "ended at the limit" if late else ", ".join(over) or said
                 row = f"{os.path.getsize(given):10} {seconds:8.2f} {peak:6.0f}  {status:6}  {family.__name__}: {name}"
                 print(f"{row}: {said}", flush=True)
         os.chdir("/")

@@ -137,6 +137,13 @@ CHECKS = (
         3,
         alone=True,
     ),
+    Check(
+        "outputs",
+        "python3 attacks/hostile_inputs.py crates/xdpvm/out/xdpvm outputs",
+        "that a small image with a large table and a long log takes seconds and 100 MB",
+        8,
+        alone=True,
+    ),
     Check("failures", "python3 attacks/break.py --few", "what comes of memory, reads and writes that fail, on three programs", 12),
     Check("survey_failures", "python3 attacks/break_survey.py", "the same of the survey", 8),
     Check("filter_failures", "python3 attacks/break_filter.py", "the same of xdpvm_filter", 8),

@@ -23,7 +23,7 @@ fn serve<R: Files + Clock + AllocGlobal + Clone + Drop, W1: Write, W2: Write>(
 {
     match asked {
         Asked::Survey(wanted) => survey(rt, wanted, has_progress, out, err),
-        Asked::Log(path, slot) => look_at(rt, *path, Look::Log(*slot), out, err),
+        Asked::Log(path, part) => look_at(rt, *path, Look::Log(*part), out, err),
         Asked::Listing(path) => look_at(rt, *path, Look::Listing, out, err),
         Asked::Graph(path) => look_at(rt, *path, Look::Graph, out, err),
     }

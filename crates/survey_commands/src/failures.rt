@@ -57,6 +57,12 @@ pub fn empty_line(alloc: Global, path: &str) -> Result<String, AllocError> {
     format!(in alloc; "{path} has no image: no name in it ends in .image\n")
 }
 
+/// The line for an image whose table is larger than is wanted.
+pub fn large_line(alloc: Global, path: &str, bytes: u64, most: u64) -> Result<String, AllocError> {
+    let path = shown(alloc, path)?;
+    format!(in alloc; "{path}: no table, it would have {bytes} bytes (--most {most})\n")
+}
+
 /// The line for a slot that the code does not have.
 pub fn no_slot_line(alloc: Global, slot: usize, slots: usize) -> Result<String, AllocError> {
     let last = slots.saturating_sub(1);

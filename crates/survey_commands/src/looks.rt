@@ -14,13 +14,14 @@ use std::alloc::{AllocError, Global};
 use std::io;
 use std::io::Write;
 use std::rt::Files;
+use survey_words::LogPart;
 use surveys::{LookError, write_graph, write_listing, write_log};
 
 /// Says what is shown of an image.
 #[derive(Clone, Copy, Drop)]
 pub enum Look {
-    /// The instructions that the search explores, all or at one slot.
-    Log(Option<usize>),
+    /// The instructions that the search explores, or a part of them.
+    Log(LogPart),
     Listing,
     Graph,
 }
@@ -86,7 +87,7 @@ fn write_look<W: Write>(
     out: &mut W,
 ) -> Result<(), LookError> {
     match look {
-        Look::Log(slot) => write_log(alloc, image, slot, out),
+        Look::Log(part) => write_log(alloc, image, part.slot, part.states, out),
         Look::Listing => write_listing(alloc, image, out),
         Look::Graph => write_graph(alloc, image, out),
     }
@@ -132,7 +133,13 @@ fn say_slot<W: Write>(
     look: Look,
     err: &mut W,
 ) -> Result<bool, AllocError> {
-    if let Look::Log(Some(slot)) = look {
+    if let Look::Log(
+        LogPart {
+            slot: Some(slot),
+            ..
+        },
+    ) = look
+    {
         let slots = image.slots();
         if slot >= slots {
             let line = no_slot_line(alloc, slot, slots)?;

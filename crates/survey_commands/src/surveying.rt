@@ -6,7 +6,7 @@ use crate::failures::{SurveyError, empty_line, file_line, unnamed_line};
 use crate::files::read_image;
 use crate::folders::{FolderFailure, NamedPath, add_folder, add_images, images};
 use crate::progress::SurveyProgress;
-use crate::tables::{store_table, wanted_table};
+use crate::tables::{TablesWanted, put_table};
 use crate::writing::{Sheet, sheet_of, write_head, write_row, write_waiting};
 use exact_io::write_bytes;
 use std::alloc::{AllocError, Global};
@@ -80,27 +80,30 @@ fn verdict_with(verdict: Judgement, lacks_table: bool) -> Judgement {
 }
 
 /// The row of an image that was judged. Its table is made and stored where that is wanted.
-fn row_judged<R: Files + Clock>(
+fn row_judged<R: Files + Clock, W: Write>(
     rt: &R,
     alloc: Global,
     path: &str,
     judged: Judged,
-    tables: Option<&str>,
+    tables: Option<TablesWanted<'_>>,
+    err: &mut W,
 ) -> Result<Row, SurveyError> {
     let Judged {
         verdict,
         mut counts,
         verified,
     } = judged;
-    let table = wanted_table(rt, alloc, verified, tables.is_some(), &mut counts);
-    if let (Some(folder), Some(table)) = (tables, &table) {
-        store_table(rt, alloc, folder, path, table.as_slice())?;
-    }
+    let lacks_table = match (tables, verified) {
+        (Some(wanted), Some(verified)) => {
+            !put_table(rt, alloc, wanted, path, verified, &mut counts, err)?
+        }
+        _ => false,
+    };
     let file = String::from_str(alloc, path)?;
     Ok(Row {
         file,
         is_in_folder: false,
-        verdict: verdict_with(verdict, tables.is_some() && table.is_none()),
+        verdict: verdict_with(verdict, lacks_table),
         counts,
     })
 }
@@ -109,7 +112,7 @@ fn row_judged<R: Files + Clock>(
 fn row_of<R: Files + Clock + AllocGlobal, W: Write>(
     rt: &R,
     path: &str,
-    tables: Option<&str>,
+    tables: Option<TablesWanted<'_>>,
     err: &mut W,
 ) -> Result<Row, SurveyError> {
     let alloc = rt.alloc();
@@ -118,14 +121,14 @@ fn row_of<R: Files + Clock + AllocGlobal, W: Write>(
         Err(error) => return Ok(row_unread(alloc, path, error.kind(), err)?),
     };
     let judged = judge(rt, alloc, bytes.as_slice());
-    row_judged(rt, alloc, path, judged, tables)
+    row_judged(rt, alloc, path, judged, tables, err)
 }
 
 /// The row of a path.
 fn row_named<R: Files + Clock + AllocGlobal, W: Write>(
     rt: &R,
     one: &NamedPath,
-    tables: Option<&str>,
+    tables: Option<TablesWanted<'_>>,
     err: &mut W,
 ) -> Result<Row, SurveyError> {
     let mut row = match one.failure {
@@ -213,6 +216,15 @@ fn put_row<W: Write>(
     }
 }
 
+/// The tables that a survey wants.
+fn tables_of<'a>(survey: &Survey<'a>) -> Option<TablesWanted<'a>> {
+    let folder = survey.tables?;
+    Some(TablesWanted {
+        folder,
+        most: survey.most,
+    })
+}
+
 /// Judges images, and writes the row of each one unless rows have to wait. Returns the rows that
 /// wait, and how many images got which verdict.
 fn judge_all<R: Files + Clock + AllocGlobal, W1: Write, W2: Write>(
@@ -228,7 +240,7 @@ fn judge_all<R: Files + Clock + AllocGlobal, W1: Write, W2: Write>(
     let mut summary = Summary::default();
     for one in named {
         progress.show(alloc, err)?;
-        let row = row_named(rt, one, sheet.survey.tables, err)?;
+        let row = row_named(rt, one, tables_of(sheet.survey), err)?;
         summary.count(row.verdict);
         progress.advance();
         if !sheet.has_to_wait() {

@@ -1,42 +1,65 @@
 //! Proof tables that a survey makes and writes.
 
-ghost use Rattle.std.specs.Prelude.{◌≡◌, false, IfSome, None, Some};
-ghost use Rattle.bounds.specs.Bounds.{Bounded};
+ghost use Rattle.std.specs.Prelude.{◌≡◌, IfSome, None};
+ghost use Rattle.listeners.specs.declared.listing.ExploredInsn.{ExploredInsn};
+ghost use Rattle.proof_table.specs.Writing.{IsForTable};
 ghost use Rattle.surveys.specs.Tallies.{searched};
-ghost use Rattle.survey_commands.specs.Tables.{HasTable};
+ghost use Rattle.survey_commands.specs.Tables.{HasTable, SaysTableSize};
 
-use crate::failures::SurveyError;
+use crate::failures::{SurveyError, large_line};
 use bounds::Verified;
-use exact_io::write_bytes;
-use proof_table::{WriteTableError, recheck, write_table};
+use exact_io::{PromptWriter, write_bytes};
+use listeners::Explored;
+use proof_table::{
+    WriteTableError, explore_again, most_bytes, recheck, table_size, write_explored,
+};
 use std::alloc::{AllocError, Global};
-use std::fs;
+use std::io::Write;
 use std::path::Path;
 use std::rt::Files;
 use std::time::{Clock, Instant};
+use std::{fs, io};
 use survey_rows::Counts;
 use surveys::microseconds_since;
 
-/// Makes the proof table of a verified program and tests it, and adds its size and both times. They
-/// stay unknown for a table that is not made, or that is refused.
-fn prove<C: Clock>(
+/// A table of more bytes is written as it is made, and neither kept in memory nor tested.
+const MOST_HELD: u64 = 64 << 20;
+
+/// How many bytes of such a table are written at a time.
+const BUFFER: usize = 64 * 1024;
+
+/// Where the tables of accepted images go, and how many bytes one may have.
+#[derive(Clone, Copy, Drop)]
+pub struct TablesWanted<'a> {
+    pub folder: &'a str,
+    pub most: Option<u64>,
+}
+
+/// Makes the proof table of what was explored of a verified program since that instant, and tests
+/// it, and adds its size and both times. They stay unknown for a table that is not made, or that is
+/// refused.
+pub fn tested_table<C: Clock>(
     clock: &C,
     alloc: Global,
     verified: Verified,
+    explored: Explored,
+    since: Option<Instant>,
     counts: &mut Counts,
 ) -> Option<Vec<u8>>
+    requires { IsForTable verified.program explored }
     ensures bound { counts.new.bound ≡ counts.old.bound }
     ensures slot { counts.new.slot ≡ counts.old.slot }
     ensures table { IfSome result
         (λ table. HasTable verified.program table.items counts.new) }
+    ensures none { result ≡ None → counts.new.table_bytes ≡ counts.old.table_bytes }
     ensures rest { searched counts.new ≡ searched counts.old }
 {
-    let since = Instant::now(clock).ok();
     let mut table = Vec::new(alloc);
-    if write_table(alloc, &verified, &mut table).is_err() {
+    if write_explored(alloc, &verified, &explored, &mut table).is_err() {
         return None;
     }
     let prove_microseconds = microseconds_since(clock, since);
+    drop(explored);
     let since = Instant::now(clock).ok();
     if recheck(alloc, verified.into_image(), table.as_slice()).is_err() {
         return None;
@@ -47,50 +70,134 @@ fn prove<C: Clock>(
     Some(table)
 }
 
-/// The proof table of an accepted program, if one is wanted: one that `recheck` accepts. Its size
-/// and both times are added to what was counted.
-pub fn wanted_table<C: Clock>(
-    clock: &C,
-    alloc: Global,
-    verified: Option<Verified>,
-    is_wanted: bool,
-    counts: &mut Counts,
-) -> Option<Vec<u8>>
-    ensures bound { counts.new.bound ≡ counts.old.bound }
-    ensures slot { counts.new.slot ≡ counts.old.slot }
-    ensures table { (v : Bounded) → verified ≡ Some v
-        → IfSome result (λ table. HasTable v.program table.items counts.new) }
-    ensures no_table { is_wanted ≡ false → result ≡ None }
-    ensures unverified { verified ≡ None → result ≡ None }
-    ensures rest { searched counts.new ≡ searched counts.old }
-{
-    if !is_wanted {
-        return None;
-    }
-    prove(clock, alloc, verified?, counts)
-}
-
 /// The path of an image's table in a folder: its name with another ending.
 fn table_path(alloc: Global, folder: &str, image: &str) -> Result<String, AllocError> {
     let stem = Path::new(image).file_stem().unwrap_or(image);
     format!(in alloc; "{folder}/{stem}.table")
 }
 
-/// Writes an image's table into a folder.
-pub fn store_table<R: Files>(
+/// Writes an image's table to a file.
+fn store_table<R: Files>(
     rt: &R,
     alloc: Global,
-    folder: &str,
-    image: &str,
+    path: &str,
     table: &[u8],
 ) -> Result<(), SurveyError> {
-    let path = table_path(alloc, folder, image)?;
-    let mut file = match fs::create(rt, path.as_str()) {
+    let mut file = match fs::create(rt, path) {
         Ok(file) => file,
-        Err(error) => return Err(SurveyError::of_file(alloc, "write", path.as_str(), &error)),
+        Err(error) => return Err(SurveyError::of_file(alloc, "write", path, &error)),
     };
     match write_bytes(&mut file, table) {
         Ok(()) => Ok(()),
-        Err(error) => Err(SurveyError::of_file(alloc, "write", path.as_str(), &error)),
+        Err(error) => Err(SurveyError::of_file(alloc, "write", path, &error)),
+    }
+}
+
+/// Writes a table of what was explored of a verified program through a buffer, as it is made.
+fn write_through<W: Write + Drop>(
+    alloc: Global,
+    verified: &Verified,
+    explored: &Explored,
+    file: W,
+) -> Result<(), WriteTableError>
+    requires { IsForTable verified.now.program explored.now }
+{
+    let Ok(mut file) = PromptWriter::new(alloc, BUFFER, 0, file) else {
+        return Err(WriteTableError::Memory);
+    };
+    write_explored(alloc, verified, explored, &mut file)?;
+    match file.flush() {
+        Ok(()) => Ok(()),
+        Err(error) => Err(WriteTableError::Writer(error.kind())),
+    }
+}
+
+/// Writes a table of what was explored of a verified program to a file, as it is made. False:
+/// memory ran out, or there is no such table.
+fn stream_table<R: Files>(
+    rt: &R,
+    alloc: Global,
+    path: &str,
+    verified: &Verified,
+    explored: &Explored,
+) -> Result<bool, SurveyError>
+    requires { IsForTable verified.now.program explored.now }
+{
+    let file = match fs::create(rt, path) {
+        Ok(file) => file,
+        Err(error) => return Err(SurveyError::of_file(alloc, "write", path, &error)),
+    };
+    match write_through(alloc, verified, explored, file) {
+        Ok(()) => Ok(true),
+        Err(WriteTableError::Writer(kind)) => {
+            Err(SurveyError::of_file(alloc, "write", path, &io::Error::from(kind)))
+        }
+        Err(_) => Ok(false),
+    }
+}
+
+/// Returns whether a table of so many bytes is larger than is wanted, and says so on standard
+/// error.
+fn is_too_large<W: Write>(
+    alloc: Global,
+    image: &str,
+    size: u64,
+    most: Option<u64>,
+    err: &mut W,
+) -> Result<bool, AllocError> {
+    match most {
+        Some(most) if size > most => {
+            let line = large_line(alloc, image, size, most)?;
+            let _ = write_bytes(err, line.as_bytes());
+            Ok(true)
+        }
+        _ => Ok(false),
+    }
+}
+
+/// Makes the table of an accepted program and writes it to a file, tested if it is not large, and
+/// adds its size and the times to what was counted. One that has more bytes than are wanted is not
+/// written: standard error says so, and only its size is added. False: memory ran out, or there is
+/// no such table.
+pub fn put_table<R: Files + Clock, W: Write>(
+    rt: &R,
+    alloc: Global,
+    wanted: TablesWanted<'_>,
+    image: &str,
+    verified: Verified,
+    counts: &mut Counts,
+    err: &mut W,
+) -> Result<bool, SurveyError>
+    ensures bound { counts.new.bound ≡ counts.old.bound }
+    ensures slot { counts.new.slot ≡ counts.old.slot }
+    ensures size { SaysTableSize verified.program counts.old counts.new }
+    ensures rest { searched counts.new ≡ searched counts.old }
+{
+    let since = Instant::now(rt).ok();
+    let Ok(explored) = explore_again(alloc, &verified) else {
+        return Ok(false);
+    };
+    let path = table_path(alloc, wanted.folder, image)?;
+    if most_bytes(&explored) > MOST_HELD.min(wanted.most.unwrap_or(u64::MAX)) {
+        let Ok(size) = table_size(alloc, &verified, &explored) else {
+            return Ok(false);
+        };
+        let is_too_large = is_too_large(alloc, image, size, wanted.most, err)?;
+        if is_too_large || size > MOST_HELD {
+            counts.table_bytes = Some(size);
+            if is_too_large {
+                return Ok(true);
+            }
+            let is_written = stream_table(rt, alloc, path.as_str(), &verified, &explored)?;
+            counts.prove_microseconds = microseconds_since(rt, since);
+            return Ok(is_written);
+        }
+    }
+    match tested_table(rt, alloc, verified, explored, since, counts) {
+        Some(table) => {
+            store_table(rt, alloc, path.as_str(), table.as_slice())?;
+            Ok(true)
+        }
+        None => Ok(false),
     }
 }

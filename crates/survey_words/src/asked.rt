@@ -23,14 +23,25 @@ pub struct Survey<'a> {
     pub earlier: Option<&'a str>,
     /// The folder for the proof tables of accepted images.
     pub tables: Option<&'a str>,
+    /// Says how many bytes a table may have that is written.
+    pub most: Option<u64>,
+}
+
+/// Says which part of a log is printed.
+#[derive(Clone, Copy, PartialEq, Eq, Debug, Drop)]
+pub struct LogPart {
+    /// The slot whose states are printed, if not those at all slots.
+    pub slot: Option<usize>,
+    /// Says how many states are printed at most.
+    pub states: u64,
 }
 
 /// Says what is asked for.
 #[derive(Drop)]
 pub enum Asked<'a> {
     Survey(Survey<'a>),
-    /// The instructions that the search explores of an image, all or at one slot.
-    Log(&'a str, Option<usize>),
+    /// The instructions that the search explores of an image, or a part of them.
+    Log(&'a str, LogPart),
     /// The listing of an image.
     Listing(&'a str),
     /// The graph of an image's basic blocks.

@@ -27,7 +27,7 @@ struct Choice {
     help: &'static str,
 }
 
-const CHOICES: [Choice; 5] = [
+const CHOICES: [Choice; 6] = [
     Choice {
         name: "format",
         value_name: "FORMAT",
@@ -53,12 +53,23 @@ const CHOICES: [Choice; 5] = [
         value_name: "FOLDER",
         help: "Writes a proof table of each accepted image there, and tests it",
     },
+    Choice {
+        name: "most",
+        value_name: "BYTES",
+        help: "Writes no table of more bytes than this",
+    },
 ];
 
 const SLOT: Choice = Choice {
     name: "slot",
     value_name: "N",
     help: "Prints only what was explored at this slot",
+};
+
+const STATES: Choice = Choice {
+    name: "states",
+    value_name: "N",
+    help: "Prints at most so many states [default: 10000]",
 };
 
 // An option that takes a value.
@@ -120,7 +131,9 @@ pub fn program<'a>(alloc: Global) -> Result<Command<'a>, AllocError> {
         .after_help(AFTER)
         .args_conflicts_with_subcommands(true)
         .bin_name(NAME)?;
-    let log = look(alloc, "log", LOG_ABOUT)?.arg(option(alloc, SLOT))?;
+    let log = look(alloc, "log", LOG_ABOUT)?
+        .arg(option(alloc, SLOT))?
+        .arg(option(alloc, STATES))?;
     let graph = flag(
         alloc,
         "dot",

@@ -5,5 +5,5 @@ mod asked;
 mod command_line;
 mod reading;
 
-pub use asked::{Asked, Format, Survey};
+pub use asked::{Asked, Format, LogPart, Survey};
 pub use reading::read_words;

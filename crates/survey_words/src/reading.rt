@@ -1,6 +1,6 @@
 //! What the arguments on the command line ask for.
 
-use crate::asked::{Asked, Format, Survey};
+use crate::asked::{Asked, Format, LogPart, Survey};
 use crate::command_line::program;
 use clap::ArgMatches;
 use clap::error::ErrorKind;
@@ -16,6 +16,15 @@ const NO_COLUMN: &str = "error: the value of --sort is no column\n";
 const NO_ONLY: &str = "error: the value of --only is not refused\n";
 
 const NO_SLOT: &str = "error: the value of --slot is no number\n";
+
+const NO_STATES: &str = "error: the value of --states is no number\n";
+
+const NO_MOST: &str = "error: the value of --most is no number of bytes\n";
+
+const NO_TABLES: &str = "error: --most says how large a table of --tables may be\n";
+
+/// How many states a log prints where no other number is given.
+const STATES: u64 = 10_000;
 
 fn wrong(alloc: Global, text: &str) -> WordsError {
     match String::from_str(alloc, text) {
@@ -59,6 +68,22 @@ fn only_in(alloc: Global, matches: &ArgMatches<'_>) -> Result<bool, WordsError> 
     }
 }
 
+// The number that an option gives, or what is said of one that is none.
+fn number_in(
+    alloc: Global,
+    matches: &ArgMatches<'_>,
+    name: &str,
+    none: &str,
+) -> Result<Option<u64>, WordsError> {
+    match matches.get_str(name) {
+        None => Ok(None),
+        Some(text) => match text.parse::<u64>() {
+            Ok(number) => Ok(Some(number)),
+            Err(_) => Err(wrong(alloc, none)),
+        },
+    }
+}
+
 fn slot_in(alloc: Global, matches: &ArgMatches<'_>) -> Result<Option<usize>, WordsError> {
     match matches.get_str("slot") {
         None => Ok(None),
@@ -69,10 +94,27 @@ fn slot_in(alloc: Global, matches: &ArgMatches<'_>) -> Result<Option<usize>, Wor
     }
 }
 
+// What part of the log is asked for.
+fn part_in(alloc: Global, matches: &ArgMatches<'_>) -> Result<LogPart, WordsError> {
+    let slot = slot_in(alloc, matches)?;
+    let states = number_in(alloc, matches, "states", NO_STATES)?.unwrap_or(STATES);
+    Ok(LogPart { slot, states })
+}
+
+// The most bytes of a table; they are said of tables that are asked for.
+fn most_in(alloc: Global, matches: &ArgMatches<'_>) -> Result<Option<u64>, WordsError> {
+    let most = number_in(alloc, matches, "most", NO_MOST)?;
+    if most.is_some() && matches.get_str("tables").is_none() {
+        return Err(wrong(alloc, NO_TABLES));
+    }
+    Ok(most)
+}
+
 fn survey_in<'a>(alloc: Global, matches: &ArgMatches<'a>) -> Result<Survey<'a>, WordsError> {
     let format = format_in(alloc, matches)?;
     let sort = sort_in(alloc, matches)?;
     let only_refused = only_in(alloc, matches)?;
+    let most = most_in(alloc, matches)?;
     let paths = match matches.get_strs("paths") {
         Some(paths) => Vec::from_slice(alloc, paths)?,
         None => Vec::new(alloc),
@@ -85,6 +127,7 @@ fn survey_in<'a>(alloc: Global, matches: &ArgMatches<'a>) -> Result<Survey<'a>, 
         has_header: !matches.get_flag("no-header"),
         earlier: matches.get_str("compare"),
         tables: matches.get_str("tables"),
+        most,
     })
 }
 
@@ -98,7 +141,7 @@ fn look_in<'a>(
         return Err(WordsError::Wrong(String::new(alloc)));
     };
     match name {
-        "log" => Ok(Asked::Log(image, slot_in(alloc, matches)?)),
+        "log" => Ok(Asked::Log(image, part_in(alloc, matches)?)),
         _ if matches.get_flag("dot") => Ok(Asked::Graph(image)),
         _ => Ok(Asked::Listing(image)),
     }

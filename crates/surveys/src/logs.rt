@@ -20,6 +20,9 @@ struct Log<'a, W: Write + Drop> {
     image: &'a Image,
     /// The slot at which the log is written, if not at all slots.
     only: Option<usize>,
+    /// Says how many states are written at most, and how many were wanted so far.
+    most: u64,
+    wanted: u64,
     out: W,
     tally: SearchTally,
     /// The slot of the state that arrived last.
@@ -39,8 +42,21 @@ fn from_text(alloc: Global, path: &[u64], explored: u64) -> Result<String, Alloc
 }
 
 impl<W: Write + Drop> Log<'_, W> {
-    fn is_wanted(&self, slot: usize) -> bool {
-        self.only.is_none() || self.only == Some(slot)
+    /// Returns whether the state that arrived at a slot is written. Where it is the first one that
+    /// is not, for their number, a line says so.
+    fn takes(&mut self, slot: usize) -> Result<bool, LookError> {
+        if self.only.is_some() && self.only != Some(slot) {
+            return Ok(false);
+        }
+        if self.wanted == self.most {
+            let most = self.most;
+            let text = format!(in self.alloc;
+                "stopped after {most} states: --states N prints more\n"
+            )?;
+            write_bytes(&mut self.out, text.as_bytes())?;
+        }
+        self.wanted = self.wanted.saturating_add(1);
+        Ok(self.wanted <= self.most)
     }
 
     /// The lines of an instruction: its number in the log, its slot, and the state that it is
@@ -65,7 +81,7 @@ impl<W: Write + Drop> Log<'_, W> {
 
     /// Writes the lines of an instruction.
     fn write_explored(&mut self, state: &State, is_stored: bool) -> Result<(), LookError> {
-        if self.is_wanted(state.slot) {
+        if self.takes(state.slot)? {
             let text = self.explored_text(state, is_stored)?;
             write_bytes(&mut self.out, text.as_bytes())?;
         }
@@ -108,7 +124,7 @@ impl<W: Write + Drop> Listener for Log<'_, W> {
     }
 
     fn covered(&mut self, index: usize, number: u32) -> Result<(), LookError> {
-        if self.is_wanted(self.arrived) {
+        if self.takes(self.arrived)? {
             let text = self.covered_text(index, number)?;
             write_bytes(&mut self.out, text.as_bytes())?;
         }
@@ -152,19 +168,23 @@ impl<W: Write + Drop> Listener for Log<'_, W> {
 }
 
 /// Writes what the search explores of a program while it does, all or at one slot: each instruction
-/// with the state that it is reached in, and each state that a stored one covers; at the end how
-/// much was explored. For a program that is refused this is all up to the refusal, which is then
+/// with the state that it is reached in, and each state that a stored one covers. After so many of
+/// them a line says that the rest is not written; the search goes on. At the end it says how much
+/// was explored. For a program that is refused this is all up to the refusal, which is then
 /// returned.
 pub fn write_log<W: Write>(
     alloc: Global,
     image: &Image,
     only: Option<usize>,
+    most: u64,
     out: &mut W,
 ) -> Result<(), LookError> {
     let mut log = Log {
         alloc,
         image,
         only,
+        most,
+        wanted: 0,
         out: &mut *out,
         tally: SearchTally::default(),
         arrived: 0,
