@@ -38,7 +38,7 @@ PROMISES: list[Text] = [
 CLOSED: list[Text] = [("crates/rechecking/src/rechecks.rt", "// The bytes are a closed table", "ensures refused")]
 JUDGED: list[Text] = [
     ("crates/surveys/src/judging.rt", "pub fn judge<", "\n{"),
-    ("crates/survey_commands/src/tables.rt", "pub fn wanted_table<", "\n{"),
+    ("crates/survey_commands/src/tables.rt", "pub fn tested_table<", "\n{"),
 ]
 
 # What the page says of a list.
