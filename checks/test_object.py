@@ -7,7 +7,6 @@ attacks/object_sweep.py.
 """
 import glob
 import os
-import struct
 import subprocess
 import sys
 import tempfile
@@ -15,6 +14,7 @@ import unittest
 import unittest.mock
 from collections.abc import Mapping, Sequence
 
+import common
 from common import TOP, built, bytes_of, text_of, write
 
 sys.dont_write_bytecode = True
@@ -41,9 +41,7 @@ def stored() -> list[str]:
 
 def image_of(code: Sequence[tuple[int, int, int, int, int]], rows: Sequence[Row] = (), magic: bytes = b"XBP1") -> bytes:
     """An image: instructions as opcode, destination, source, offset and imm."""
-    slots = b"".join(struct.pack("<BBhi", opcode, to | of << 4, at, imm) for opcode, to, of, at, imm in code)
-    heads = b"".join(struct.pack("<HHII", *row) for row in rows)
-    return magic + struct.pack("<HH", len(rows), len(code)) + heads + slots
+    return common.image_of(b"".join(common.insn(*it) for it in code), rows, int(magic[3:]))
 
 
 def value(register: int, number: int, offset: int) -> list[tuple[int, int, int, int, int]]:
