@@ -2,7 +2,7 @@
 use Rattle.std.specs.Prelude.{ℕ, List, ◌++◌, Option, Some, None, codes}
 use Rattle.std.specs.declared.io.ErrorKind.{ErrorKind}
 use Rattle.commands.specs.declared.causes.Conflict.{Conflict}
-use Rattle.commands.specs.declared.causes.Conflict.TheVariants.{IsRead, IsStandardOutput, IsWritten}
+use Rattle.commands.specs.declared.causes.Conflict.TheVariants.{IsRead, IsStandardOutput, IsWritten, IsDash}
 use Rattle.commands.specs.Names.{shown_name, dash_line}
 use Rattle.std.specs.declared.io.ErrorKind.TheVariants.{NotFound, PermissionDenied, IsADirectory, NotADirectory, AlreadyExists, ReadOnlyFilesystem, FilesystemLoop, InvalidFilename, InvalidInput, StorageFull, QuotaExceeded, FileTooLarge, ResourceBusy, ExecutableFileBusy, BrokenPipe, WriteZero, Interrupted, WouldBlock, TimedOut, Unsupported, OutOfMemory}
 
@@ -41,6 +41,7 @@ abbrev pub conflict_line : Conflict → List ℕ
 conflict_line IsRead = codes "\nit is one of the files that are read\n"
 conflict_line IsStandardOutput = codes "\nit is the pipe that the report is written to\n"
 conflict_line IsWritten = codes "\nit is another output of this run\n"
+conflict_line IsDash = codes "\nstandard output is /dev/stdout\n"
 
 -- ---- messages
 

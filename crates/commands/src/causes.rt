@@ -79,6 +79,8 @@ pub enum Conflict {
     IsStandardOutput,
     /// It is another output of the same run.
     IsWritten,
+    /// It is the name that other programs take for standard output.
+    IsDash,
 }
 
 /// The end of a line that names such a file, and a line that says why.
@@ -89,6 +91,7 @@ pub fn conflict_line(conflict: Conflict) -> &'static str
         Conflict::IsRead => "\nit is one of the files that are read\n",
         Conflict::IsStandardOutput => "\nit is the pipe that the report is written to\n",
         Conflict::IsWritten => "\nit is another output of this run\n",
+        Conflict::IsDash => "\nstandard output is /dev/stdout\n",
     }
 }
 

@@ -49,7 +49,8 @@ fn create<'a, R: Files>(rt: &R, path: &'a str) -> Result<R::File, TaskOutcome<'a
     }
 }
 
-/// Makes a file to write to, unless it is one of those that are read.
+/// Makes a file to write to, unless it is one of those that are read, or `-`, which other programs
+/// take for standard output.
 pub fn create_file<'a, R: Files>(
     rt: &R,
     path: &'a str,
@@ -57,6 +58,9 @@ pub fn create_file<'a, R: Files>(
 ) -> Result<R::File, TaskOutcome<'a>>
     ensures { IfErr result (IsMakeFailure path.now) }
 {
+    if path == "-" {
+        return Err(TaskOutcome::CannotReplace(path, Conflict::IsDash));
+    }
     for other in read {
         if is_same_file(rt, path, *other) {
             return Err(TaskOutcome::CannotReplace(path, Conflict::IsRead));
@@ -97,6 +101,9 @@ pub fn create_table<'a, R: Files>(
 // Why a path must not be written to, if it is a file that is read, or one that is written already,
 // or what standard output is.
 fn conflict_at<R: Files>(rt: &R, path: &str, read: &[&str], written: &[&str]) -> Option<Conflict> {
+    if path == "-" {
+        return Some(Conflict::IsDash);
+    }
     for other in read {
         if is_same_file(rt, path, *other) {
             return Some(Conflict::IsRead);
