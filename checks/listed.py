@@ -88,6 +88,12 @@ CHECKS = (
     Check("objects_made", "python3 checks/test_object.py", "objects for Linux, made and read", 8),
     Check("files", "python3 checks/test_files.py", "that no tool writes over a file that it reads, and that outputs are whole", 10),
     Check("objects_run", "python3 tests/object_files.py", "stored objects of clang and gcc against their C, compiled here", 8),
+    Check(
+        "damaged_captures",
+        "python3 attacks/damage_captures.py --count 2000",
+        "damaged captures: the packets before the damage, and then the fault with its offset",
+        8,
+    ),
     Check("damage", "python3 attacks/damage_tools.py --each 20", "damaged objects, captures and texts", 10),
     Check("manual", "python3 checks/manual.py --check", "the man pages and completions against what --help says", 2),
     Check("pictures", "python3 checks/pictures.py --check", "the pictures of the pages against what they show", 1),

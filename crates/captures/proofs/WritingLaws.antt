@@ -16,7 +16,7 @@ use Rattle.captures.specs.declared.taking.PartTaken.TheVariants as taken
 use Rattle.captures.specs.CaptureBytes.{CaptureSoFar, capture_of, empty_capture, file_start, interface_blocks, is_kept, none_lost, with_frame, with_frames}
 use Rattle.exact_io.specs.Transfers.{AppendsBeginning}
 use Rattle.captures.specs.FrameBytes.{no_head}
-use Rattle.captures.specs.Writing.{AppendsFront, FailsAt, HasFailed, IsWrittenSoFar, TakesFrame, TakesPart, handed_bytes, no_bytes}
+use Rattle.captures.specs.Writing.{AppendsFront, FailsAt, HasWrittenPart, IsWrittenSoFar, TakesFrame, TakesPart, handed_bytes, no_bytes}
 
 -- ---- captures
 
@@ -259,7 +259,7 @@ pub so_far-failed : (form : CaptureForm) (failure : Option ErrorKind) (version :
     (origin handed before reached reached' : Option (List ℕ)) → failure ≡ None
     → TakesPart form version d l part reached reached' (Err kind)
     → IsWrittenSoFar form failure version part d l origin handed before reached
-    → HasFailed form origin handed before reached'
+    → HasWrittenPart form origin handed before reached'
 so_far-failed form (Some k) version part d l kind origin handed before reached reached' n t w = absurd (cc n)
 so_far-failed form None None part d l kind origin handed before reached reached' n t w =
     record {
@@ -298,7 +298,7 @@ pub so_far-stopped : (form : CaptureForm) (failure : Option ErrorKind) (version 
     (origin handed before reached reached' : Option (List ℕ)) → failure ≡ None
     → Keeps reached reached'
     → IsWrittenSoFar form failure version part d l origin handed before reached
-    → HasFailed form origin handed before reached'
+    → HasWrittenPart form origin handed before reached'
 so_far-stopped form (Some k) version part d l origin handed before reached reached' n kept w = absurd (cc n)
 so_far-stopped form None None part d l origin handed before reached reached' n kept w =
     record {

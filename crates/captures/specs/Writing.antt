@@ -39,7 +39,7 @@ pub record HasWritten (form : CaptureForm) (version : Option Version) (part : Li
   pub wrote : Appends before reached (capture_by form version frames).bytes
 
 -- the output got a beginning of the capture of some frames, the first of which were handed on
-pub record HasFailed (form : CaptureForm) (origin handed before reached : Option (List ℕ))
+pub record HasWrittenPart (form : CaptureForm) (origin handed before reached : Option (List ℕ))
     : Type 0 where
   pub frames : List PacketFrame
   pub more : List PacketFrame
@@ -54,7 +54,7 @@ abbrev pub IsWrittenSoFar : CaptureForm → Option ErrorKind → Option Version 
 IsWrittenSoFar form None version part described lost origin handed before reached =
     HasWritten form version part described lost origin handed before reached
 IsWrittenSoFar form (Some kind) version part described lost origin handed before reached =
-    HasFailed form origin handed before reached
+    HasWrittenPart form origin handed before reached
 
 -- ---- steps
 

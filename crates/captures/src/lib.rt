@@ -9,6 +9,7 @@
 mod blocks;
 mod choices;
 mod collecting;
+mod following;
 mod forms;
 mod gathering;
 mod interfaces;
@@ -23,10 +24,10 @@ mod records;
 mod spelling;
 mod streams;
 mod taking;
-mod trails;
 mod writer;
 
 pub use choices::FramesOf;
+pub use following::{Followed, Unfollowed};
 pub use forms::{
     CaptureFormat, CaptureRefusal, LinkType, MAX_BLOCK, MAX_CAPTURED, NumberOrder, PcapForm,
     TimeUnit, capture_format,
@@ -35,5 +36,4 @@ pub use kinds::{CaptureForm, CaptureKind, LostCounts};
 pub use packets::{CapturedHead, PacketEnd, PacketFault};
 pub use reader::{CaptureReader, Captured, OpenFailure};
 pub use streams::CaptureStream;
-pub use trails::{NoTrail, Trail};
 pub use writer::CaptureWriter;

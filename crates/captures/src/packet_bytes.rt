@@ -3,7 +3,7 @@
 ghost use Rattle.std.specs.Prelude.{◌≡◌, ◌-◌, ◌++◌, ◌≤◌, ◌<◌, ◌^◌, length, take};
 ghost use Rattle.byteorder.specs.Endian.{little_bytes};
 ghost use Rattle.isa_model.specs.Code.Limits.{max_packet};
-ghost use Rattle.captures.specs.Pcapng.{padded};
+ghost use Rattle.captures.specs.Pcapng.{max_interfaces, padded};
 ghost use Rattle.captures.specs.CaptureBytes.{block_head, named_interface, packet_block, packet_head, packet_options, pcap_packet, reason_options};
 
 use super::kinds::MAX_DESCRIBED;
@@ -177,7 +177,7 @@ pub fn spell_block(buffer: &mut [u8; SPELLED], head: &FrameHead, body: &[u8], re
 #[inline(always)]
 pub fn named_interface(interface: u32) -> u32
     ensures number { result ≡ named_interface interface }
-    ensures few { result < 4096 }
+    ensures few { result < max_interfaces }
 {
     if interface < MAX_DESCRIBED {
         interface

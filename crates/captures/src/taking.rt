@@ -32,7 +32,7 @@ pub enum PartTaken {
 
 /// What is known of a capture that is written.
 #[derive(Clone, Copy)]
-pub struct Written {
+pub struct CaptureProgress {
     pub form: CaptureForm,
     /// Of the stream, once its magic was taken.
     pub version: Option<Version>,
@@ -171,7 +171,7 @@ fn head_of(version: Version, part: &[u8]) -> (FrameHead, u32, u32)
 // Takes the magic of a stream.
 fn take_magic<W: Write>(
     output: &mut W,
-    written: Written,
+    written: CaptureProgress,
     part: &[u8],
 ) -> Result<PartTaken, ErrorKind>
     requires { written.version ≡ None }
@@ -191,7 +191,7 @@ fn take_magic<W: Write>(
 #[inline(always)]
 fn take_frame<W: Write>(
     output: &mut W,
-    written: Written,
+    written: CaptureProgress,
     spelled: &mut [u8; SPELLED],
     head: &FrameHead,
     body: &[u8],
@@ -219,7 +219,7 @@ fn take_frame<W: Write>(
 #[inline(always)]
 fn take_record<W: Write>(
     output: &mut W,
-    written: Written,
+    written: CaptureProgress,
     version: Version,
     part: &[u8],
     spelled: &mut [u8; SPELLED],
@@ -247,7 +247,7 @@ fn take_record<W: Write>(
 #[inline(always)]
 pub fn take_part<W: Write>(
     output: &mut W,
-    written: Written,
+    written: CaptureProgress,
     part: &[u8],
     spelled: &mut [u8; SPELLED],
 ) -> Result<PartTaken, ErrorKind>

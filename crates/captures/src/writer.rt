@@ -6,11 +6,11 @@ ghost use Rattle.exact_io.specs.Waiting.{held};
 ghost use Rattle.isa_model.specs.Code.Limits.{max_packet};
 ghost use Rattle.captures.specs.Writing.{IsWrittenSoFar, least_part};
 
+use super::following::Followed;
 use super::kinds::{CaptureForm, LostCounts};
 use super::packet_bytes::SPELLED;
 use super::spelling::RECORD;
-use super::taking::{PartTaken, Written, least_part, take_part};
-use super::trails::Trail;
+use super::taking::{CaptureProgress, PartTaken, least_part, take_part};
 use exact_io::PromptWriter;
 use isa_model::Version;
 use std::io;
@@ -21,10 +21,10 @@ use std::io::{ErrorKind, Write};
 /// A write or a flush that fails is the last one: each later one fails with an error of the same
 /// kind.
 #[derive(Drop)]
-pub struct CaptureWriter<W: Write + Drop, T: Trail> {
+pub struct CaptureWriter<W: Write + Drop, T: Followed> {
     output: PromptWriter<W>,
     trail: T,
-    written: Written,
+    written: CaptureProgress,
     // What has come of the magic or of the next record, and how much of it has to come.
     part: [u8; RECORD],
     count: usize,
@@ -40,7 +40,7 @@ pub struct CaptureWriter<W: Write + Drop, T: Trail> {
         (held W.contents output) ∥₁ },
 }
 
-impl<W: Write + Drop, T: Trail> CaptureWriter<W, T> {
+impl<W: Write + Drop, T: Followed> CaptureWriter<W, T> {
     ghost use Rattle.captures.specs.WriterStates.{failure_by};
 
     /// Writes to an output, which has nothing of the capture yet.
@@ -54,7 +54,7 @@ impl<W: Write + Drop, T: Trail> CaptureWriter<W, T> {
         CaptureWriter {
             output,
             trail,
-            written: Written {
+            written: CaptureProgress {
                 form,
                 version: None,
                 described: 1,
@@ -136,7 +136,7 @@ impl<W: Write + Drop, T: Trail> CaptureWriter<W, T> {
     }
 }
 
-impl<W: Write + Drop, T: Trail> Write for CaptureWriter<W, T> {
+impl<W: Write + Drop, T: Followed> Write for CaptureWriter<W, T> {
     ghost use Rattle.std.specs.Prelude.{MatchResult, OnOk};
     ghost use Rattle.std.specs.IoError.{error_kind};
     ghost use Rattle.exact_io.specs.Waiting.{waiting};

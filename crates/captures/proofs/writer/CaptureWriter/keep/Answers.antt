@@ -26,11 +26,11 @@ invariant_of-self g c =
       formed = s.formed;
       so_far = ∥∥₁_map s.so_far (λ w.
           subst (λ (l : List ℕ). IsWrittenSoFar s.written.form s.failure s.written.version l
-          s.written.described s.written.lost g.T.Trail.origin
-          (g.T.Trail.handed c.note.new.self) g.T.Trail.before
+          s.written.described s.written.lost g.T.Followed.origin
+          (g.T.Followed.handed c.note.new.self) g.T.Followed.before
           (held g.W.Write.contents s.output)) (sym grown)
           (so_far-more s.written.form s.failure s.written.version (take s.count s.part) more
-          s.written.described s.written.lost g.T.Trail.origin (g.T.Trail.handed s.trail)
-          (g.T.Trail.handed c.note.new.self) g.T.Trail.before (held g.W.Write.contents s.output)
+          s.written.described s.written.lost g.T.Followed.origin (g.T.Followed.handed s.trail)
+          (g.T.Followed.handed c.note.new.self) g.T.Followed.before (held g.W.Write.contents s.output)
           c.requires c.note.ensures w));
     }

@@ -17,8 +17,8 @@ invariant_of-self g c =
       formed = s.formed;
       so_far = ∥∥₁_map s.so_far (λ w.
           so_far-begun s.written.form s.failure s.written.version c.in-Ok-Begun.version
-          (take s.count s.part) s.written.described s.written.lost g.T.Trail.origin
-          (g.T.Trail.handed s.trail) g.T.Trail.before
+          (take s.count s.part) s.written.described s.written.lost g.T.Followed.origin
+          (g.T.Followed.handed s.trail) g.T.Followed.before
           (held g.W.Write.contents s.output) (held g.W.Write.contents c.take_part.new.output)
           c.requires c.in-Ok-Begun.field-0 is c.in-Ok-Begun.ensures w);
     }
@@ -37,7 +37,7 @@ invariant_of-self-in-Ok-Written g c =
       so_far = ∥∥₁_map s.so_far (λ w.
           so_far-written s.written.form s.failure s.written.version (take s.count s.part)
           s.written.described c.in-Ok-Written.described s.written.lost c.in-Ok-Written.lost
-          g.T.Trail.origin (g.T.Trail.handed s.trail) g.T.Trail.before
+          g.T.Followed.origin (g.T.Followed.handed s.trail) g.T.Followed.before
           (held g.W.Write.contents s.output) (held g.W.Write.contents c.take_part.new.output)
           c.requires c.in-Ok-Written.field-0 is c.in-Ok-Written.ensures w);
     }
@@ -52,8 +52,8 @@ invariant_of-self-in-Err g c =
       formed = s.formed;
       so_far = ∥∥₁_map s.so_far (λ w.
           so_far-failed s.written.form s.failure s.written.version (take s.count s.part)
-          s.written.described s.written.lost c.in-Err.kind g.T.Trail.origin
-          (g.T.Trail.handed s.trail) g.T.Trail.before
+          s.written.described s.written.lost c.in-Err.kind g.T.Followed.origin
+          (g.T.Followed.handed s.trail) g.T.Followed.before
           (held g.W.Write.contents s.output) (held g.W.Write.contents c.take_part.new.output)
           c.requires c.in-Err.ensures w);
     }

@@ -13,8 +13,8 @@ invariant_of-self g c =
       headed = s.headed;
       formed = s.formed;
       so_far = ∥∥₁_map s.so_far (λ w. so_far-kept s.written.form s.failure s.written.version (take s.count s.part)
-          s.written.described s.written.lost g.T.Trail.origin (g.T.Trail.handed s.trail)
-          g.T.Trail.before (held g.W.Write.contents s.output)
+          s.written.described s.written.lost g.T.Followed.origin (g.T.Followed.handed s.trail)
+          g.T.Followed.before (held g.W.Write.contents s.output)
           (held g.W.Write.contents c.flush.new.self) c.flush.ensures.bytes w);
     }
 
@@ -27,8 +27,8 @@ invariant_of-self-in-Err-flush g c =
       headed = s.headed;
       formed = s.formed;
       so_far = ∥∥₁_map s.so_far (λ w. so_far-stopped s.written.form s.failure s.written.version (take s.count s.part)
-          s.written.described s.written.lost g.T.Trail.origin (g.T.Trail.handed s.trail)
-          g.T.Trail.before (held g.W.Write.contents s.output)
+          s.written.described s.written.lost g.T.Followed.origin (g.T.Followed.handed s.trail)
+          g.T.Followed.before (held g.W.Write.contents s.output)
           (held g.W.Write.contents c.flush.new.self) c.in-Ok.ensures.failure
           c.flush.ensures.bytes w);
     }

@@ -5,7 +5,7 @@ ghost use Rattle.std.specs.Io.KnownBytes.{Appends};
 
 /// Says to contracts which bytes a writer is handed, and what it writes of them. When the program
 /// runs it does nothing.
-pub trait Trail: Drop {
+pub trait Followed: Drop {
     ghost use Rattle.captures.specs.declared.kinds.CaptureForm.{CaptureForm};
 
     /// The capture that is written, where that is known.
@@ -27,9 +27,9 @@ pub trait Trail: Drop {
 
 /// Knows of nothing.
 #[derive(Drop)]
-pub struct NoTrail;
+pub struct Unfollowed;
 
-impl Trail for NoTrail {
+impl Followed for Unfollowed {
     ghost form = { None };
 
     ghost before = { None };
