@@ -1,6 +1,6 @@
 -- Laws of pieces that are put one after the other to the front of a buffer.
-use Rattle.std.proofs.Common.{◌≡◌, ◌∙◌, ℕ, ◌+◌, ◌-◌, ◌<◌, ◌≤◌, List, [], ◌∷◌, ◌++◌, Option, zero, suc, length, take, refl, sym, ap, subst, append_assoc, append-nil, length-append, arith}
-use Rattle.std.specs.Prelude.{replicate}
+use Rattle.std.proofs.Common.{◌≡◌, ◌∙◌, ℕ, ◌+◌, ◌-◌, ◌<◌, ◌≤◌, List, [], ◌∷◌, ◌++◌, Option, Result, Ok, Err, zero, suc, length, take, refl, sym, ap, subst, append_assoc, append-nil, length-append, arith}
+use Rattle.std.specs.Prelude.{OnErr, replicate}
 use Rattle.std.specs.Io.KnownBytes.{Appends}
 use Rattle.std.proofs.lemmas.List.{length-take-le, take-append-le}
 use Rattle.std.proofs.Math.Seq.{take-append-add}
@@ -74,10 +74,12 @@ interface_blocks-split n count less =
     ∙ append_assoc (interface_blocks n) interface_block (interface_blocks more)
 
 -- some blocks were written, and then a beginning of the next one
-pub interface_blocks-part : (a b c : Option (List ℕ)) (n count : ℕ) → n < count
+pub interface_blocks-part : {X E : Type 0} (r : Result X E) (a b c : Option (List ℕ))
+    (n count : ℕ) → n < count
     → Appends a b (interface_blocks n) → AppendsBeginning b c interface_block
-    → AppendsBeginning a c (interface_blocks count)
-interface_blocks-part a b c n count less whole part =
+    → OnErr r (AppendsBeginning a c (interface_blocks count))
+interface_blocks-part (Ok x) a b c n count less whole part = tt
+interface_blocks-part (Err x) a b c n count less whole part =
     let more = interface_blocks (count - (n + 1)) in
     let some = part.0 in
     let front = interface_blocks n in

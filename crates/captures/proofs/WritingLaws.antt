@@ -69,11 +69,6 @@ Beginning-after a b c xs ys whole part = (
       (Appends-trans a b c xs (take part.0 ys) whole part.2),
 )
 
--- an error after which this holds
-pub on_err : {X E : Type 0} (P : Type 0) (r : Result X E) → P → OnErr r P
-on_err P (Ok x) h = tt
-on_err P (Err e) h = h
-
 -- the interfaces and the packet of a block were written
 pub written-block : (a b c : Option (List ℕ)) (n m d : ℕ) (piece block : List ℕ) → n ≡ m
     → piece ≡ block → Appends a b (interface_blocks (n - d)) → Appends b c piece
@@ -82,10 +77,12 @@ written-block a b c n m d piece block e is one two =
     subst (λ (k : ℕ). Appends a c (interface_blocks (k - d) ++ block)) e
     (Appends-trans a b c (interface_blocks (n - d)) block one (subst (Appends b c) is two))
 
-pub failed-block : (a b c : Option (List ℕ)) (n m d : ℕ) (piece block : List ℕ) → n ≡ m
-    → piece ≡ block → Appends a b (interface_blocks (n - d)) → AppendsBeginning b c piece
-    → AppendsBeginning a c (interface_blocks (m - d) ++ block)
-failed-block a b c n m d piece block e is one two =
+-- the interfaces were written, and then an error came
+pub failed-block : {X E : Type 0} (r : Result X E) (a b c : Option (List ℕ)) (n m d : ℕ)
+    (piece block : List ℕ) → n ≡ m → piece ≡ block → Appends a b (interface_blocks (n - d))
+    → AppendsBeginning b c piece → OnErr r (AppendsBeginning a c (interface_blocks (m - d) ++ block))
+failed-block (Ok x) a b c n m d piece block e is one two = tt
+failed-block (Err x) a b c n m d piece block e is one two =
     subst (λ (k : ℕ). AppendsBeginning a c (interface_blocks (k - d) ++ block)) e
     (Beginning-after a b c (interface_blocks (n - d)) block one
     (subst (AppendsBeginning b c) is two))
@@ -121,19 +118,6 @@ handed-record v frames f =
     ∙ sym (append-nil (records_bytes v (frames ++ (f ∷ [])))))
 
 -- ---- states
-
--- a writer that was handed nothing
-pub so_far-fresh : (form : CaptureForm) (origin handed before reached : Option (List ℕ))
-    → Keeps origin handed → Keeps before reached
-    → IsWrittenSoFar form None None [] 1 none_lost origin handed before reached
-so_far-fresh form origin handed before reached known kept =
-    record {
-      frames = [];
-      stream = Appends-kept origin origin handed [] (Appends-nil origin) known;
-      describes = refl;
-      loses = refl;
-      wrote = Appends-kept before before reached [] (Appends-nil before) kept;
-    }
 
 -- more was handed on
 pub so_far-more : (form : CaptureForm) (failure : Option ErrorKind) (version : Option Version)

@@ -3,7 +3,6 @@ use Rattle.std.specs.Io.KnownBytes.{Appends}
 use Rattle.std.proofs.KnownBytes.{Appends-nil, Appends-trans}
 use Rattle.captures.specs.CaptureBytes.{interface_block, interface_blocks}
 use Rattle.captures.proofs.PieceLaws.{interface_blocks-next, interface_blocks-part}
-use Rattle.captures.proofs.WritingLaws.{on_err}
 use Rattle.captures.proofs.taking.write_interfaces.Goals as goal
 
 pub loop-init : goal.loop-init
@@ -12,9 +11,8 @@ loop-init g c = Appends-nil (g.W.Write.contents c.args.output.now)
 
 pub returns-in_err-write_bytes-clause-err : goal.returns-in_err-write_bytes-clause-err
 returns-in_err-write_bytes-clause-err g c =
-    on_err _ c.from_residual.result
-    (interface_blocks-part _ _ _ c.loop.counter c.args.count (omega (arith, c.loop-test.true))
-    c.loop.invariant c.in_err-write_bytes.ensures.err)
+    interface_blocks-part c.from_residual.result _ _ _ c.loop.counter c.args.count (omega (arith, c.loop-test.true))
+    c.loop.invariant c.in_err-write_bytes.ensures.err
 
 pub loop-preserved : goal.loop-preserved
 loop-preserved g c =
