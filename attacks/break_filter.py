@@ -31,6 +31,7 @@ RUNS = (
     ["examples/allow.image", "examples/allow.frames", "made", "--maps", "list", *EVERY_OUTPUT],
     ["examples/allow.image", "examples/allow.frames", "made", "--maps", "list"],
     ["examples/allow.image", "examples/allow.frames", "-", "--maps", "list", "--maps-out", "held"],
+    ["examples/allow.image", "examples/allow.pcapng", "made", "--maps", "list"],
     ["examples/allow.image", "examples/allow.frames", "made", "--maps", "wrong", *EVERY_OUTPUT],
     ["examples/pass.image", "examples/two.frames", "made", "--table", "examples/pass.table"],
     ["examples/pass.image", "examples/two.frames", "made", "--table", "list"],

@@ -93,6 +93,12 @@ CHECKS = (
         "stored objects of clang 14, 16, 19 and gcc 12: their verdicts, and runs against their C, compiled here, and against Linux",
         12,
     ),
+    Check(
+        "damaged_captures",
+        "python3 attacks/damage_captures.py --count 2000",
+        "damaged captures: the packets before the damage, and then the fault with its offset",
+        8,
+    ),
     Check("damage", "python3 attacks/damage_tools.py --each 20", "damaged objects, captures and texts", 10),
     Check("manual", "python3 checks/manual.py --check", "the man pages and completions against what --help says", 2),
     Check("pictures", "python3 checks/pictures.py --check", "the pictures of the pages against what they show", 1),

@@ -1,5 +1,5 @@
 #!/usr/bin/env python3
-"""Captures as frames: xdpvm_filter reads the packets that editcap reads. In the gate.
+"""Captures as frames, and frames as captures: xdpvm_filter reads the packets that editcap reads, and writes them. In the gate.
 
 usage: python3 tests/captures.py [XDPVM_FILTER] [--store]
 
@@ -8,6 +8,9 @@ and offsets of times, enhanced, simple and old packets, comments, and blocks of 
 tests/captures.txt has the SHA-256 of the times and bytes of its packets as Wireshark's editcap copied them into a pcap with
 nanoseconds; --store writes it. Where editcap is installed, each capture is tried anew against that editcap. A resolution of
 10^-10 and finer is left out: there editcap multiplies beyond 64 bits.
+
+Each capture is also written, as a pcap and as a pcapng: the packets of the pcap, and those that editcap reads of the pcapng
+where it is installed, have to be the same.
 
 What differs is printed; the last line counts, and the status is 1 if anything differs.
 """
@@ -132,6 +135,18 @@ def read(program: str, folder: str, path: str) -> str:
     return summed(packets_of_stream(bytes_of(out))) if ran.returncode == 0 else ran.stderr.decode(errors="replace")
 
 
+def wrote(program: str, folder: str, path: str, kept: str) -> list[str]:
+    """What differs in the captures that xdpvm_filter writes of a capture."""
+    wrong = []
+    for ending in ("pcap", "pcapng"):
+        out = os.path.join(folder, f"written.{ending}")
+        subprocess.run([program, PASS, path, out], capture_output=True, check=False)
+        ours = summed(packets_of_pcap(bytes_of(out))) if ending == "pcap" else copied(folder, out)
+        if ours not in (None, kept):
+            wrong.append(f"written as a {ending}: {ours}")
+    return wrong
+
+
 def main(words: list[str]) -> int:
     named = [it for it in words if it != "--store"]
     program = os.path.abspath(named[0] if named else built("xdpvm_filter"))
@@ -149,6 +164,9 @@ def main(words: list[str]) -> int:
             packets += int(kept.split()[0])
             if ours != kept or now not in (None, kept):
                 print(f"seed {seed}: {ours}, stored {kept}, editcap {now}")
+                wrong += 1
+            for it in wrote(program, folder, path, kept):
+                print(f"seed {seed}: stored {kept}, {it}")
                 wrong += 1
     print(f"{len(stored)} captures of {packets} packets, {wrong} differ")
     return 1 if wrong else 0

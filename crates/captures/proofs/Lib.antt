@@ -1,3 +1,5 @@
+pub mod PieceLaws
+pub mod WritingLaws
 pub mod PcapLaws
 pub mod PcapngLaws
 pub mod CapturedLaws

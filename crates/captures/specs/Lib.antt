@@ -8,3 +8,7 @@ pub mod Steps
 pub mod FrameBytes
 pub mod Streams
 pub mod Choices
+pub mod CaptureBytes
+pub mod Writing
+pub mod Reached
+pub mod WriterStates

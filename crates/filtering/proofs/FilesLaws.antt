@@ -24,6 +24,7 @@ use Rattle.filtering.specs.declared.ready.Ready.TheVariants.{Bounded as Bound, T
 use Rattle.filtering.specs.Filling.{BeginsNot, BeginsWith}
 use Rattle.filtering.specs.Files.{EndsRun, FiltersBy, FiltersOn, FiltersSome}
 use Rattle.filtering.specs.Finishing.{WritesEnd}
+use Rattle.filtering.specs.Losing.{WithLoss}
 use Rattle.filtering.specs.Opening.{IsOpenFailure, output_name}
 use Rattle.filtering.specs.Running.{program_of}
 
@@ -58,42 +59,34 @@ verified_refused request p old mid new r e fits h known =
 
 -- the program is accepted and run
 pub verified_run : (request : FilterRequest) (p : Program) (v : Bounded)
-    (old mid more new : Option (List ℕ)) (o : TaskOutcome) (r : Ending) → mid ≡ old → more ≡ mid
+    (old mid more new : Option (List ℕ)) (r : Ending) → mid ≡ old → more ≡ mid
     → IsImage p → v.program ≡ p → IsBoundOf v.program v.bound
-    → FiltersOn (Bound v) request more new o → r.outcome ≡ o → r.why ≡ None
+    → WithLoss (FiltersOn (Bound v) request more new) r
     → FiltersBy Verified request old new r
-verified_run request p v old mid more new o r e f fits is bound h same none =
-    let here : FiltersOn (Bound v) request old new o =
-    subst (λ (x : Option (List ℕ)). FiltersOn (Bound v) request x new o) (f ∙ e) h in
-    inr (inr (
-      v.program,
-      subst IsImage (sym is) fits,
-      (v.bound, bound, plainly (FiltersOn (Bound v) request old new) o r here same none),
-    ))
+verified_run request p v old mid more new r e f fits is bound h =
+    let here : FiltersOn (Bound v) request old new r.outcome =
+    subst (λ (x : Option (List ℕ)). FiltersOn (Bound v) request x new r.outcome) (f ∙ e) h.0 in
+    inr (inr (v.program, subst IsImage (sym is) fits, (v.bound, bound, (here, h.1))))
 
 -- a table shows the bound
 pub shown_run : (request : FilterRequest) (table : List ℕ) (v : Bounded)
-    (old mid new : Option (List ℕ)) (o : TaskOutcome) (r : Ending) → mid ≡ old → IsShown v
-    → FiltersOn (Bound v) request mid new o → r.outcome ≡ o → r.why ≡ None
+    (old mid new : Option (List ℕ)) (r : Ending) → mid ≡ old → IsShown v
+    → WithLoss (FiltersOn (Bound v) request mid new) r
     → FiltersBy (Shown table) request old new r
-shown_run request table v old mid new o r e shown h same none =
-    let here : FiltersOn (Bound v) request old new o =
-    subst (λ (x : Option (List ℕ)). FiltersOn (Bound v) request x new o) e h in
-    inr (v, shown, plainly (FiltersOn (Bound v) request old new) o r here same none)
+shown_run request table v old mid new r e shown h =
+    let here : FiltersOn (Bound v) request old new r.outcome =
+    subst (λ (x : Option (List ℕ)). FiltersOn (Bound v) request x new r.outcome) e h.0 in
+    inr (v, shown, (here, h.1))
 
 -- every access is tested while the program runs
 pub checked_run : (request : FilterRequest) (p : Program) (limit : StepLimit)
-    (old mid new : Option (List ℕ)) (o : TaskOutcome) (r : Ending) → mid ≡ old → IsImage p
-    → FiltersOn (Tested p limit) request mid new o → r.outcome ≡ o → r.why ≡ None
+    (old mid new : Option (List ℕ)) (r : Ending) → mid ≡ old → IsImage p
+    → WithLoss (FiltersOn (Tested p limit) request mid new) r
     → FiltersBy (Checked limit.steps) request old new r
-checked_run request p limit old mid new o r e fits h same none =
-    let here : FiltersOn (Tested p limit) request old new o =
-    subst (λ (x : Option (List ℕ)). FiltersOn (Tested p limit) request x new o) e h in
-    inr (
-      p,
-      fits,
-      (limit, refl, plainly (FiltersOn (Tested p limit) request old new) o r here same none),
-    )
+checked_run request p limit old mid new r e fits h =
+    let here : FiltersOn (Tested p limit) request old new r.outcome =
+    subst (λ (x : Option (List ℕ)). FiltersOn (Tested p limit) request x new r.outcome) e h.0 in
+    inr (p, fits, (limit, refl, (here, h.1)))
 
 -- the bound that the verifier found
 pub bound-of : (p : Program) (v : Bounded) → v.program ≡ p → IsVerified v

@@ -1,3 +1,4 @@
 pub mod FillingLaws
 pub mod FilesLaws
 pub mod DeliveringLaws
+pub mod CapturingLaws

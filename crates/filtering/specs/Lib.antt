@@ -4,5 +4,7 @@ pub mod Counting
 pub mod Delivering
 pub mod Opening
 pub mod Finishing
+pub mod Losing
+pub mod Capturing
 pub mod Files
 pub mod Executing

@@ -1,5 +1,8 @@
 -- The names of a run's files, and how a task ends if one cannot be opened.
-use Rattle.std.specs.Prelude.{ℕ, ◌⊎◌, Bool, true, false, List, Option, Some, None, bytes_eq, codes, if◌then◌else◌}
+use Rattle.std.specs.Prelude.{ℕ, ◌⊎◌, Bool, true, false, List, Option, Some, None, bytes_eq, codes, nat_eq, if◌then◌else◌}
+use Rattle.std.specs.List.{ends_with}
+use Rattle.captures.specs.declared.kinds.CaptureKind.{CaptureKind}
+use Rattle.captures.specs.declared.kinds.CaptureKind.TheVariants as kind
 use Rattle.words.specs.FilterRequests.{FilterRequest}
 use Rattle.messages.specs.declared.forms.FileForm.{FileForm}
 use Rattle.messages.specs.declared.forms.FileForm.TheVariants.{Pcap, Pcapng}
@@ -19,6 +22,34 @@ abbrev pub is_capture : FileForm → Bool
 is_capture Pcap = true
 is_capture Pcapng = true
 is_capture form = false
+
+-- whether a name has this ending
+abbrev pub has_ending : List ℕ → List ℕ → Bool
+has_ending name ending = ends_with nat_eq name ending
+
+-- the format that the end of a name says: of a capture, or else that of a frame stream
+abbrev pub kind_by_name : List ℕ → Option (Option CaptureKind)
+kind_by_name name =
+    if has_ending name (codes ".pcapng") then Some (Some kind.Pcapng)
+    else if has_ending name (codes ".pcap") then Some (Some kind.Pcap)
+    else if has_ending name (codes ".cap") then Some (Some kind.Pcap)
+    else if has_ending name (codes ".frames") then Some None
+    else None
+
+-- the format of a capture in a file of this form
+abbrev pub kind_by_form : FileForm → Option CaptureKind
+kind_by_form Pcap = Some kind.Pcap
+kind_by_form Pcapng = Some kind.Pcapng
+kind_by_form form = None
+
+abbrev pub kind_or : Option (Option CaptureKind) → Option CaptureKind → Option CaptureKind
+kind_or (Some named) other = named
+kind_or None other = other
+
+-- the format of the capture that the frames out become, if they become one: by the end of their
+-- name, or else that in which the frames are read
+abbrev pub kind_of_out : List ℕ → FileForm → Option CaptureKind
+kind_of_out name form = kind_or (kind_by_name name) (kind_by_form form)
 
 -- an output that is wanted cannot be made, or must not be overwritten
 abbrev pub MakesNot : Option (List ℕ) → TaskOutcome → Type 0

@@ -1,12 +1,13 @@
 //! Runs whose report and frames out go to files, and what the maps hold, written to a file.
 
-ghost use Rattle.std.specs.Prelude.{◌≡◌, None};
+ghost use Rattle.std.specs.Prelude.{◌≡◌, None, OnOk};
 ghost use Rattle.exact_io.specs.Waiting.{behind, failure_of, held};
 ghost use Rattle.maps.specs.Maps.{contents_of, rows_of};
 ghost use Rattle.filtering.specs.Running.{program_of};
 ghost use Rattle.filtering.specs.Delivering.{Delivers, Filters, StoresMaps, names_of};
 
 use super::ready::{Ready, run_ready};
+use super::sending::SentOutput;
 use commands::{STANDARD_OUTPUT, TaskOutcome};
 use exact_io::PromptWriter;
 use frames::Source;
@@ -25,50 +26,58 @@ pub struct Names<'a> {
 
 // Flushes the frames out after a run. If the report's output failed, `why` is its cause. Returns
 // what the run came to, or how the task ends.
-fn delivered<'a, W: Write + Drop>(
+fn delivered<'a, O: SentOutput>(
     names: Names<'a>,
     ended: Result<Counted, HostError>,
     why: Option<ErrorKind>,
-    sent: &mut PromptWriter<W>,
+    sent: &mut O,
 ) -> Result<Counted, TaskOutcome<'a>>
-    ensures { Delivers (names_of names.entry) why (failure_of sent.new) ended
-        (held W.contents sent.old) (W.contents (behind sent.new)) result }
+    ensures delivers { Delivers (names_of names.entry) why (O.cause sent.new) ended
+        (O.contents sent.old) (O.got sent.new) result }
+    ensures whole { OnOk result (O.IsDelivered sent.new) }
 {
     match ended {
-        Ok(counted) => match sent.flush() {
+        Ok(counted) => match sent.deliver() {
             Ok(()) => match why {
                 None => Ok(counted),
                 Some(_) => Err(TaskOutcome::CannotWrite(names.report, why)),
             },
             Err(error) => Err(TaskOutcome::CannotWrite(names.sent, Some(error.kind()))),
         },
-        Err(HostError::Memory) => Err(TaskOutcome::NoMemory),
+        Err(HostError::Memory) => {
+            let _ = sent.deliver();
+            Err(TaskOutcome::NoMemory)
+        }
         Err(HostError::Report) => {
-            let _ = sent.flush();
+            let _ = sent.deliver();
             Err(TaskOutcome::CannotWrite(names.report, why))
         }
-        Err(HostError::Frames) => Err(TaskOutcome::CannotWrite(names.sent, sent.failure())),
+        Err(HostError::Frames) => {
+            let _ = sent.deliver();
+            Err(TaskOutcome::CannotWrite(names.sent, sent.cause()))
+        }
     }
 }
 
 /// Runs a program on the frames of a stream, from these maps on. The report and the frames that are
 /// sent on go through buffers to files that were opened by these names. Returns the counts and the
 /// maps after the last frame, or how the task ends.
-pub fn run_reported<'a, S: Source + Drop, W1: Write + Drop, W2: Write + Drop>(
+pub fn run_reported<'a, S: Source + Drop, W: Write + Drop, O: SentOutput>(
     alloc: Global,
     ready: Ready,
     maps: Maps,
     source: S,
     names: Names<'a>,
-    report: &mut PromptWriter<W1>,
-    sent: &mut PromptWriter<W2>,
+    report: &mut PromptWriter<W>,
+    sent: &mut O,
 ) -> Result<Counted, TaskOutcome<'a>>
     requires { rows_of maps ≡ (program_of ready).maps }
-    ensures { Filters ready (contents_of maps)
+    ensures whole { OnOk result (O.IsDelivered sent.new) }
+    ensures filters { Filters ready (contents_of maps)
         record { bytes = S.remaining source; may_fail = S.may_fail } (names_of names.entry)
-        (failure_of report.new) (failure_of sent.new)
-        record { report = held W1.contents report.old; sent = held W2.contents sent.old }
-        record { report = W1.contents (behind report.new); sent = W2.contents (behind sent.new) }
+        (failure_of report.new) (O.cause sent.new)
+        record { report = held W.contents report.old; sent = O.contents sent.old }
+        record { report = W.contents (behind report.new); sent = O.got sent.new }
         result }
 {
     let ended = run_ready(alloc, ready, maps, source, report, sent);
@@ -77,20 +86,21 @@ pub fn run_reported<'a, S: Source + Drop, W1: Write + Drop, W2: Write + Drop>(
 }
 
 /// Runs a program as `run_reported` does, without a report.
-pub fn run_unreported<'a, S: Source + Drop, W: Write + Drop>(
+pub fn run_unreported<'a, S: Source + Drop, O: SentOutput>(
     alloc: Global,
     ready: Ready,
     maps: Maps,
     source: S,
     name: &'a str,
-    sent: &mut PromptWriter<W>,
+    sent: &mut O,
 ) -> Result<Counted, TaskOutcome<'a>>
     requires { rows_of maps ≡ (program_of ready).maps }
-    ensures { Filters ready (contents_of maps)
+    ensures whole { OnOk result (O.IsDelivered sent.new) }
+    ensures filters { Filters ready (contents_of maps)
         record { bytes = S.remaining source; may_fail = S.may_fail }
-        record { report = STANDARD_OUTPUT.now; sent = name.now } None (failure_of sent.new)
-        record { report = None; sent = held W.contents sent.old }
-        record { report = None; sent = W.contents (behind sent.new) } result }
+        record { report = STANDARD_OUTPUT.now; sent = name.now } None (O.cause sent.new)
+        record { report = None; sent = O.contents sent.old }
+        record { report = None; sent = O.got sent.new } result }
 {
     let ended = run_ready(alloc, ready, maps, source, &mut NoReport, sent);
     // Without a report none fails.

@@ -1,19 +1,24 @@
 //! What is done with the files of a run.
 
-ghost use Rattle.std.specs.Prelude.{◌≡◌, option_map};
+ghost use Rattle.std.specs.Prelude.{◌≡◌, OnOk, option_map};
+ghost use Rattle.exact_io.specs.Waiting.{behind};
 ghost use Rattle.maps.specs.Maps.{contents_of, rows_of};
 ghost use Rattle.words.specs.FilterRequests as judging;
 ghost use Rattle.words.specs.FilterRequests.{filter_request_of};
 ghost use Rattle.filtering.specs.Running.{program_of};
+ghost use Rattle.filtering.specs.Capturing.{HasCaptured};
 ghost use Rattle.filtering.specs.Files.{FiltersBy, FiltersFiles, FiltersOn, FiltersSome, RunsWanted};
+ghost use Rattle.filtering.specs.Losing.{WithLoss};
 
 use super::delivering::{Names, run_reported, run_unreported};
 use super::filling::maps_begun;
 use super::finishing::finish;
+use super::losing::{Loss, ending_with};
 use super::opening::{Named, Opened, open_all, output_name};
 use super::ready::Ready;
+use super::sending::SentOutput;
+use captures::{CaptureForm, CaptureKind, CaptureWriter, Followed, Unfollowed};
 use commands::{Ending, TaskOutcome, judge, load_image, load_shown};
-use exact_io::PromptWriter;
 use frames::Source;
 use host::Counted;
 use maps::Maps;
@@ -23,17 +28,18 @@ use std::rt::{Clock, Files};
 use words::{FilterTask, Judging, StepLimit, TablePaths};
 
 // Runs a program, with a report or without.
-fn run_wanted<'a, S: Source + Drop, W: Write + Drop>(
+fn run_wanted<'a, S: Source + Drop, W: Write + Drop, O: SentOutput>(
     alloc: Global,
     ready: Ready,
     maps: Maps,
     source: S,
     report: Option<Named<'a, W>>,
     name: &'a str,
-    sent: &mut PromptWriter<W>,
+    sent: &mut O,
 ) -> Result<Counted, TaskOutcome<'a>>
     requires { rows_of maps ≡ (program_of ready).maps }
-    ensures { RunsWanted ready (contents_of maps)
+    ensures whole { OnOk result (O.IsDelivered sent.new) }
+    ensures runs { RunsWanted ready (contents_of maps)
         record { bytes = S.remaining source; may_fail = S.may_fail }
         (option_map (λ output. output.path.now) report.entry) name.now result }
 {
@@ -49,9 +55,70 @@ fn run_wanted<'a, S: Source + Drop, W: Write + Drop>(
     }
 }
 
-/// Runs a program on the frames of a stream, from these maps on, and writes all that is wanted to
-/// its outputs. The frames out go to an output of this name.
-pub fn filter_opened<'a, S: Source + Drop, W1: Write + Drop, W2: Write>(
+// Runs a program as `run_wanted` does. The frames out become a capture.
+fn run_captured<'a, S: Source + Drop, W1: Write + Drop, W2: Write + Drop, T: Followed>(
+    alloc: Global,
+    ready: Ready,
+    maps: Maps,
+    source: S,
+    report: Option<Named<'a, W1>>,
+    name: &'a str,
+    sent: &mut CaptureWriter<W2, T>,
+) -> Result<Counted, TaskOutcome<'a>>
+    requires { rows_of maps ≡ (program_of ready).maps }
+    ensures runs { RunsWanted ready (contents_of maps)
+        record { bytes = S.remaining source; may_fail = S.may_fail }
+        (option_map (λ output. output.path.now) report.entry) name.now result }
+    ensures captures { OnOk result (∥ HasCaptured T.form sent.new.written.lost T.origin
+        (T.handed sent.new.trail) T.before (W2.contents (behind sent.new.output)) ∥₁) }
+{
+    run_wanted(alloc, ready, maps, source, report, name, sent)
+}
+
+// Runs a program, with a capture of the frames that pass. `loss` gets what it does not say.
+fn filter_to_capture<'a, S: Source + Drop, W1: Write + Drop, W2: Write>(
+    alloc: Global,
+    ready: Ready,
+    maps: Maps,
+    opened: Opened<'a, S, W1>,
+    kind: CaptureKind,
+    name: &'a str,
+    lines: &mut W2,
+    loss: &mut Option<Loss>,
+) -> TaskOutcome<'a>
+    requires { rows_of maps ≡ (program_of ready).maps }
+    ensures { FiltersSome ready (contents_of maps)
+        record { bytes = S.remaining opened.entry.source; may_fail = S.may_fail }
+        opened.entry.form (option_map (λ output. output.path.now) opened.entry.report) name.now
+        (option_map (λ output. output.path.now) opened.entry.maps_out)
+        (W2.contents lines.old) (W2.contents lines.new) result }
+{
+    let Opened {
+        source,
+        form,
+        sent,
+        kind: _,
+        report,
+        maps_out,
+    } = opened;
+    let passing = CaptureForm {
+        kind,
+        has_reasons: false,
+    };
+    let mut sent = CaptureWriter::new(sent, passing, Unfollowed);
+    let ended = run_captured(alloc, ready, maps, source, report, name, &mut sent);
+    *loss = Some(Loss {
+        kind,
+        counts: sent.lost(),
+    });
+    match ended {
+        Ok(counted) => finish(alloc, counted, form, maps_out, lines),
+        Err(outcome) => outcome,
+    }
+}
+
+// Runs a program, with the frame stream of the frames out.
+fn filter_to_stream<'a, S: Source + Drop, W1: Write + Drop, W2: Write>(
     alloc: Global,
     ready: Ready,
     maps: Maps,
@@ -70,12 +137,38 @@ pub fn filter_opened<'a, S: Source + Drop, W1: Write + Drop, W2: Write>(
         source,
         form,
         mut sent,
+        kind: _,
         report,
         maps_out,
     } = opened;
     match run_wanted(alloc, ready, maps, source, report, name, &mut sent) {
         Ok(counted) => finish(alloc, counted, form, maps_out, lines),
         Err(outcome) => outcome,
+    }
+}
+
+/// Runs a program on the frames of a stream, from these maps on, and writes all that is wanted to
+/// its outputs. The frames out go to an output of this name; `loss` gets what their capture does
+/// not say.
+pub fn filter_opened<'a, S: Source + Drop, W1: Write + Drop, W2: Write>(
+    alloc: Global,
+    ready: Ready,
+    maps: Maps,
+    opened: Opened<'a, S, W1>,
+    name: &'a str,
+    lines: &mut W2,
+    loss: &mut Option<Loss>,
+) -> TaskOutcome<'a>
+    requires { rows_of maps ≡ (program_of ready).maps }
+    ensures { FiltersSome ready (contents_of maps)
+        record { bytes = S.remaining opened.entry.source; may_fail = S.may_fail }
+        opened.entry.form (option_map (λ output. output.path.now) opened.entry.report) name.now
+        (option_map (λ output. output.path.now) opened.entry.maps_out)
+        (W2.contents lines.old) (W2.contents lines.new) result }
+{
+    match opened.kind {
+        Some(kind) => filter_to_capture(alloc, ready, maps, opened, kind, name, lines, loss),
+        None => filter_to_stream(alloc, ready, maps, opened, name, lines),
     }
 }
 
@@ -87,6 +180,7 @@ fn filter_on<'a, R: Files + Clock, W: Write>(
     ready: Ready,
     task: FilterTask<'a>,
     lines: &mut W,
+    loss: &mut Option<Loss>,
 ) -> TaskOutcome<'a>
     ensures { FiltersOn ready (filter_request_of task.entry) (W.contents lines.old)
         (W.contents lines.new) result }
@@ -98,10 +192,26 @@ fn filter_on<'a, R: Files + Clock, W: Write>(
     match open_all(rt, alloc, task) {
         Ok(opened) => {
             let name = output_name(task.paths.out);
-            filter_opened(alloc, ready, maps, opened, name, lines)
+            filter_opened(alloc, ready, maps, opened, name, lines, loss)
         }
         Err(outcome) => outcome,
     }
+}
+
+// Runs a program that is ready, and says at the end what its capture does not say.
+fn run_and_tell<'a, R: Files + Clock, W: Write>(
+    rt: &R,
+    alloc: Global,
+    ready: Ready,
+    task: FilterTask<'a>,
+    lines: &mut W,
+) -> Ending<'a>
+    ensures { WithLoss (FiltersOn ready (filter_request_of task.entry) (W.contents lines.old)
+        (W.contents lines.new)) result }
+{
+    let mut loss = None;
+    let outcome = filter_on(rt, alloc, ready, task, lines, &mut loss);
+    ending_with(alloc, outcome, loss)
 }
 
 // Verifies a program and runs it.
@@ -121,7 +231,7 @@ fn filter_verified<'a, R: Files + Clock, W: Write>(
     match judge(rt, alloc, image, lines) {
         Ok(verified) => {
             let ready = Ready::Bounded(verified);
-            Ending::plain(filter_on(rt, alloc, ready, task, lines))
+            run_and_tell(rt, alloc, ready, task, lines)
         }
         Err(ending) => ending,
     }
@@ -142,7 +252,7 @@ fn filter_shown<'a, R: Files + Clock, W: Write>(
     match load_shown(rt, alloc, TablePaths { image, table }, lines) {
         Ok(verified) => {
             let ready = Ready::Bounded(verified);
-            Ending::plain(filter_on(rt, alloc, ready, task, lines))
+            run_and_tell(rt, alloc, ready, task, lines)
         }
         Err(ending) => ending,
     }
@@ -162,7 +272,7 @@ fn filter_checked<'a, R: Files + Clock, W: Write>(
     match load_image(rt, alloc, task.paths.image, lines) {
         Ok(image) => {
             let ready = Ready::Tested(image, limit);
-            Ending::plain(filter_on(rt, alloc, ready, task, lines))
+            run_and_tell(rt, alloc, ready, task, lines)
         }
         Err(outcome) => Ending::plain(outcome),
     }

@@ -7,8 +7,10 @@ mod executing;
 mod files;
 mod filling;
 mod finishing;
+mod losing;
 mod opening;
 mod ready;
+mod sending;
 
 pub use commands::{TaskOutcome, buffered, is_pipe, is_unwatched, piped};
 pub use executing::{execute, execute_given};

@@ -4,9 +4,9 @@ ghost use Rattle.std.specs.Prelude.{◌≡◌, IfErr, IfOk, bytes_eq, codes, opt
 ghost use Rattle.captures.specs.Choices.{IsFramesOf, frames_left};
 ghost use Rattle.commands.specs.Statuses.{IsMakeFailure, IsReadFailure};
 ghost use Rattle.words.specs.FilterRequests.{filter_request_of};
-ghost use Rattle.filtering.specs.Opening.{IsOpenFailure, IsOutputConflict, is_capture, MakesNot, frames_path, output_name};
+ghost use Rattle.filtering.specs.Opening.{IsOpenFailure, IsOutputConflict, has_ending, is_capture, kind_by_form, kind_by_name, kind_of_out, MakesNot, frames_path, output_name};
 
-use captures::{FramesOf, OpenFailure};
+use captures::{CaptureKind, FramesOf, OpenFailure};
 use commands::{
     STANDARD_OUTPUT, TaskOutcome, Watched, begin_frames, create_output, keep_apart, open_frames,
     open_standard_output,
@@ -33,6 +33,8 @@ pub struct Opened<'a, S, W: Write + Drop> {
     /// The form of the frames' file by its first bytes.
     pub form: FileForm,
     pub sent: PromptWriter<W>,
+    /// The format of the capture that the frames out become, if they become one.
+    pub kind: Option<CaptureKind>,
     pub report: Option<Named<'a, W>>,
     pub maps_out: Option<Named<'a, W>>,
 }
@@ -134,6 +136,50 @@ fn open_wanted<'a, R: Files>(
     }
 }
 
+// Whether a name has this ending.
+fn has_ending(name: &str, ending: &str) -> bool
+    ensures { result ≡ has_ending name.now ending.now }
+{
+    name.as_bytes().ends_with(ending.as_bytes())
+}
+
+// The format that the end of a name says: of a capture, or else that of a frame stream.
+fn kind_by_name(name: &str) -> Option<Option<CaptureKind>>
+    ensures { result ≡ kind_by_name name.now }
+{
+    if has_ending(name, ".pcapng") {
+        Some(Some(CaptureKind::Pcapng))
+    } else if has_ending(name, ".pcap") || has_ending(name, ".cap") {
+        Some(Some(CaptureKind::Pcap))
+    } else if has_ending(name, ".frames") {
+        Some(None)
+    } else {
+        None
+    }
+}
+
+// The format of a capture in a file of this form.
+fn kind_by_form(form: FileForm) -> Option<CaptureKind>
+    ensures { result ≡ kind_by_form form }
+{
+    match form {
+        FileForm::Pcap => Some(CaptureKind::Pcap),
+        FileForm::Pcapng => Some(CaptureKind::Pcapng),
+        _ => None,
+    }
+}
+
+// The format of the capture that the frames out become, if they become one: by the end of the name,
+// or else that in which the frames are read.
+fn kind_of_out(name: &str, form: FileForm) -> Option<CaptureKind>
+    ensures { result ≡ kind_of_out name.now form }
+{
+    match kind_by_name(name) {
+        Some(kind) => kind,
+        None => kind_by_form(form),
+    }
+}
+
 // The frame stream of a file with this path and this form: that which a capture becomes, or the
 // file itself.
 fn frames_of<'a, S: Source + Drop>(
@@ -168,6 +214,8 @@ pub fn open_all<'a, 'b, R: Files + Clock>(
         ≡ option_map (λ p. p.now) task.entry.report) }
     ensures maps_out { IfOk result (λ opened. option_map (λ o. o.path.now) opened.maps_out
         ≡ option_map (λ p. p.now) task.entry.maps_out) }
+    ensures kind { IfOk result (λ opened. opened.kind
+        ≡ kind_of_out task.entry.paths.out.now opened.form) }
     ensures failed { IfErr result (IsOpenFailure (filter_request_of task.entry)) }
 {
     let read = files_read(&task);
@@ -185,6 +233,7 @@ pub fn open_all<'a, 'b, R: Files + Clock>(
         source,
         form,
         sent,
+        kind: kind_of_out(out, form),
         report,
         maps_out,
     })

@@ -1,19 +1,16 @@
-use Rattle.std.proofs.Common.{ℕ, List, Option, ap₂, subst, sym}
+use Rattle.std.proofs.Common.{ℕ, List, Option, ap₂, subst}
 use Rattle.std.specs.declared.io.ErrorKind.{ErrorKind}
 use Rattle.host.specs.Writing.{Outputs}
-use Rattle.exact_io.specs.Waiting.{behind, failure_of, held, waiting}
+use Rattle.exact_io.specs.Waiting.{waiting}
 use Rattle.filtering.specs.Delivering.{Delivers, names_of}
 use Rattle.filtering.proofs.DeliveringLaws.{gets-report}
 use Rattle.filtering.proofs.delivering.run_reported.Goals as goal
 
-pub returns : goal.returns
-returns g c =
+pub returns-clause-filters : goal.returns-clause-filters
+returns-clause-filters g c =
     record {
       ended = c.run_ready-ended.result;
-      handed = record {
-        report = held g.W1.Write.contents c.run_ready-ended.new.report;
-        sent = held g.W2.Write.contents c.run_ready-ended.new.sent;
-      };
+      handed = _;
       untouched = λ e. ap₂ (λ (r s : Option (List ℕ)).
           let o : Outputs = record { report = r; sent = s } in o)
           (c.run_ready-ended.ensures.report_untouched e)
@@ -22,8 +19,8 @@ returns g c =
       report = gets-report c.flush.result _ _ _ (waiting c.flush.new.self) c.flush.ensures.bytes
           c.flush.ensures.ok c.flush.ensures.remembered;
       ends = subst (λ (why : Option ErrorKind). Delivers (names_of c.args.names) why
-          (failure_of c.delivered.new.sent) c.run_ready-ended.result
-          (held g.W2.Write.contents c.run_ready-ended.new.sent)
-          (g.W2.Write.contents (behind c.delivered.new.sent)) c.delivered.result)
-          c.failure.ensures c.delivered.ensures;
+          (g.O.SentOutput.cause c.delivered.new.sent) c.run_ready-ended.result
+          (g.O.Write.contents c.run_ready-ended.new.sent)
+          (g.O.SentOutput.got c.delivered.new.sent) c.delivered.result)
+          c.failure.ensures c.delivered.ensures.delivers;
     }

@@ -4,11 +4,10 @@ use Rattle.filtering.proofs.files.filter_checked.Goals as goal
 
 pub returns-in-Ok : goal.returns-in-Ok
 returns-in-Ok g c =
-    checked_run (filter_request_of c.args.task) c.in-Ok.image c.args.limit _ _ _ _ _
-    c.in-Ok.ensures.ok c.in-Ok.ensures.fits c.filter_on.ensures c.plain.ensures.outcome
-    c.plain.ensures.why
+    checked_run (filter_request_of c.args.task) c.in-Ok.image c.args.limit _ _ _ _
+    c.in-Ok.ensures.ok c.in-Ok.ensures.fits c.run_and_tell.ensures
 
 pub returns-in-Err : goal.returns-in-Err
 returns-in-Err g c =
     checked_unloaded (filter_request_of c.args.task) _ _ _ _ _ c.in-Err.ensures.none
-    c.plain-in-Err.ensures.outcome c.plain-in-Err.ensures.why
+    c.plain.ensures.outcome c.plain.ensures.why

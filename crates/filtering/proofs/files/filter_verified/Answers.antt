@@ -14,9 +14,9 @@ returns-in-Err-judge g c =
 
 pub returns-in-Ok-judge : goal.returns-in-Ok-judge
 returns-in-Ok-judge g c =
-    verified_run (filter_request_of c.args.task) c.in-Ok.image c.in-Ok-judge.verified _ _ _ _ _ _
+    verified_run (filter_request_of c.args.task) c.in-Ok.image c.in-Ok-judge.verified _ _ _ _ _
     c.in-Ok.ensures.ok c.in-Ok-judge.ensures.ok c.in-Ok.ensures.fits
     c.in-Ok-judge.ensures.program
     (bound-of c.in-Ok.image c.in-Ok-judge.verified c.in-Ok-judge.ensures.program
     c.in-Ok-judge.ensures.verified c.in-Ok-judge.ensures.number c.in-Ok-judge.ensures.bounds)
-    c.filter_on.ensures c.plain-in-Ok-judge.ensures.outcome c.plain-in-Ok-judge.ensures.why
+    c.run_and_tell.ensures

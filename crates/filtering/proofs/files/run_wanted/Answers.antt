@@ -3,12 +3,12 @@ use Rattle.std.specs.Prelude.{option_map}
 use Rattle.filtering.proofs.DeliveringLaws.{runs-reported, runs-unreported}
 use Rattle.filtering.proofs.files.run_wanted.Goals as goal
 
-pub returns-in-Some : goal.returns-in-Some
-returns-in-Some g c =
+pub returns-in-Some-clause-runs : goal.returns-in-Some-clause-runs
+returns-in-Some-clause-runs g c =
     runs-reported _ _ _ _ _ _ _ _ _ _ _ (ap (option_map (λ output. output.path.now)) c.in-Some.is)
-    c.run_reported.ensures
+    c.run_reported.ensures.filters
 
-pub returns-in-None : goal.returns-in-None
-returns-in-None g c =
+pub returns-in-None-clause-runs : goal.returns-in-None-clause-runs
+returns-in-None-clause-runs g c =
     runs-unreported _ _ _ _ _ _ _ _ _ _
-    (ap (option_map (λ output. output.path.now)) c.in-None.is) c.run_unreported.ensures
+    (ap (option_map (λ output. output.path.now)) c.in-None.is) c.run_unreported.ensures.filters

@@ -1,0 +1,13 @@
+use Rattle.std.proofs.Common.{subst, sym}
+use Rattle.commands.specs.declared.outcomes.TaskOutcome.{TaskOutcome}
+use Rattle.words.specs.FilterRequests.{filter_request_of}
+use Rattle.filtering.specs.Files.{FiltersOn}
+use Rattle.filtering.proofs.files.run_and_tell.Goals as goal
+
+pub returns : goal.returns
+returns g c = (
+  subst (λ (o : TaskOutcome). FiltersOn c.args.ready (filter_request_of c.args.task)
+      (g.W.Write.contents c.args.lines.now) (g.W.Write.contents c.filter_on-outcome.new.lines) o)
+      (sym c.ending_with.ensures.outcome) c.filter_on-outcome.ensures,
+  (c.filter_on-outcome.new.loss, c.ending_with.ensures.why),
+)
