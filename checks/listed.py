@@ -90,7 +90,7 @@ CHECKS = (
     Check("objects_run", "python3 tests/object_files.py", "stored objects of clang and gcc against their C, compiled here", 8),
     Check(
         "damaged_captures",
-        "python3 attacks/damage_captures.py --count 2000",
+        "python3 attacks/damage_captures.py --count 500",
         "damaged captures: the packets before the damage, and then the fault with its offset",
         8,
     ),
