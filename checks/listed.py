@@ -95,7 +95,7 @@ CHECKS = (
     ),
     Check(
         "damaged_captures",
-        "python3 attacks/damage_captures.py --count 2000",
+        "python3 attacks/damage_captures.py --count 500",
         "damaged captures: the packets before the damage, and then the fault with its offset",
         8,
     ),
