@@ -1,4 +1,4 @@
-use Rattle.std.proofs.Common.{refl}
+use Rattle.std.proofs.Common.{codes, refl}
 use Rattle.filtering.specs.Executing.{usage}
 use Rattle.filtering.proofs.DeliveringLaws.{said-wrong}
 use Rattle.filtering.proofs.executing.say_unread.Goals as goal
@@ -15,6 +15,7 @@ pub returns-in-NotUnicode : goal.returns-in-NotUnicode
 returns-in-NotUnicode g c =
     rw c.in-NotUnicode.is (
       refl,
-      said-wrong _ _ _ _ _ usage refl c.write_texts-in-NotUnicode.ensures.ok
+      said-wrong _ _ _ (codes "error: an argument is not UTF-8\n")
+          (codes "error: an argument is not UTF-8\n") usage refl c.write_texts-in-NotUnicode.ensures.ok
           c.write_texts-in-NotUnicode.ensures.err,
     )
