@@ -151,6 +151,12 @@ CHECKS = (
         alone=True,
     ),
     Check("failures", "python3 attacks/break.py --few", "what comes of memory, reads and writes that fail, on three programs", 12),
+    Check(
+        "stack",
+        "python3 attacks/stack.py",
+        "that each command needs at most 512 KB of the machine's stack, and the library 256 for an explanation",
+        8,
+    ),
     Check("survey_failures", "python3 attacks/break_survey.py", "the same of the survey", 8),
     Check("filter_failures", "python3 attacks/break_filter.py", "the same of xdpvm_filter", 8),
     Check(
