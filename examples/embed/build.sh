@@ -49,10 +49,10 @@ fi
 work=$(mktemp -d)
 trap 'rm -rf "$work"' EXIT
 
-# What a command says, with the line of a run taken out.
+# What a command says, without the line of a run and the one that only xdpvm ends a refusal with.
 says() {
     "$@" > "$work/said" 2> "$work/told" || [ $? = 2 ]
-    cat "$work/said" <(grep -v '^action [0-5], [0-9]* steps$' "$work/told" || true)
+    cat "$work/said" <(grep -v -e '^action [0-5], [0-9]* steps$' -e '^xdpvm explain [A-Z][0-9]* says more$' "$work/told" || true)
 }
 
 images=0
