@@ -62,6 +62,7 @@ RUNS = [
     ["run", image("checksum"), frames("checksum"), "made"],
     ["run", image("reasons"), frames("reasons"), "made"],
     ["trace", image("reasons"), frames("reasons"), "made"],
+    ["run", "invalid.image", frames("two"), "made"],
     ["verify", image("pass")],
     ["verify", image("guarded")],
     ["verify", image("endless")],
@@ -92,6 +93,7 @@ RUNS = [
 # by both machines: packets that are read after a test, calls of functions, a map that grows
 FEW_RUNS = [[by, image(name), frames(name), "made"] for name in ("echo", "checksum", "allow") for by in ("run", "trace")]
 FEW_RUNS += by_table("echo") + [["recheck", image("pass"), f"{name}.table"] for name in ("step", "successor")]
+FEW_RUNS += [["run", "invalid.image", frames("two"), "made"]]
 
 # tables of `pass` that are refused: r0 is unset at the exit, or another number; the first number is 0
 ENTRIES = "entry {} slot 0 to 1\nr1 context\nentry 1 slot 1\nr1 context\nr0 {}\n"
@@ -150,11 +152,11 @@ def lacks_reason(found: Answer, good: Answer) -> bool:
 
 
 def lacks_stops(words: list[str], found: Answer, good: Answer) -> bool:
-    """Where the runs of a trace stopped is left out, and standard error has why the stream ended
-    early."""
+    """Where the runs of a trace stopped, or which of a run ended with INVALID, is left out, and
+    standard error has why the stream ended early."""
     same, lines = found.has_outputs_of(good), good.err.splitlines(keepends=True)
     stops = [k for k, line in enumerate(lines) if line.startswith(b"frame ")]
-    return words[0] == "trace" and same and bool(stops) and found.err == b"".join(lines[: stops[0]])
+    return words[0] in ("run", "trace") and same and bool(stops) and found.err == b"".join(lines[: stops[0]])
 
 
 def of_memory(_: Tried, words: list[str], found: Answer, good: Answer) -> str | None:
@@ -202,8 +204,8 @@ ALLOWED = dict(zip(KINDS, (of_memory, of_memory, of_read, of_write, of_write, of
 def takes_memory_late(xdpvm: Tried, words: list[str], good: Answer) -> bool:
     """Whether `run` or `trace` asks for memory once it has written a byte, or has another result if
     all of it is refused then. What is known of a refused program is looked for after the refusal is
-    written, so refusals are left out; and where the runs of a trace stopped is put into words after
-    them."""
+    written, so refusals are left out; and where the runs of a trace stopped, and which of a run
+    ended with INVALID, is put into words after them."""
     found = xdpvm.answer(words, "late-allocs", 1)
     return not lacks_stops(words, found, good) and (found.reached or not found.is_as(good))
 
@@ -235,7 +237,8 @@ def make_files(xdpvm: Tried) -> None:
     write("wrong.text", "exit\ngoto nowhere\n")
     write("again.text", "again: r6 = *(u32 *)(r1 + 12)\nif r6 != 0 goto again\nr0 = 2\nexit\n")
     write("falls.text", "r0 = 2\n")
-    for name in ("again", "falls"):
+    write("invalid.text", "r0 = 77\nexit\n")
+    for name in ("again", "falls", "invalid"):
         subprocess.run([xdpvm.program, "asm", f"{name}.text", f"{name}.image"], stdout=subprocess.DEVNULL, check=True)
     for name in ("pass", "echo", "allow", "reasons"):
         xdpvm.answer(["prove", image(name), "made"])

@@ -6,12 +6,13 @@ usage: python3 attacks/break_survey.py [PROGRAM [FOLDER]]
 
 PROGRAM is xdpvm_survey (the default: crates/xdpvm_survey/out/xdpvm_survey). If an allocation fails,
 the status is 5 and standard error says so, or a row says `memory`; or what is known of a refusal is
-left out. If a read fails, its file is named, with status 4 or more; if a write fails, the output
-is, or standard error got less; it is not written to again. If a file or folder cannot be opened, or
-a folder not listed, standard error names it and says why, with status 4. It never crashes, and
-never accepts an image that `verify` refuses. The times in a row are those of a clock that this
-script sets. With FOLDER it surveys each image there by itself, once with proof tables, and shows
-it. It needs a C compiler (CC). The last line is 'N tried, M wrong'. Without FOLDER in the gate.
+left out. If a read fails, its file is named, with status 4 or more, or the frame stream has a
+fault, with status 3; if a write fails, the output is, or standard error got less; it is not written
+to again. If a file or folder cannot be opened, or a folder not listed, standard error names it and
+says why, with status 4. It never crashes, and never accepts an image that `verify` refuses. The
+times in a row are those of a clock that this script sets. With FOLDER it surveys each image there
+by itself, once with proof tables, and shows it. It needs a C compiler (CC). The last line is
+'N tried, M wrong'. Without FOLDER in the gate.
 """
 import csv
 import json
@@ -38,12 +39,17 @@ RUNS = (
     ["log", "examples/unguarded.image", "--slot", "1"],
     ["dis", "examples/guarded.image"],
     ["dis", "--dot", "examples/guarded.image"],
+    ["hits", "examples/filter.image", "examples/numbers.frames"],
+    ["hits", "examples/unguarded.image", "examples/two.frames", "--format", "json"],
+    ["hits", "examples/quota.image", "examples/two.frames", "--maps", "examples/quota.image.maps", "--format", "csv"],
+    ["steps", "examples/guarded.image", "examples/two.frames", "--frame", "1"],
+    ["steps", "examples/quota.image", "examples/two.frames", "--maps", "examples/quota.image.maps", "--frame", "0", "--json"],
     ["--sort", "nothing", "few"],
     ["--what", "few"],
 )
 TIMES = re.compile(rb" *\d+\.\d+")
 # why break.c lets no file or folder be opened, and no folder be listed
-REASONS = {"open": b"permission denied", "list": b"timed out"}
+REASONS = {"open": b"permission denied", "list": b"it timed out"}
 KINDS = ("alloc", "read", "write", *REASONS)
 
 # When the clock is read for the nth time, it says n * n ticks of so many nanoseconds: between its first and second reading
@@ -67,7 +73,7 @@ def is_right(kind: str, answer: Answer, whole: Answer) -> bool:
     if answer.tried_again:
         return False
     if kind in REASONS:
-        is_named = re.search(rb"^cannot (read|write) \S+: " + REASONS[kind] + b"$", answer.err, re.M)
+        is_named = re.search(rb"^cannot (read|write) \S+\n" + REASONS[kind] + b"$", answer.err, re.M)
         return answer.status == 4 and is_named is not None
     if answer.is_as(whole):
         return True
@@ -75,6 +81,8 @@ def is_right(kind: str, answer: Answer, whole: Answer) -> bool:
         says = answer.err.endswith(b"out of memory\n") or b"memory" in answer.out
         return answer.status == 5 and says or is_shorter(answer, whole)
     if kind == "read":
+        if answer.status == 3 and b"the stream cannot be read\n" in answer.err:
+            return True
         return answer.status in (4, 5) and b"cannot read" in answer.err or answer.status == whole.status and answer.out == whole.out
     less_said = answer.status == whole.status and answer.out == whole.out and answer.err != whole.err
     return answer.status == 4 and b"cannot write" in answer.err or less_said

@@ -1,14 +1,15 @@
 #!/usr/bin/env python3
 """Runs `verify` on images that are made to keep it busy or to take much memory.
 
-usage: python3 attacks/hostile.py [PROGRAM [FAMILY ..]]
+usage: python3 attacks/hostile.py [PROGRAM [--few] [FAMILY ..]]
 
 PROGRAM is an optimized xdpvm (the default: crates/xdpvm/out/xdpvm). Each family is a few images up to the limits of an
 image: 4,096 slots, 8 call frames, 64 stack slots in each call frame, 16 maps. For each image it
 prints the processor seconds and the peak megabytes of `verify`, which searches a second time if it
 refuses, and its verdict. A run that takes longer than LIMIT seconds (the default: 60) or more than
 ROOM megabytes (4000) is ended. The exit status is 1 if an image took over 10 seconds or 300
-megabytes.
+megabytes. With --few, as in the gate, only those images are made that take the most time or memory
+of their kinds, and each may take 30 seconds, since a machine may be slow or busy.
 """
 import os
 import resource
@@ -22,10 +23,18 @@ import common
 
 Image = tuple[str, list[str]]  # a name, and the lines of a text
 PROGRAM = common.program()
-CHOSEN = sys.argv[2:]
+FEW = "--few" in sys.argv
+CHOSEN = [it for it in sys.argv[2:] if it != "--few"]
 LIMIT = int(os.environ.get("LIMIT", "60"))
 ROOM = int(os.environ.get("ROOM", "4000"))
-SECONDS, MEGABYTES = 10, 300
+SECONDS, MEGABYTES = 30 if FEW else 10, 300
+# The images of --few: comparisons of places, words that stored states take, limits of numbers, pending states.
+MOST = (
+    "a loop of branches below 8 frames of 58 null results",
+    "18 look-ups kept on the stack",
+    "signed limits of two numbers",
+    "3,000 tests whether two of 8 numbers with other known bits are one",
+)
 
 
 # ---- pieces of programs
@@ -706,9 +715,11 @@ FAMILIES = [
 def of_both_sorts(images: Iterable[Image]) -> Iterator[Image]:
     """The images, and those with a call."""
     for name, lines in images:
+        if FEW and name not in MOST:
+            continue
         yield name, lines
         called = with_a_call(lines)
-        if called:
+        if called and not FEW:
             yield f"{name}, with a call", called
 
 

@@ -73,6 +73,12 @@ CHECKS = (
     Check("releases", "bash checks/releases.sh", "the archives of a release, tried without the toolchain", 25),
     Check("tools", "python3 checks/test_tools.py", "frames.py, image.py, table.py and xdp.py on small cases", 15),
     Check(
+        "pages",
+        "python3 checks/test_hits.py",
+        "what xdp.py --hits and xdpvm_survey log --html write: counts, what genhtml reads of them, what HTML Tidy says of pages",
+        4,
+    ),
+    Check(
         "filled_maps",
         "python3 checks/test_maps.py",
         "what maps begin with: variables and constants of objects, the file of maps beside an image, the options of xdp.py",
@@ -150,6 +156,13 @@ CHECKS = (
         8,
         alone=True,
     ),
+    Check(
+        "hostile",
+        "python3 attacks/hostile.py crates/xdpvm/out/xdpvm --few",
+        "that the images which keep `verify` busy longest, or take most memory, take at most 30 seconds and 300 MB",
+        18,
+        alone=True,
+    ),
     Check("failures", "python3 attacks/break.py --few", "what comes of memory, reads and writes that fail, on three programs", 12),
     Check(
         "stack",
@@ -158,6 +171,12 @@ CHECKS = (
         8,
     ),
     Check("survey_failures", "python3 attacks/break_survey.py", "the same of the survey", 8),
+    Check(
+        "hits",
+        "python3 attacks/hits_sweep.py --programs 20",
+        "that the counts of hits are those of a second counting over steps, on random programs",
+        6,
+    ),
     Check("filter_failures", "python3 attacks/break_filter.py", "the same of xdpvm_filter", 8),
     Check(
         "tables",

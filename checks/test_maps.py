@@ -204,7 +204,7 @@ class Commands(InFolder):
         """They are named."""
         xdp, its = ["xdp.py", "--xdpvm", sys.executable], f"{EXAMPLES}/pass.image"
         for words, said in (
-            ([*xdp, its, "--maps", "list.maps"], "--maps and --maps-out go with a CAPTURE"),
+            ([*xdp, its, "--maps", "list.maps"], "--maps, --maps-out and --hits go with a CAPTURE"),
             ([*xdp, its, "-", "--maps", "-"], "standard input can be CAPTURE or MAPS, and not both"),
         ):
             ran = self.ran(*words)
@@ -271,6 +271,14 @@ class Runs(InFolder):
         self.assertRegex(said.stdout, r"\nrefused M\d line 3 column \d+\n\Z")
         self.assertRegex(said.stderr, r"(?m)^list\.maps:3:\d+$")
         self.assertFalse(os.path.exists(self.path("kept.maps")))
+
+    def test_a_trace_shows_lines_of_c(self) -> None:
+        """Where runs stopped, by the type information of the object."""
+        said = self.xdp(f"{MADE}/balance.clang14.o", f"{EXAMPLES}/two.frames", "--trace", "--limit", "3")
+        self.assertEqual(said.returncode, 0, said.stderr)
+        first, line = said.stderr.splitlines()[:2]
+        self.assertRegex(first, "^frame 0 and 1 more, slot 3: ")
+        self.assertRegex(line, r"^  .*balance\.c:\d+: BEGIN\(packet, context\);$")
 
     def test_outputs_are_no_inputs(self) -> None:
         """Nor one another."""

@@ -38,9 +38,15 @@ def tell_maps_refused(said: str, path: str | None) -> None:
 def tell_refusal(source: Source, ran: "subprocess.CompletedProcess[str]") -> None:
     """A verdict; where it is a refusal, each slot with its line of the source."""
     print(ran.stdout, end="", file=TOLD[0], flush=True)
-    for line in ran.stderr.splitlines():
+    tell_errors(source, ran.stderr)
+
+
+def tell_errors(source: Source, said: str) -> None:
+    """What a program said on standard error: of a refusal, or where runs stopped. Each slot is followed by its line of
+    the source."""
+    for line in said.splitlines():
         print(line, file=sys.stderr)
-        slot, way = re.match(r"slot (\d+):", line), line.startswith("way:")
+        slot, way = re.match(r"(?:frame \d+(?: and \d+ more)?, )?slot (\d+):", line), line.startswith("way:")
         named = source.line(int(slot[1])) if slot else None
         if named:
             print(f"  {named[0]}: {named[1]}", file=sys.stderr)
@@ -69,8 +75,9 @@ def tell_maps(entries: dict[int, list[list[str]]], source: Source, shows_all: bo
             say(f"  and {len(rows) - len(shown):,} more (--all)")
 
 
-def tell_report(lines: Iterable[str], source: Source, shows_all: bool) -> None:
-    """What the lines of a report say, in counts. A line that is not of a report is printed as it is."""
+def tell_report(lines: Iterable[str], source: Source, shows_all: bool) -> list[str]:
+    """What the lines of a report say, in counts. A line that is not of a report is printed as it is. The result is how many
+    frames had which action and reason, a line each."""
     actions: collections.Counter[str] = collections.Counter()
     reasons: collections.Counter[str] = collections.Counter()
     entries: dict[int, list[list[str]]] = collections.defaultdict(list)
@@ -88,14 +95,19 @@ def tell_report(lines: Iterable[str], source: Source, shows_all: bool) -> None:
             if len(words) == 5 and words[1] != "TRAP" and words[4] != "0":
                 reasons[words[4]] += 1
     if not last:
-        return
+        return []
     total = sum(actions.values())
-    say(f"{plural(total, 'frame')}: " + (", ".join(f"{count:,} {name}" for name, count in actions.most_common()) or "none"))
+    told = [f"{plural(total, 'frame')}: " + (", ".join(f"{count:,} {name}" for name, count in actions.most_common()) or "none")]
     if reasons:
-        say("reasons: " + ", ".join(f"{reason} ({count:,})" for reason, count in sorted(reasons.items(), key=lambda it: -it[1])))
+        told.append(
+            "reasons: " + ", ".join(f"{reason} ({count:,})" for reason, count in sorted(reasons.items(), key=lambda it: -it[1]))
+        )
+    for one in told:
+        say(one)
     tell_maps(entries, source, shows_all)
     if last.startswith("fault"):
         say(last)
+    return told
 
 
 def traced(lines: Iterable[str]) -> Iterator[str]:

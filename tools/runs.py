@@ -7,7 +7,7 @@ import subprocess
 import sys
 import threading
 from dataclasses import dataclass, field
-from collections.abc import Iterator
+from collections.abc import Callable, Iterator
 from typing import IO, BinaryIO
 
 from map_files import Filling
@@ -72,25 +72,28 @@ class Chain:
 
 class Run:
     """The program on frames: its report comes line by line. Where it is xdpvm_filter, standard output has a refusal, or
-    counts that are not needed."""
+    counts that are not needed. Standard error is kept where that is wanted, of a trace, and of xdpvm_filter."""
 
-    def __init__(self, wanted: Wanted, chain: Chain) -> None:
+    def __init__(self, wanted: Wanted, chain: Chain, keeps_errors: bool = False) -> None:
         self.wanted, self.chain = wanted, chain
+        self.keeps_errors = keeps_errors or wanted.is_traced or bool(wanted.filter)
         self.report: IO[bytes] | None = None
         self.child: "subprocess.Popen[bytes] | None" = None
 
     def start(self, frames: str, sent: str, passed: tuple[int, ...] = (), **how: object) -> None:
         """Starts it. `passed` are the files that it gets beside the standard ones."""
         words = self.wanted.words(frames, sent)
-        if not self.wanted.filter:
-            self.child = self.chain.start("xdpvm", words, stdout=subprocess.PIPE, pass_fds=passed, **how)
-            self.report = self.child.stdout
-            return
-        read_end, write_end = os.pipe()
-        words += ["--report", f"/dev/fd/{write_end}"]
-        with open(self.wanted.path("said"), "wb") as said, open(self.wanted.path("errors"), "wb") as errors:
-            to: dict[str, object] = {"stdout": said, "stderr": errors, **how}
-            self.child = self.chain.start("xdpvm", words, pass_fds=(*passed, write_end), **to)
+        with contextlib.ExitStack() as files:
+            if self.keeps_errors:
+                how["stderr"] = files.enter_context(open(self.wanted.path("errors"), "wb"))
+            if not self.wanted.filter:
+                self.child = self.chain.start("xdpvm", words, stdout=subprocess.PIPE, pass_fds=passed, **how)
+                self.report = self.child.stdout
+                return
+            how["stdout"] = files.enter_context(open(self.wanted.path("said"), "wb"))
+            read_end, write_end = os.pipe()
+            words += ["--report", f"/dev/fd/{write_end}"]
+            self.child = self.chain.start("xdpvm", words, pass_fds=(*passed, write_end), **how)
         os.close(write_end)
         self.report = os.fdopen(read_end, "rb")
 
@@ -173,7 +176,7 @@ class Live:
     def __init__(self, wanted: Wanted, ends: Ends) -> None:
         self.ends, self.chain = ends, Chain()
         self.sent = "/dev/null"
-        self.run = Run(wanted, self.chain)
+        self.run = Run(wanted, self.chain, keeps_errors=True)
         self.start(sys.stdin.buffer if ends.capture == "-" else open(ends.capture, "rb"))
 
     def start(self, capture: BinaryIO) -> None:
@@ -186,8 +189,7 @@ class Live:
         read_end, write_end = os.pipe()
         if ends.out:
             self.sent = f"/dev/fd/{write_end}"
-        with open(self.run.wanted.path("errors"), "wb") as errors:
-            self.run.start("/dev/stdin", self.sent, (write_end,), stdin=source, stderr=errors)
+        self.run.start("/dev/stdin", self.sent, (write_end,), stdin=source)
         os.close(write_end)
         if ends.out:
             words = [sys.executable, FRAMES, "--to", ends.kind, "--named", SENT, *ends.reasons, "-", ends.out]
@@ -197,12 +199,13 @@ class Live:
         assert sink is not None
         threading.Thread(target=handed_on, args=(begin, capture, sink), daemon=True).start()
 
-    def finish(self) -> tuple[int, str]:
-        """Waits for all programs; the status of the run, whose errors name what the user named, and its refusal."""
+    def finish(self, tell: Callable[[str], None]) -> tuple[int, str]:
+        """Waits for all programs, and tells the errors of the run, which name what the user named; its status, and its
+        refusal."""
         status, said = self.run.finish()
         if status not in ENDED:
             self.chain.stop()
-        sys.stderr.write(self.run.errors().replace(self.sent, SENT).replace("/dev/stdin", self.ends.capture))
+        tell(self.run.errors().replace(self.sent, SENT).replace("/dev/stdin", self.ends.capture))
         failed = [name for name in self.chain.failed() if name != "xdpvm"]
         if failed and status in ENDED:
             raise Failed(f"{failed[0]} cannot be converted")

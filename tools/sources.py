@@ -104,14 +104,23 @@ def the_xdpvm(environment: Mapping[str, str] | None = None) -> str:
     return (os.environ if environment is None else environment).get("XDPVM") or program_beside("xdpvm")
 
 
-def the_filter(xdpvm: str) -> str:
-    """The program that runs filters whose maps are filled: the one beside xdpvm, or beside the script that was
-    called."""
-    beside = os.path.join(os.path.dirname(shutil.which(xdpvm) or xdpvm), "xdpvm_filter")
-    it = os.environ.get("XDPVM_FILTER") or (beside if os.path.isfile(beside) else program_beside("xdpvm_filter"))
+def one_beside(xdpvm: str, name: str, does: str) -> str:
+    """Another program: the one that the environment names, the one beside xdpvm, or beside the script that was called."""
+    beside = os.path.join(os.path.dirname(shutil.which(xdpvm) or xdpvm), name)
+    it = os.environ.get(name.upper()) or (beside if os.path.isfile(beside) else program_beside(name))
     if not shutil.which(it):
-        raise Failed(f"there is no program {it}, which runs a filter on maps that are filled; `bash install.sh FOLDER` makes one")
+        raise Failed(f"there is no program {it}, which {does}; `bash install.sh FOLDER` makes one")
     return it
+
+
+def the_filter(xdpvm: str) -> str:
+    """The program that runs filters whose maps are filled."""
+    return one_beside(xdpvm, "xdpvm_filter", "runs a filter on maps that are filled")
+
+
+def the_survey(xdpvm: str) -> str:
+    """The program that counts how often each instruction is run."""
+    return one_beside(xdpvm, "xdpvm_survey", "counts how often each instruction is run")
 
 
 def begin_of(path: str) -> bytes:

@@ -2,8 +2,9 @@
 """Runs a filter on a capture: compiles or assembles it, verifies it, runs it, and says what it did.
 
 usage: python3 tools/xdp.py FILTER|-e EXPRESSION [CAPTURE [OUT]] [--maps MAPS] [--maps-out FILE] [--trace [--limit N]]
-                            [--reasons] [--all] [--to KIND] [--xdpvm PROGRAM] [--section NAME] [--program NAME]
-                            [--btf FILE] [--lru-as-hash] [--clang COMPILER] [-- FLAG ..]
+                            [--hits PAGE.html|FILE.info] [--reasons] [--all] [--to KIND] [--xdpvm PROGRAM]
+                            [--section NAME] [--program NAME] [--btf FILE] [--lru-as-hash] [--clang COMPILER]
+                            [-- FLAG ..]
 
 FILTER is C (NAME.c, compiled by clang, or by the COMPILER that is named, as bpf-gcc; the flags after `--` go to it), an
 object file, an image, or a text; with -e it is made of an EXPRESSION of tcpdump, in one word, as filter.py does.
@@ -24,14 +25,20 @@ FILE may be none of the files that are read, and an old one stays as it was unti
 It prints the verdict, how many frames had which action and reason, and what the maps hold (the first ten keys of each,
 with 64 bytes of their values, or --all). If the filter is refused, each slot that the refusal names is followed by its
 line of the source: of the text, or of the C file, as the object's type information has it (clang's -g; bpf-gcc 12 has
-no lines there). --trace prints each frame's line too, and takes a program that `verify` refuses; --limit is its limit
-of instructions a frame. --lru-as-hash makes hash maps of those that drop old keys, as image.py does.
+no lines there). --trace prints each frame's line too, and where runs stopped, with their lines of the source, and takes
+a program that `verify` refuses; --limit is its limit of instructions a frame. --lru-as-hash makes hash maps of those
+that drop old keys, as image.py does.
+
+--hits counts how often each instruction is run, in a second run on the same frames, and writes a page with the source
+and the counts at its margin, where lines that were never run are marked; or, with a name that ends in .info, a file in
+lcov's format, which genhtml and editors show.
 
 examples:
     python3 tools/xdp.py examples/firewall.text examples/firewall.pcapng sent.pcapng
     python3 tools/xdp.py -e 'udp port 53' examples/firewall.pcapng dns.pcapng
     python3 tools/xdp.py examples/talkers.bpf.c examples/talkers.pcapng -- -mcpu=v3
     python3 tools/xdp.py examples/allow.text examples/allow.pcapng --maps monday.maps --maps-out tuesday.maps
+    python3 tools/xdp.py examples/services.bpf.c examples/services.pcapng --hits services.html
     tcpdump -U -w - | python3 tools/xdp.py filter.text - - | tcpdump -r -
 
 The exit status is that of xdpvm, or 1 with a message if a tool before it failed.
@@ -48,12 +55,14 @@ from classic import Failed as NotTranslated
 from classic import asks_for_length, classic_program, compiled
 from expressions import Options, translated
 from failures import Words, end, said
+from hits import counted, files_of, write_lcov
+from hits_page import write_page
 from inputs import named
 from map_files import filling
 from outputs import IsRead, end_by_signal, is_plain, refuse_inputs
-from reports import TOLD, tell_maps_refused, tell_place, tell_refusal, tell_report, traced
+from reports import TOLD, tell_errors, tell_maps_refused, tell_place, tell_refusal, tell_report, traced
 from runs import ENDED, SENT, Chain, Ends, Live, Run, Wanted, converted
-from sources import Choice, Failed, Source, TextRefused, begin_of, image_of, the_filter, the_xdpvm
+from sources import Choice, Failed, Source, TextRefused, begin_of, image_of, the_filter, the_survey, the_xdpvm
 
 KINDS = ("pcap", "pcapng", "frames", "txt")
 CUT = "cut when they were captured"  # what frames.py says where there are such frames
@@ -77,7 +86,7 @@ def kind_of(out: str, to: str | None) -> str:
 def told_of(given: argparse.Namespace, its: Run, source: Source) -> None:
     """Says what the lines of the report have, as they come."""
     lines = its.lines()
-    tell_report(traced(lines) if given.trace else lines, source, given.all)
+    given.told = tell_report(traced(lines) if given.trace else lines, source, given.all)
 
 
 def run_live(given: argparse.Namespace, wanted: Wanted, source: Source) -> tuple[int, str]:
@@ -85,9 +94,21 @@ def run_live(given: argparse.Namespace, wanted: Wanted, source: Source) -> tuple
     live = Live(wanted, Ends(given.capture, given.out, given.kind, ["--reasons"] * given.reasons))
     try:
         told_of(given, live.run, source)
-        return live.finish()
+        return live.finish(lambda said: tell_errors(source, said))
     finally:
         live.chain.stop()
+
+
+def write_hits(given: argparse.Namespace, wanted: Wanted, source: Source, frames: str) -> None:
+    """Counts how often each instruction is run on a frame stream, and writes what is asked for."""
+    maps = wanted.filling.path if wanted.filling else None
+    hits = counted(the_survey(wanted.xdpvm), wanted.image, frames, maps, wanted.limit)
+    hits.verdict, hits.told = given.verdict, given.told
+    files = files_of(hits, source)
+    if given.hits.endswith(".info"):
+        write_lcov(given.hits, files, wanted.read)
+    else:
+        write_page(given.hits, hits, files, source, f"{given.filter or given.expression} on {given.capture}", wanted.read)
 
 
 def run_whole(given: argparse.Namespace, wanted: Wanted, source: Source) -> tuple[int, str]:
@@ -108,9 +129,11 @@ def run_whole(given: argparse.Namespace, wanted: Wanted, source: Source) -> tupl
         status, refusal = its.finish()
     finally:
         chain.stop()
-    sys.stderr.write(its.errors())
+    tell_errors(source, its.errors())
     if given.out and status in ENDED:
         converted(sent, given.out, SENT, "--to", given.kind, *reasons)
+    if given.hits and status in ENDED:
+        write_hits(given, wanted, source, frames)
     return status, refusal
 
 
@@ -123,6 +146,8 @@ def run(given: argparse.Namespace, image: str, source: Source, folder: str) -> i
     wanted = Wanted(given.xdpvm, program, image, folder, given.trace, limit, text, given.maps_out, read)
     ends = [given.capture, *[given.out] * bool(given.out)]
     is_live = any(it == "-" or not is_plain(it) for it in ends)
+    if is_live and given.hits:
+        raise Failed("--hits runs the filter a second time: CAPTURE and OUT have to be files")
     status, refusal = (run_live if is_live else run_whole)(given, wanted, source)
     tell_maps_refused(refusal, text.named if text else None)
     return status
@@ -144,7 +169,7 @@ def arguments() -> argparse.Namespace:
     parser.add_argument("-e", "--expression", metavar="EXPRESSION")
     for name in ("trace", "reasons", "all", "lru-as-hash"):
         parser.add_argument(f"--{name}", action="store_true")
-    for name in ("maps", "maps-out", "limit", "section", "program", "btf"):
+    for name in ("maps", "maps-out", "limit", "hits", "section", "program", "btf"):
         parser.add_argument(f"--{name}")
     parser.add_argument("--to", choices=KINDS)
     parser.add_argument("--xdpvm", default=the_xdpvm())
@@ -156,11 +181,14 @@ def arguments() -> argparse.Namespace:
         parser.error("the files are FILTER, or -e EXPRESSION, and then a CAPTURE and OUT, if they are wanted")
     given.filter, given.capture, given.out = (*files, None, None)[:3]
     given.asks_for_length = False
-    given.kind = ""
+    given.kind = given.verdict = ""
+    given.told = []
     if given.limit and not given.trace:
         parser.error("--limit goes with --trace")
-    if (given.maps or given.maps_out) and given.capture is None:
-        parser.error("--maps and --maps-out go with a CAPTURE")
+    if (given.maps or given.maps_out or given.hits) and given.capture is None:
+        parser.error("--maps, --maps-out and --hits go with a CAPTURE")
+    if given.hits and not given.hits.endswith((".html", ".htm", ".info")):
+        parser.error("--hits PAGE.html writes a page, and --hits FILE.info a file for lcov")
     return given
 
 
@@ -170,10 +198,13 @@ def judge_files(given: argparse.Namespace) -> None:
     if given.out:
         refuse_inputs(given.out, read)
         given.kind = kind_of(given.out, given.to)
-    if given.maps_out:
-        refuse_inputs(given.maps_out, read)
-    if given.out and given.maps_out and os.path.realpath(given.out) == os.path.realpath(given.maps_out):
-        raise Failed(f"{given.out}: OUT and --maps-out are one file")
+    written = [("OUT", given.out), ("--maps-out", given.maps_out), ("--hits", given.hits)]
+    for at, (name, path) in enumerate(written):
+        if path:
+            refuse_inputs(path, read)
+        for other, its in written[:at]:
+            if path and its and os.path.realpath(path) == os.path.realpath(its):
+                raise Failed(f"{path}: {other} and {name} are one file")
     if given.maps == "-" and given.capture == "-":
         raise Failed("standard input can be CAPTURE or MAPS, and not both")
     TOLD[0] = sys.stderr if "-" in (given.out, given.maps_out) else sys.stdout
@@ -196,6 +227,7 @@ def tried(given: argparse.Namespace, folder: str) -> int:
     image, source = image_of(path, choice, folder)
     verdict = subprocess.run([given.xdpvm, "verify", image], capture_output=True, text=True, errors="replace", check=False)
     tell_refusal(source, verdict)
+    given.verdict = verdict.stdout.partition("\n")[0]
     if given.capture is None or verdict.returncode and not given.trace:
         return verdict.returncode
     return run(given, image, source, folder)

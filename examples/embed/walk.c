@@ -1,13 +1,14 @@
 /* Fills a hash map with keys and goes through them by their ranks: they come in the order of their bytes, each once, and a key
    that is added or removed on the way is seen. A walk sorts the keys once, so it is cheap in a large map.
 
-   usage: walk        (built and run by build.sh; the last line says how many keys and how long, and the status is 0) */
+   usage: walk        (built and run by build.sh; the last line says how many keys and how long the quickest of three walks took, each
+   after a change. The status is 0 if that was at most 250 milliseconds of the processor, and 1 if not) */
 #include "xdpvm.h"
 #include <stdio.h>
 #include <string.h>
 #include <time.h>
 
-enum { KEYS = 65536 };
+enum { KEYS = 65536, MOST = 250 };
 
 static const char text[] = "map hash 4 8 65536\nr1 = map_by_idx(0)\nr0 = 2\nexit\n";
 static uint8_t image[XDPVM_MAX_IMAGE], why[4096];
@@ -25,6 +26,13 @@ static size_t walk(void) {
     return rank;
 }
 
+/* How many milliseconds of the processor a walk takes; below 0 where it has not so many keys. */
+static double timed(size_t keys) {
+    clock_t start = clock();
+    if (walk() != keys) return -1;
+    return (double)(clock() - start) * 1000 / CLOCKS_PER_SEC;
+}
+
 int main(void) {
     struct xdpvm_assembled made;
     struct xdpvm_changed changed;
@@ -36,15 +44,19 @@ int main(void) {
         memcpy(key, &mixed, sizeof key);
         if (xdpvm_update(&session, 0, key, sizeof key, value, sizeof value, 0, &changed) || changed.answer) return 1;
     }
-    clock_t start = clock();
-    size_t found = walk();
-    double took = (double)(clock() - start) / CLOCKS_PER_SEC;
-    if (found != KEYS) return 1;
+    double least = timed(KEYS);
+    if (least < 0) return 1;
     /* the key of all zero bytes is the first one */
     memset(key, 0, sizeof key);
-    if (xdpvm_delete(&session, 0, key, sizeof key, &changed) || changed.answer || walk() != KEYS - 1) return 1;
-    if (xdpvm_update(&session, 0, key, sizeof key, value, sizeof value, 0, &changed) || changed.answer || walk() != KEYS) return 1;
+    for (size_t keys = KEYS - 1; keys <= KEYS; keys++) {
+        uint32_t status = keys < KEYS ? xdpvm_delete(&session, 0, key, sizeof key, &changed)
+                                      : xdpvm_update(&session, 0, key, sizeof key, value, sizeof value, 0, &changed);
+        if (status || changed.answer) return 1;
+        double took = timed(keys);
+        if (took < 0) return 1;
+        if (took < least) least = took;
+    }
     xdpvm_close(&session);
-    printf("%d keys in %.0f milliseconds\n", KEYS, took * 1000);
-    return took < 1 ? 0 : 1;
+    printf("%d keys in %.0f milliseconds\n", KEYS, least);
+    return least <= MOST ? 0 : 1;
 }

@@ -1,5 +1,3 @@
-pub mod PieceLaws
-pub mod WritingLaws
 pub mod PcapLaws
 pub mod PcapngLaws
 pub mod CapturedLaws

@@ -24,7 +24,7 @@ use Rattle.captures.proofs.PcapngLaws.{is_section-append, block_size-is}
 use Rattle.captures.proofs.CapturedLaws.{begun-short, packets_from-fuel}
 
 -- the format of a capture depends on no byte after its head
-begun-append : (xs ys : List ℕ) → 24 ≤ length xs → begun (xs ++ ys) ≡ begun xs
+pub begun-append : (xs ys : List ℕ) → 24 ≤ length xs → begun (xs ++ ys) ≡ begun xs
 unfolding begun
 begun-append xs ys h =
     let long : nat_lt (length xs) 24 ≡ false = le-ltb _ _ h in

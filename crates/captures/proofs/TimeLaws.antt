@@ -1,4 +1,4 @@
--- Laws of times: so many units of a power of 10 or 2, in nanoseconds.
+-- Laws of times: units of a power of 10 or 2, in nanoseconds.
 use Rattle.std.proofs.Common.{◌≡◌, ℕ, ◌+◌, ◌-◌, ◌*◌, ◌/◌, ◌%◌, ◌^◌, ◌<◌, ◌≤◌, sym, ap, ◌∙◌, arith}
 use Rattle.std.proofs.Math.Nat.{mul_assoc, mul-div_cancel, mul-div-mul_right, div-eq_of_lt, div-le_self, mod-eq_of_lt, one-le-pow}
 use Rattle.std.proofs.lemmas.Nat.{pow-add}

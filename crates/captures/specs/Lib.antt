@@ -8,7 +8,3 @@ pub mod Steps
 pub mod FrameBytes
 pub mod Streams
 pub mod Choices
-pub mod CaptureBytes
-pub mod Writing
-pub mod Reached
-pub mod WriterStates

@@ -87,7 +87,7 @@ interface_in order block = record {
   snap = field order 12 block;
 }
 
--- so many units, and the interface's offset, in nanoseconds, modulo 2^64
+-- a number of units, and the interface's offset, in nanoseconds, modulo 2^64
 abbrev pub time_at : Interface → ℕ → ℕ
 time_at interface units =
     (units * 10 ^ 9 / units_per_second interface.scale + interface.offset * 10 ^ 9) % 2 ^ 64

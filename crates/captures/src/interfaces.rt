@@ -48,7 +48,7 @@ impl TimeScale {
         }
     }
 
-    /// Returns how many nanoseconds so many units are, modulo 2^64.
+    /// Returns how many nanoseconds a number of units is, modulo 2^64.
     pub fn nanoseconds(self, units: u64) -> u64
         ensures { result ≡ units * 10 ^ 9 / units_per_second self % 2 ^ 64 }
     {
@@ -75,7 +75,7 @@ impl TimeScale {
 }
 
 impl Interface {
-    /// Returns the nanoseconds since the epoch that so many units of the interface's times are,
+    /// Returns the nanoseconds since the epoch that a number of units of the interface's times is,
     /// modulo 2^64.
     pub fn time_at(&self, units: u64) -> u64
         ensures { result ≡ time_at self.now units }

@@ -1,5 +1,5 @@
 //! Reads captures in the pcap and pcapng formats: packet by packet, and as the frame stream that
-//! they become; and writes a capture of the frames of a stream.
+//! they become.
 //!
 //! `specs/Captured.antt` defines which packets the bytes of a capture have and how they end, by the
 //! records of `specs/Pcap.antt` and `specs/Pcapng.antt`, and `specs/FrameBytes.antt` the frame
@@ -9,31 +9,22 @@
 mod blocks;
 mod choices;
 mod collecting;
-mod following;
 mod forms;
 mod gathering;
 mod interfaces;
-mod kinds;
 mod links;
 mod options;
-mod packet_bytes;
 mod packets;
-mod pieces;
 mod reader;
 mod records;
 mod spelling;
 mod streams;
-mod taking;
-mod writer;
 
 pub use choices::FramesOf;
-pub use following::{Followed, Unfollowed};
 pub use forms::{
     CaptureFormat, CaptureRefusal, LinkType, MAX_BLOCK, MAX_CAPTURED, NumberOrder, PcapForm,
     TimeUnit, capture_format,
 };
-pub use kinds::{CaptureForm, CaptureKind, LostCounts};
 pub use packets::{CapturedHead, PacketEnd, PacketFault};
 pub use reader::{CaptureReader, Captured, OpenFailure};
 pub use streams::CaptureStream;
-pub use writer::CaptureWriter;

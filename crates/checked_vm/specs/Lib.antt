@@ -3,3 +3,4 @@ pub mod Machine
 pub mod StepResults
 pub mod Machines
 pub mod Stops
+pub mod Watching

@@ -1,16 +1,19 @@
 //! The checked machine: an image, and the memory to run it.
 
-ghost use Rattle.std.specs.Prelude.{◌≡◌, ◌+◌, ◌≤◌, ℕ, length, IfOk};
+ghost use Rattle.std.specs.Prelude.{◌≡◌, ◌+◌, ◌≤◌, ℕ, List, ◌++◌, length, IfOk};
 ghost use Rattle.isa_model.specs.{max_packet};
 ghost use Rattle.isa_model.specs.Code.Limits.{max_steps};
+ghost use Rattle.isa_model.specs.Machine.States.{State};
 ghost use Rattle.isa_model.specs.Reporting.Reports.{starting_contents};
 ghost use Rattle.maps.specs.Maps.{rows_of, contents_of};
 ghost use Rattle.checked_vm.specs.Machines.{turn_from};
 ghost use Rattle.checked_vm.specs.Stops.{stop_of};
+ghost use Rattle.checked_vm.specs.Watching.{begun_on};
 
 use crate::VmError;
 use crate::core_state::Core;
 use crate::stops::RunEnd;
+use crate::watching::{Unwatched, Watcher};
 use image::Image;
 use isa_model::{Clock, End, FrameHead, Version};
 use live_maps::LiveMaps;
@@ -106,7 +109,6 @@ impl Checked {
     }
 
     /// Runs the program as `run` does, and returns where the run stopped.
-    #[tactic(auto, unfolding(crate::specs::Stops::stop_of))]
     pub fn run_to_stop<C: Clock>(
         &mut self,
         head: FrameHead,
@@ -130,11 +132,51 @@ impl Checked {
             ≡ C.at clock.old
             ((turn_from self.old limit (C.at clock.old) head packet.old).clock_calls + k) }
     {
+        self.run_watched(head, packet, clock, limit, &mut Unwatched)
+    }
+
+    /// Runs the program as `run_to_stop` does; before each step a watcher sees the state.
+    #[tactic(auto, unfolding(crate::specs::Stops::stop_of))]
+    pub fn run_watched<C: Clock, W: Watcher>(
+        &mut self,
+        head: FrameHead,
+        packet: &mut [u8],
+        clock: &mut C,
+        limit: u32,
+        watcher: &mut W,
+    ) -> RunEnd
+        requires short { length packet.old ≤ max_packet }
+        requires some { 1 ≤ limit }
+        requires most { limit ≤ max_steps }
+        ensures stop { result
+            ≡ stop_of self.old.program limit (C.at clock.old) head packet.old self.old.contents }
+        ensures ends { result.end
+            ≡ (turn_from self.old limit (C.at clock.old) head packet.old).ends }
+        ensures packet { packet.new
+            ≡ (turn_from self.old limit (C.at clock.old) head packet.old).packet }
+        ensures contents { self.new.contents
+            ≡ (turn_from self.old limit (C.at clock.old) head packet.old).contents }
+        ensures program { self.new.program ≡ self.old.program }
+        ensures clock { (k : ℕ) → C.at clock.new k
+            ≡ C.at clock.old
+            ((turn_from self.old limit (C.at clock.old) head packet.old).clock_calls + k) }
+        ensures seen { (states : List State)
+            → W.has_seen watcher.old self.old.program.insns states
+            → W.has_seen watcher.new self.old.program.insns
+            (states ++ begun_on self.old.program limit (C.at clock.old) head packet.old
+            self.old.contents) }
+    {
         self.image.recall();
         let version = version_of(&self.image);
-        let end = self
-            .core
-            .run(self.image.code(), version, head, packet, clock, limit);
+        let end = self.core.run(
+            self.image.code(),
+            version,
+            head,
+            packet,
+            clock,
+            limit,
+            watcher,
+        );
         let slot = self.core.slot;
         RunEnd {
             end,

@@ -21,7 +21,11 @@ mod runs;
 mod steps;
 pub mod stops;
 mod values;
+pub mod watching;
 
 pub use checked::Checked;
+pub use core_state::Core;
 pub use maps::MapError as VmError;
+pub use places::index_at;
 pub use stops::RunEnd;
+pub use watching::{Unwatched, Watcher};

@@ -1,8 +1,8 @@
 //! Whole runs within a limit of steps.
 
-ghost use Rattle.std.specs.Prelude.{◌≡◌, ◌≢◌, ◌+◌, ◌<◌, ◌≤◌, ◌^◌, ℕ, List, map, vec_capacity};
+ghost use Rattle.std.specs.Prelude.{◌≡◌, ◌≢◌, ◌+◌, ◌<◌, ◌≤◌, ◌^◌, ℕ, List, ◌++◌, map, vec_capacity};
 ghost use Rattle.isa_model.specs.Code.Instructions.{Program};
-ghost use Rattle.isa_model.specs.Machine.States.{key_values_of};
+ghost use Rattle.isa_model.specs.Machine.States.{State, key_values_of};
 ghost use Rattle.isa_model.specs.Code.Limits.{max_call_frames};
 ghost use Rattle.isa_model.specs.Machine.Steps.{step};
 ghost use Rattle.isa_model.specs.Running.Runs.{progress, turn_of, left, turn, start_state};
@@ -10,9 +10,11 @@ ghost use Rattle.checked_vm.specs.Machine.{state_of, NamesAllRows, IsRunning, St
 ghost use Rattle.checked_vm.specs.declared.steps.Stepped.{Stepped};
 ghost use Rattle.checked_vm.specs.StepResults.{IsStep, ClockAnswers};
 ghost use Rattle.checked_vm.specs.Stops.{state_at};
+ghost use Rattle.checked_vm.specs.Watching.{begun_in, begun_on};
 
 use crate::core_state::Core;
 use crate::steps::Stepped;
+use crate::watching::Watcher;
 use isa_model::{Clock, End, FrameHead, Insn, TrapReason, Version};
 
 impl Core {
@@ -68,14 +70,15 @@ impl Core {
         }
     }
 
-    /// Goes on for at most `limit` steps.
-    fn steps<C: Clock>(
+    /// Goes on for at most `limit` steps; before each one a watcher sees the state.
+    fn steps<C: Clock, W: Watcher>(
         &mut self,
         insns: &[Option<Insn>],
         version: Version,
         packet: &mut [u8],
         clock: &mut C,
         limit: u32,
+        watcher: &mut W,
     ) -> End
         requires running { IsRunning self.old }
         requires serial { self.old.maps.next_serial ≤ 2 ^ 33 }
@@ -92,8 +95,14 @@ impl Core {
             → p.version ≡ version →
             state_at (progress p (C.at clock.old) limit (state_of self.old packet.old))
             ≡ state_of self.new packet.new }
+        ensures seen { (p : Program) → p.insns ≡ insns.now → p.maps ≡ self.old.maps.rows
+            → p.version ≡ version →
+            (states : List State) → W.has_seen watcher.old insns.now states
+            → W.has_seen watcher.new insns.now
+            (states ++ begun_in p (C.at clock.old) limit (state_of self.old packet.old)) }
     {
         for done in 0..limit {
+            watcher.see(insns, self, packet);
             match self.step_with(insns, version, packet, clock) {
                 Stepped::Went => {}
                 Stepped::AsksTime => unreachable!(),
@@ -106,7 +115,7 @@ impl Core {
 
     /// Runs the code of a program of this version on a packet from the start.
     #[tactic(auto, unfolding(isa_model::specs::Running::Runs::turn))]
-    pub fn run<C: Clock>(
+    pub fn run<C: Clock, W: Watcher>(
         &mut self,
         insns: &[Option<Insn>],
         version: Version,
@@ -114,6 +123,7 @@ impl Core {
         packet: &mut [u8],
         clock: &mut C,
         limit: u32,
+        watcher: &mut W,
     ) -> End
         requires room { vec_capacity self.old.frames ≡ max_call_frames }
         requires named { NamesAllRows self.old.maps.rows insns.now }
@@ -131,11 +141,17 @@ impl Core {
             state_at (progress p (C.at clock.old) limit
             (start_state head packet.old (map key_values_of self.old.maps.contents)))
             ≡ state_of self.new packet.new }
+        ensures seen { (p : Program) → p.insns ≡ insns.now → p.maps ≡ self.old.maps.rows
+            → p.version ≡ version →
+            (states : List State) → W.has_seen watcher.old insns.now states
+            → W.has_seen watcher.new insns.now
+            (states ++ begun_on p limit (C.at clock.old) head packet.old
+            (map key_values_of self.old.maps.contents)) }
         ensures clock { (k : ℕ) → C.at clock.new k ≡ C.at clock.old (self.new.clock_calls + k) }
         ensures room { vec_capacity self.new.frames ≡ max_call_frames }
         ensures rows { self.new.maps.rows ≡ self.old.maps.rows }
     {
         self.start(head);
-        self.steps(insns, version, packet, clock, limit)
+        self.steps(insns, version, packet, clock, limit, watcher)
     }
 }

@@ -1,5 +1,5 @@
 -- What a status says of what standard error got.
-use Rattle.std.proofs.Common.{◌≡◌, ℕ, List, ◌++◌, subst, Option, Some, None, String, true, ap, refl, sym, inl, inr, arith}
+use Rattle.std.proofs.Common.{◌≡◌, ℕ, List, ◌++◌, subst, Option, Some, None, String, true, ap, refl, sym, inl, inr, ◌⊎◌, arith}
 use Rattle.std.specs.declared.alloc.Global.{Global}
 use Rattle.std.specs.String.{string_bytes}
 use Rattle.std.proofs.lemmas.Bool.{false≢true}
@@ -13,12 +13,17 @@ use Rattle.commands.specs.Statuses.{status_of, is_unsaid, message_of, IsWordsEnd
 use Rattle.commands.specs.Saying.{AppendsPart}
 use Rattle.commands.specs.Known.{outcome_text, with_code}
 use Rattle.commands.proofs.StatusesLaws.{silent_words, silent_memory, status_fits, unsaid_done}
+use Rattle.std.specs.Prelude.{IfSome}
+use Rattle.isa_model.specs.declared.streams.Fault.{Fault}
 use Rattle.host.specs.Stops.{noted_of}
+use Rattle.messages.specs.declared.forms.FileForm.{FileForm}
 use Rattle.words.specs.Requests.{TaskRequest, RunFiles, Trace, Run, Verify, Prove, Recheck, Assemble, Disassemble, Explain}
 use Rattle.words.specs.Asked.{asked}
 use Rattle.messages.specs.Faults.{fault_lines}
 use Rattle.commands.specs.Executing.{IsTold, TellsDone, TellsFault}
-use Rattle.commands.proofs.Knowing.{Knows, KnowsBy, KnowsStops}
+use Rattle.commands.specs.InvalidRuns.{invalid_lines}
+use Rattle.commands.specs.Stopped.{stop_lines}
+use Rattle.commands.proofs.Knowing.{IsCompleted, Knows, KnowsBy, KnowsInvalid, KnowsStops}
 
 pub told_refused : (o : TaskOutcome) (why : Option (String Global)) (old new : Option (List ℕ))
     → Knows o why → status_of o ≡ 2 → AppendsPart old new (with_code o (outcome_text o why)) → IsTold old new
@@ -180,19 +185,24 @@ faulted_plain NoMemory old new e h = absurd (omega arith)
 
 -- ---- by the request
 
+-- a task whose report was completed is not refused
+unrefused : (o : TaskOutcome) → IsCompleted o → status_of o ≡ 2 → ⊥
+unrefused Done end e = omega arith
+unrefused (Faulted fault form) end e = omega arith
+unrefused (WrongWords message) end e = end
+unrefused (Refused rejected) end e = end
+unrefused (CannotRead path kind) end e = end
+unrefused (CannotWrite path cause) end e = end
+unrefused (CannotReplace path conflict) end e = end
+unrefused NoMemory end e = end
+
 pub refused_by : (request : TaskRequest) (o : TaskOutcome) (why : Option (String Global))
     (old new : Option (List ℕ)) → KnowsBy request o why → status_of o ≡ 2
     → AppendsPart old new (with_code o (outcome_text o why)) → IsTold old new
 refused_by (Trace files limit) o why old new (inl k) e h = told_refused o why old new k e h
-refused_by (Trace files limit) Done why old new (inr k) e h = absurd (omega arith)
-refused_by (Trace files limit) (Faulted fault form) why old new (inr k) e h = absurd (omega arith)
-refused_by (Trace files limit) (WrongWords message) why old new (inr k) e h = absurd k.0
-refused_by (Trace files limit) (Refused rejected) why old new (inr k) e h = absurd k.0
-refused_by (Trace files limit) (CannotRead path kind) why old new (inr k) e h = absurd k.0
-refused_by (Trace files limit) (CannotWrite path cause) why old new (inr k) e h = absurd k.0
-refused_by (Trace files limit) (CannotReplace path conflict) why old new (inr k) e h = absurd k.0
-refused_by (Trace files limit) NoMemory why old new (inr k) e h = absurd k.0
-refused_by (Run files table) o why old new k e h = told_refused o why old new k e h
+refused_by (Trace files limit) o why old new (inr k) e h = absurd (unrefused o k.0 e)
+refused_by (Run files table) o why old new (inl k) e h = told_refused o why old new k e h
+refused_by (Run files table) o why old new (inr k) e h = absurd (unrefused o k.0 e)
 refused_by (Verify path) o why old new k e h = told_refused o why old new k e h
 refused_by (Prove files) o why old new k e h = told_refused o why old new k e h
 refused_by (Recheck files) o why old new k e h = told_refused o why old new k e h
@@ -200,33 +210,58 @@ refused_by (Assemble text image) o why old new k e h = told_refused o why old ne
 refused_by (Disassemble path) o why old new k e h = told_refused o why old new k e h
 refused_by (Explain code) o why old new k e h = told_refused o why old new k e h
 
+-- why a frame stream ended early, and these lines, or not
+abbrev SaysFault : List ℕ → Option (List ℕ) → Option (List ℕ) → Type 0
+SaysFault lines old new =
+    (fault : Fault) × (form : FileForm)
+    × (AppendsPart old new (fault_lines fault form)
+    ⊎ AppendsPart old new (fault_lines fault form ++ lines))
+
+says_fault : (o : TaskOutcome) (why : Option (String Global)) (lines : List ℕ)
+    (old new : Option (List ℕ)) → IsCompleted o → IfSome why (λ text. string_bytes text ≡ lines)
+    → status_of o ≡ 3 → AppendsPart old new (with_code o (outcome_text o why))
+    → SaysFault lines old new
+says_fault (Faulted fault form) None lines old new end is e h = (fault, form, inl h)
+says_fault (Faulted fault form) (Some text) lines old new end is e h = (
+  fault,
+  form,
+  inr (subst (λ (l : List ℕ). AppendsPart old new (fault_lines fault form ++ l)) is h),
+)
+says_fault Done why lines old new end is e h = absurd (omega arith)
+says_fault (WrongWords message) why lines old new end is e h = absurd end
+says_fault (Refused rejected) why lines old new end is e h = absurd end
+says_fault (CannotRead path kind) why lines old new end is e h = absurd end
+says_fault (CannotWrite path cause) why lines old new end is e h = absurd end
+says_fault (CannotReplace path conflict) why lines old new end is e h = absurd end
+says_fault NoMemory why lines old new end is e h = absurd end
+
 stopped_faulted : (o : TaskOutcome) (why : Option (String Global)) (old new : Option (List ℕ))
     → KnowsStops o why → status_of o ≡ 3 → AppendsPart old new (with_code o (outcome_text o why))
     → TellsFault old new
-stopped_faulted (Faulted fault form) None old new k e h = (fault, form, inl h)
-stopped_faulted (Faulted fault form) (Some text) old new (end, (stops, is)) e h = (
-  fault,
-  form,
-  inr (
-    noted_of stops,
-    subst
-        (λ (l : List ℕ). AppendsPart old new (fault_lines fault form ++ l)) is h,
-  ),
-)
-stopped_faulted Done why old new k e h = absurd (omega arith)
-stopped_faulted (WrongWords message) why old new k e h = absurd k.0
-stopped_faulted (Refused rejected) why old new k e h = absurd k.0
-stopped_faulted (CannotRead path kind) why old new k e h = absurd k.0
-stopped_faulted (CannotWrite path cause) why old new k e h = absurd k.0
-stopped_faulted (CannotReplace path conflict) why old new k e h = absurd k.0
-stopped_faulted NoMemory why old new k e h = absurd k.0
+stopped_faulted o why old new (end, (stops, is)) e h =
+    by (says_fault o why (stop_lines (noted_of stops)) old new end is e h)
+  where
+    by : SaysFault (stop_lines (noted_of stops)) old new → TellsFault old new
+    by (fault, form, inl said) = (fault, form, inl said)
+    by (fault, form, inr said) = (fault, form, inr (inl (noted_of stops, said)))
+
+invalid_faulted : (o : TaskOutcome) (why : Option (String Global)) (old new : Option (List ℕ))
+    → KnowsInvalid o why → status_of o ≡ 3
+    → AppendsPart old new (with_code o (outcome_text o why)) → TellsFault old new
+invalid_faulted o why old new (end, (first, count, is)) e h =
+    by (says_fault o why (invalid_lines first count) old new end is e h)
+  where
+    by : SaysFault (invalid_lines first count) old new → TellsFault old new
+    by (fault, form, inl said) = (fault, form, inl said)
+    by (fault, form, inr said) = (fault, form, inr (inr (first, count, said)))
 
 pub faulted_by : (request : TaskRequest) (o : TaskOutcome) (why : Option (String Global))
     (old new : Option (List ℕ)) → KnowsBy request o why → status_of o ≡ 3
     → AppendsPart old new (with_code o (outcome_text o why)) → TellsFault old new
 faulted_by (Trace files limit) o why old new (inl k) e h = told_faulted o why old new k e h
 faulted_by (Trace files limit) o why old new (inr k) e h = stopped_faulted o why old new k e h
-faulted_by (Run files table) o why old new k e h = told_faulted o why old new k e h
+faulted_by (Run files table) o why old new (inl k) e h = told_faulted o why old new k e h
+faulted_by (Run files table) o why old new (inr k) e h = invalid_faulted o why old new k e h
 faulted_by (Verify path) o why old new k e h = told_faulted o why old new k e h
 faulted_by (Prove files) o why old new k e h = told_faulted o why old new k e h
 faulted_by (Recheck files) o why old new k e h = told_faulted o why old new k e h
@@ -241,30 +276,59 @@ quiet : (words : List (List ℕ)) (o : TaskOutcome) (why : Option (String Global
 quiet words o why old new k e unsaid =
     let none = unsaid_done o e in inl (unsaid none (unsaid_knows o why k none))
 
+-- nothing, or these lines
+says_done : (o : TaskOutcome) (why : Option (String Global)) (lines : List ℕ)
+    (old new : Option (List ℕ)) → IsCompleted o → IfSome why (λ text. string_bytes text ≡ lines)
+    → status_of o ≡ 0 → (is_unsaid o ≡ true → why ≡ None → new ≡ old)
+    → AppendsPart old new (with_code o (outcome_text o why))
+    → (new ≡ old) ⊎ AppendsPart old new lines
+says_done Done None lines old new end is e unsaid h = inl (unsaid refl refl)
+says_done Done (Some text) lines old new end is e unsaid h =
+    inr (subst (AppendsPart old new) is h)
+says_done (Faulted fault form) why lines old new end is e unsaid h = absurd (omega arith)
+says_done (WrongWords message) why lines old new end is e unsaid h = absurd end
+says_done (Refused rejected) why lines old new end is e unsaid h = absurd end
+says_done (CannotRead path kind) why lines old new end is e unsaid h = absurd end
+says_done (CannotWrite path cause) why lines old new end is e unsaid h = absurd end
+says_done (CannotReplace path conflict) why lines old new end is e unsaid h = absurd end
+says_done NoMemory why lines old new end is e unsaid h = absurd end
+
 stopped_done : (words : List (List ℕ)) (files : RunFiles) (limit : ℕ) (o : TaskOutcome)
     (why : Option (String Global)) (old new : Option (List ℕ))
     → asked words ≡ Some (Trace files limit) → KnowsStops o why → status_of o ≡ 0
     → (is_unsaid o ≡ true → why ≡ None → new ≡ old) → AppendsPart old new (with_code o (outcome_text o why))
     → TellsDone words old new
-stopped_done words files limit Done None old new is k e unsaid h = inl (unsaid refl refl)
-stopped_done words files limit Done (Some text) old new is (end, (stops, lines)) e unsaid h =
-    inr (record {
+stopped_done words files limit o why old new is (end, (stops, lines)) e unsaid h =
+    by (says_done o why (stop_lines (noted_of stops)) old new end lines e unsaid h)
+  where
+    by : (new ≡ old) ⊎ AppendsPart old new (stop_lines (noted_of stops)) → TellsDone words old new
+    by (inl same) = inl same
+    by (inr said) = inr (inl (record {
       files = files;
       limit = limit;
       is_asked = is;
       noted = noted_of stops;
-      said = subst
-          (AppendsPart old new) lines h;
-    })
-stopped_done words files limit (Faulted fault form) why old new is k e unsaid h =
-    absurd (omega arith)
-stopped_done words files limit (WrongWords message) why old new is k e unsaid h = absurd k.0
-stopped_done words files limit (Refused rejected) why old new is k e unsaid h = absurd k.0
-stopped_done words files limit (CannotRead path kind) why old new is k e unsaid h = absurd k.0
-stopped_done words files limit (CannotWrite path cause) why old new is k e unsaid h = absurd k.0
-stopped_done words files limit (CannotReplace path conflict) why old new is k e unsaid h =
-    absurd k.0
-stopped_done words files limit NoMemory why old new is k e unsaid h = absurd k.0
+      said = said;
+    }))
+
+invalid_done : (words : List (List ℕ)) (files : RunFiles) (table : Option (List ℕ))
+    (o : TaskOutcome) (why : Option (String Global)) (old new : Option (List ℕ))
+    → asked words ≡ Some (Run files table) → KnowsInvalid o why → status_of o ≡ 0
+    → (is_unsaid o ≡ true → why ≡ None → new ≡ old) → AppendsPart old new (with_code o (outcome_text o why))
+    → TellsDone words old new
+invalid_done words files table o why old new is (end, (first, count, lines)) e unsaid h =
+    by (says_done o why (invalid_lines first count) old new end lines e unsaid h)
+  where
+    by : (new ≡ old) ⊎ AppendsPart old new (invalid_lines first count) → TellsDone words old new
+    by (inl same) = inl same
+    by (inr said) = inr (inr (record {
+      files = files;
+      table = table;
+      is_asked = is;
+      first = first;
+      count = count;
+      said = said;
+    }))
 
 pub done_by : (words : List (List ℕ)) (request : TaskRequest) (o : TaskOutcome)
     (why : Option (String Global)) (old new : Option (List ℕ)) → asked words ≡ Some request
@@ -275,7 +339,10 @@ done_by words (Trace files limit) o why old new is (inl k) e unsaid h =
     quiet words o why old new k e unsaid
 done_by words (Trace files limit) o why old new is (inr k) e unsaid h =
     stopped_done words files limit o why old new is k e unsaid h
-done_by words (Run files table) o why old new is k e unsaid h = quiet words o why old new k e unsaid
+done_by words (Run files table) o why old new is (inl k) e unsaid h =
+    quiet words o why old new k e unsaid
+done_by words (Run files table) o why old new is (inr k) e unsaid h =
+    invalid_done words files table o why old new is k e unsaid h
 done_by words (Verify path) o why old new is k e unsaid h = quiet words o why old new k e unsaid
 done_by words (Prove files) o why old new is k e unsaid h = quiet words o why old new k e unsaid
 done_by words (Recheck files) o why old new is k e unsaid h = quiet words o why old new k e unsaid

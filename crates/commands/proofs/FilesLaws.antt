@@ -24,7 +24,7 @@ OpensNone-failed files old new r e (inr h) = inr (h, e)
 
 -- standard output got the report of the runs
 pub runs_on : (files : RunFiles) (old new before after : Option (List ℕ)) (source : Origin)
-    (form : FileForm) (cause : Option ErrorKind) (v : Bounded) (r : TaskOutcome)
+    (form : FileForm) (cause : Option ErrorKind) (v : Bounded) (r : Ending)
     → RunsAccepted v source form files.out cause (record { report = old; sent = before })
     (record { report = new; sent = after }) r → RunsOn files v old new r
 runs_on files old new before after source form cause v r runs =
@@ -38,9 +38,11 @@ runs_on files old new before after source form cause v r runs =
     } in
     inr some
 
-pub opens_on : (files : RunFiles) (old : Option (List ℕ)) (v : Bounded) (r : TaskOutcome)
-    → IsReadFailure files.frames r ⊎ IsMakeFailure files.out r → RunsOn files v old old r
-opens_on files old v r failed = inl (OpensNone-failed files old old r refl failed)
+pub opens_on : (files : RunFiles) (old : Option (List ℕ)) (v : Bounded) (o : TaskOutcome)
+    (r : Ending) → IsReadFailure files.frames o ⊎ IsMakeFailure files.out o → r.outcome ≡ o
+    → r.why ≡ None → RunsOn files v old old r
+opens_on files old v o r failed same none =
+    inl ((rw same (OpensNone-failed files old old o refl failed)), none)
 
 -- ---- texts
 

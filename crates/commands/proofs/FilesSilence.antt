@@ -9,7 +9,9 @@ use Rattle.isa_model.specs.{Program}
 use Rattle.bounds.specs.Bounds.{Bounded}
 use Rattle.host.specs.declared.errors.HostError.{HostError}
 use Rattle.host.specs.declared.errors.HostError.TheVariants as failure
+use Rattle.host.specs.declared.noting.Ran.{Ran}
 use Rattle.host.specs.declared.tallies.Tally.{Tally}
+use Rattle.host.specs.InvalidRuns.{tally_ran}
 use Rattle.words.specs.Requests.{RunFiles}
 use Rattle.table_entries.specs.declared.errors.WriteTableError.{WriteTableError}
 use Rattle.table_entries.specs.declared.errors.WriteTableError.TheVariants as write_error
@@ -114,12 +116,19 @@ pub opens_silent : (files : RunFiles) (old new : Option (List ℕ)) (r : TaskOut
 opens_silent files old new r (inl reads) = reads.1
 opens_silent files old new r (inr makes) = makes.1
 
+-- if memory ran out for the tally of a run, it ran out for the run
+ran_memory : (ended : Result Ran HostError) → tally_ran ended ≡ Err failure.Memory
+    → ended ≡ Err failure.Memory
+ran_memory (Ok ran) e = absurd cc
+ran_memory (Err error) e = cc
+
 -- a program with its bound that was run, or the streams could not be opened
-pub on_silent : (files : RunFiles) (v : Bounded) (old new : Option (List ℕ)) (r : TaskOutcome)
-    → RunsOn files v old new r → is_silent r ≡ true → new ≡ old
-on_silent files v old new r (inl opens) e = opens_silent files old new r opens
+pub on_silent : (files : RunFiles) (v : Bounded) (old new : Option (List ℕ)) (r : Ending)
+    → RunsOn files v old new r → is_silent r.outcome ≡ true → new ≡ old
+on_silent files v old new r (inl (opens, none)) e = opens_silent files old new r.outcome opens
 on_silent files v old new r (inr some) e =
-    some.runs.report_untouched (stops_silent _ _ _ _ _ _ r some.runs.ends e)
+    some.runs.report_untouched
+    (ran_memory some.runs.ended (stops_silent _ _ _ _ _ _ r.outcome some.runs.ends e))
 
 -- an image whose text was written
 pub disassemble_silent : (path : List ℕ) (old new : Option (List ℕ)) (r : TaskOutcome)

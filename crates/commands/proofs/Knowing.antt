@@ -6,8 +6,11 @@ use Rattle.exact_io.specs.declared.buffering.PromptWriter.{PromptWriter}
 use Rattle.exact_io.specs.Waiting.{held}
 use Rattle.std.specs.declared.alloc.Global.{Global}
 use Rattle.isa_model.specs.{Program}
-use Rattle.words.specs.Requests.{TaskRequest, TableFiles, Trace, Run, Verify, Prove, Recheck, Assemble, Disassemble, Explain}
+use Rattle.bounds.specs.Bounds.{Bounded}
+use Rattle.words.specs.Requests.{TaskRequest, RunFiles, TableFiles, Trace, Run, Verify, Prove, Recheck, Assemble, Disassemble, Explain}
 use Rattle.host.specs.declared.errors.HostError.{HostError}
+use Rattle.host.specs.declared.invalid.InvalidFrame.{InvalidFrame}
+use Rattle.host.specs.declared.noting.Ran.{Ran}
 use Rattle.host.specs.declared.stops.Stops.{Stops}
 use Rattle.host.specs.declared.traced.Traced.{Traced}
 use Rattle.host.specs.Stops.{noted_of}
@@ -20,6 +23,8 @@ use Rattle.commands.specs.Flushing.{Flushes, IsFlushed, TellsFailure}
 use Rattle.commands.specs.Statuses.{is_silent}
 use Rattle.commands.specs.Known.{Tells, TellsTable}
 use Rattle.commands.specs.Commands.{Serves, ShowsNone}
+use Rattle.commands.specs.Files.{RunsOn}
+use Rattle.commands.specs.InvalidRuns.{TellsInvalid, TellsInvalidOf, invalid_lines}
 use Rattle.commands.specs.Stopped.{TellsStopsOf, at_end, stop_lines}
 
 -- nothing, or what is known of some program, of some table of a program, or of some program text
@@ -48,10 +53,16 @@ abbrev pub KnowsStops : TaskOutcome → Option (String Global) → Type 0
 KnowsStops o why = IsCompleted o
     × ((stops : Stops) × IfSome why (λ text. string_bytes text ≡ stop_lines (noted_of stops)))
 
+-- which runs ended with INVALID, after a run whose report was completed
+abbrev pub KnowsInvalid : TaskOutcome → Option (String Global) → Type 0
+KnowsInvalid o why = IsCompleted o
+    × ((first : InvalidFrame) × (count : ℕ)
+    × IfSome why (λ text. string_bytes text ≡ invalid_lines first count))
+
 -- what is known after this request
 abbrev pub KnowsBy : TaskRequest → TaskOutcome → Option (String Global) → Type 0
 KnowsBy (Trace files limit) o why = Knows o why ⊎ KnowsStops o why
-KnowsBy (Run files table) o why = Knows o why
+KnowsBy (Run files table) o why = Knows o why ⊎ KnowsInvalid o why
 KnowsBy (Verify path) o why = Knows o why
 KnowsBy (Prove files) o why = Knows o why
 KnowsBy (Recheck files) o why = Knows o why
@@ -62,7 +73,7 @@ KnowsBy (Explain code) o why = Knows o why
 plain_knows : (request : TaskRequest) (o : TaskOutcome) (why : Option (String Global)) → why ≡ None
     → KnowsBy request o why
 plain_knows (Trace files limit) o why h = inl (inl h)
-plain_knows (Run files table) o why h = inl h
+plain_knows (Run files table) o why h = inl (inl h)
 plain_knows (Verify path) o why h = inl h
 plain_knows (Prove files) o why h = inl h
 plain_knows (Recheck files) o why h = inl h
@@ -75,22 +86,47 @@ lines_known : (ended : Result Traced HostError) (o : TaskOutcome) (lines : Optio
 lines_known (Ok traced) o lines end tells = inr (end, (traced.stops, tells.1))
 lines_known (Err error) o lines end tells = inl (inl tells)
 
+-- lines that are kept only where the report was completed
+kept_known : (K : TaskOutcome → Option (String Global) → Type 0) (o : TaskOutcome)
+    (lines why : Option (String Global)) → (IsCompleted o → Knows o lines ⊎ K o lines)
+    → why ≡ at_end o lines → Knows o why ⊎ K o why
+kept_known K Done lines why known is =
+    subst (λ (w : Option (String Global)). Knows Done w ⊎ K Done w) (sym is) (known tt)
+kept_known K (Faulted fault form) lines why known is =
+    subst (λ (w : Option (String Global)). Knows (Faulted fault form) w
+    ⊎ K (Faulted fault form) w) (sym is) (known tt)
+kept_known K (WrongWords message) lines why known is = inl (inl is)
+kept_known K (Refused rejection) lines why known is = inl (inl is)
+kept_known K (CannotRead path kind) lines why known is = inl (inl is)
+kept_known K (CannotWrite path cause) lines why known is = inl (inl is)
+kept_known K (CannotReplace path conflict) lines why known is = inl (inl is)
+kept_known K NoMemory lines why known is = inl (inl is)
+
 stops_known : (ended : Result Traced HostError) (o : TaskOutcome)
     (lines why : Option (String Global)) → TellsStopsOf ended lines → why ≡ at_end o lines
     → Knows o why ⊎ KnowsStops o why
-stops_known ended Done lines why tells is =
-    subst (λ (w : Option (String Global)). Knows Done w ⊎ KnowsStops Done w) (sym is)
-    (lines_known ended Done lines tt tells)
-stops_known ended (Faulted fault form) lines why tells is =
-    subst (λ (w : Option (String Global)). Knows (Faulted fault form) w
-    ⊎ KnowsStops (Faulted fault form) w) (sym is)
-    (lines_known ended (Faulted fault form) lines tt tells)
-stops_known ended (WrongWords message) lines why tells is = inl (inl is)
-stops_known ended (Refused rejection) lines why tells is = inl (inl is)
-stops_known ended (CannotRead path kind) lines why tells is = inl (inl is)
-stops_known ended (CannotWrite path cause) lines why tells is = inl (inl is)
-stops_known ended (CannotReplace path conflict) lines why tells is = inl (inl is)
-stops_known ended NoMemory lines why tells is = inl (inl is)
+stops_known ended o lines why tells is =
+    kept_known KnowsStops o lines why (λ end. lines_known ended o lines end tells) is
+
+first_known : (first : Option InvalidFrame) (count : ℕ) (o : TaskOutcome)
+    (lines : Option (String Global)) → IsCompleted o → TellsInvalid first count lines
+    → Knows o lines ⊎ KnowsInvalid o lines
+first_known None count o lines end tells = inl (inl tells)
+first_known (Some first) count o lines end tells = inr (end, (first, count, tells))
+
+ran_known : (ended : Result Ran HostError) (o : TaskOutcome) (lines : Option (String Global))
+    → IsCompleted o → TellsInvalidOf ended lines → Knows o lines ⊎ KnowsInvalid o lines
+ran_known (Ok ran) o lines end tells =
+    first_known ran.invalid.first ran.invalid.count o lines end tells
+ran_known (Err error) o lines end tells = inl (inl tells)
+
+-- what is known after a program with its bound was run
+run_knows : (files : RunFiles) (v : Bounded) (old new : Option (List ℕ)) (r : Ending)
+    → RunsOn files v old new r → Knows r.outcome r.why ⊎ KnowsInvalid r.outcome r.why
+run_knows files v old new r (inl h) = inl (inl h.1)
+run_knows files v old new r (inr some) =
+    kept_known KnowsInvalid r.outcome some.runs.lines r.why
+    (λ end. ran_known some.runs.ended r.outcome some.runs.lines end some.runs.tells) some.runs.why
 
 served_knows : (request : TaskRequest) (old new : Option (List ℕ)) (r : Ending)
     → Serves (Some request) old new r → KnowsBy request r.outcome r.why
@@ -99,14 +135,18 @@ served_knows (Trace files limit) old new r (inr (p, is, inl h)) = inl (inl h.1)
 served_knows (Trace files limit) old new r (inr (p, is, inr some)) =
     stops_known some.traces.ended r.outcome some.traces.lines r.why some.traces.tells
     some.traces.why
-served_knows (Run files None) old new r (inl h) = inl h.1
-served_knows (Run files None) old new r (inr (p, is, h)) = inr (inl (p, h.1))
-served_knows (Run files (Some table)) old new r (inl h) = none_knows _ old new r h
-served_knows (Run files (Some table)) old new r (inr (v, is, h)) = inl h.1
+served_knows (Run files None) old new r (inl h) = inl (inl h.1)
+served_knows (Run files None) old new r (inr (p, is, inl (refused, known))) =
+    inl (inr (inl (p, known)))
+served_knows (Run files None) old new r (inr (p, is, inr (bound, of, runs))) =
+    run_knows files _ old new r runs
+served_knows (Run files (Some table)) old new r (inl h) = inl (none_knows _ old new r h)
+served_knows (Run files (Some table)) old new r (inr (v, is, runs)) =
+    run_knows files v old new r runs
 served_knows (Verify path) old new r (inl h) = inl h.1
 served_knows (Verify path) old new r (inr (p, is, h)) = inr (inl (p, h.1))
-served_knows (Prove files) old new r (inl h) = inl h.1
-served_knows (Prove files) old new r (inr (p, is, h)) = inr (inl (p, h.1))
+served_knows (Prove files) old new r (a, b, inl h) = inl h.0.1
+served_knows (Prove files) old new r (a, b, inr (p, is, h)) = inr (inl (p, h.1))
 served_knows (Recheck files) old new r (inl h) = none_knows files old new r h
 served_knows (Recheck files) old new r (inr (v, is, h)) = inl h.1
 served_knows (Assemble text image) old new r (inl h) = inl h.1

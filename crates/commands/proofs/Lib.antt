@@ -10,5 +10,7 @@ mod Served
 mod SettledBytes
 mod ShownNames
 mod Silence
+mod Sizes
 pub mod StatusesLaws
+mod Telling
 mod TextsLaws

@@ -27,7 +27,7 @@ use Rattle.commands.specs.Known.{IsKnownOfProgram, IsKnownOfTable, Tells}
 use Rattle.commands.specs.Judging.{IsBoundOf, RefusesProgram, RefusesTable, Verifies}
 use Rattle.commands.specs.Streams.{Traces}
 use Rattle.commands.specs.Proving.{StoresTable}
-use Rattle.commands.specs.Commands.{ShowsNone, TracesFile, TracesSome, IsShown, VerifiesFile, RechecksFile, ProvesFile, ProvesSome, RunsFile, RunsShown}
+use Rattle.commands.specs.Commands.{ShowsNone, TracesFile, TracesSome, IsShown, VerifiesFile, RechecksFile, ProvesTold, ProvesSome, RunsFile, RunsShown}
 
 -- a message without lines at its end says nothing of a program
 pub tells-none : (p : Program) (o : TaskOutcome) (why : Option (String Global)) → why ≡ None
@@ -113,26 +113,22 @@ pub image_refused : (files : RunFiles) (old mid new : Option (List ℕ)) (p : Pr
     → mid ≡ old → IsImage p → RefusesProgram p mid new r.outcome → IsKnownOfProgram p r
     → RunsFile files old new r
 image_refused files old mid new p r e h v known =
-    inr (p, h, (inl (subst (λ (o : Option (List ℕ)). RefusesProgram p o new r.outcome) e v), known))
+    inr (p, h, inl (subst (λ (o : Option (List ℕ)). RefusesProgram p o new r.outcome) e v, known))
 
 -- nothing was written before
-runs-first : (files : RunFiles) (old mid new : Option (List ℕ)) (v : Bounded) (o r : TaskOutcome)
-    → mid ≡ old → RunsOn files v mid new o → r ≡ o → RunsOn files v old new r
-runs-first files old mid new v o r e runs same =
-    rw same (subst (λ (x : Option (List ℕ)). RunsOn files v x new o) e runs)
+runs-first : (files : RunFiles) (old mid new : Option (List ℕ)) (v : Bounded) (r : Ending)
+    → mid ≡ old → RunsOn files v mid new r → RunsOn files v old new r
+runs-first files old mid new v r e runs =
+    subst (λ (x : Option (List ℕ)). RunsOn files v x new r) e runs
 
-pub image_run : (files : RunFiles) (old mid now new : Option (List ℕ)) (v : Bounded)
-    (o : TaskOutcome) (r : Ending) → mid ≡ old → now ≡ mid → IsBoundOf v.program v.bound
-    → RunsOn files v now new o → r.outcome ≡ o → r.why ≡ None → RunsFile files old new r
-image_run files old mid now new v o r e f h runs same none =
+pub image_run : (files : RunFiles) (old mid now new : Option (List ℕ)) (v : Bounded) (r : Ending)
+    → mid ≡ old → now ≡ mid → IsBoundOf v.program v.bound → RunsOn files v now new r
+    → RunsFile files old new r
+image_run files old mid now new v r e f h runs =
     inr (
       v.program,
       h.verified.image,
-      (
-        inr (v.bound, h, runs-first files old now new v o r.outcome (f ∙ e) runs same),
-        tells-none
-            v.program r.outcome r.why none,
-      ),
+      inr (v.bound, h, runs-first files old now new v r (f ∙ e) runs),
     )
 
 -- ---- tables
@@ -183,49 +179,66 @@ bound_said files old mid new v o r e is accepts same none =
     inr (v, is, (rw same (subst (λ (x : Option (List ℕ)). Accepts v x new o) e accepts), none))
 
 pub shown_run : (files : RunFiles) (table : List ℕ) (old mid new : Option (List ℕ)) (v : Bounded)
-    (o : TaskOutcome) (r : Ending) → mid ≡ old → IsShown v → RunsOn files v mid new o
-    → r.outcome ≡ o → r.why ≡ None → RunsShown files table old new r
-shown_run files table old mid new v o r e is runs same none =
-    inr (v, is, (runs-first files old mid new v o r.outcome e runs same, none))
+    (r : Ending) → mid ≡ old → IsShown v → RunsOn files v mid new r
+    → RunsShown files table old new r
+shown_run files table old mid new v r e is runs =
+    inr (v, is, runs-first files old mid new v r e runs)
 
 -- ---- `prove`
 
-pub prove_unloaded : (files : TableFiles) (old new : Option (List ℕ)) (o : TaskOutcome) (r : Ending)
-    → LoadsNone files.image old new o → r.outcome ≡ o → r.why ≡ None → ProvesFile files old new r
-prove_unloaded files old new o r h same none = inl (unloaded files.image old new o r h same none)
+pub prove_unloaded : (files : TableFiles) (old new told_old told_new : Option (List ℕ))
+    (o : TaskOutcome) (r : Ending) → LoadsNone files.image old new o → told_new ≡ told_old
+    → r.outcome ≡ o → r.why ≡ None → ProvesTold files old new told_old told_new r
+prove_unloaded files old new told_old told_new o r h untold same none =
+    inl (unloaded files.image old new o r h same none, untold)
 
-pub prove_refused : (files : TableFiles) (old mid new : Option (List ℕ)) (p : Program) (r : Ending)
-    → mid ≡ old → IsImage p → RefusesProgram p mid new r.outcome → IsKnownOfProgram p r
-    → ProvesFile files old new r
-prove_refused files old mid new p r e h v known =
-    inr (p, h, (inl (subst (λ (o : Option (List ℕ)). RefusesProgram p o new r.outcome) e v), known))
+pub prove_refused : (files : TableFiles) (old mid new told_old told_new : Option (List ℕ))
+    (p : Program) (r : Ending) → mid ≡ old → IsImage p → RefusesProgram p mid new r.outcome
+    → IsKnownOfProgram p r → told_new ≡ told_old → ProvesTold files old new told_old told_new r
+prove_refused files old mid new told_old told_new p r e h v known untold =
+    inr (
+      p,
+      h,
+      (
+        inl (
+          subst (λ (o : Option (List ℕ)). RefusesProgram p o new r.outcome) e v,
+          untold,
+        ),
+        known,
+      ),
+    )
 
-pub prove_unmade : (files : TableFiles) (old mid new : Option (List ℕ)) (v : Bounded)
-    (o : TaskOutcome) (r : Ending) → mid ≡ old → new ≡ mid → IsBoundOf v.program v.bound
-    → IsMakeFailure files.table o
-    → r.outcome ≡ o → r.why ≡ None → ProvesFile files old new r
-prove_unmade files old mid new v o r e f h failed same none =
+pub prove_unmade : (files : TableFiles) (old mid new told_old told_new : Option (List ℕ))
+    (v : Bounded) (o : TaskOutcome) (r : Ending) → mid ≡ old → new ≡ mid
+    → IsBoundOf v.program v.bound → IsMakeFailure files.table o → told_new ≡ told_old
+    → r.outcome ≡ o → r.why ≡ None → ProvesTold files old new told_old told_new r
+prove_unmade files old mid new told_old told_new v o r e f h failed untold same none =
     inr (
       v.program,
       h.verified.image,
-      (inr (v.bound, h, inl (rw same failed, f ∙ e)), tells-none v.program r.outcome r.why none),
+      (
+        inr (v.bound, h, inl ((rw same failed, f ∙ e), untold)),
+        tells-none v.program r.outcome r.why none,
+      ),
     )
 
-pub table_stored : (files : TableFiles) (old mid now new before after : Option (List ℕ))
-    (v : Bounded) (line : List ℕ) (o : TaskOutcome) (r : Ending) → mid ≡ old → now ≡ mid
-    → IsBoundOf v.program v.bound
-    → line ≡ bound_line v.bound → StoresTable v.program line files.table before after now new o
-    → r.outcome ≡ o → r.why ≡ None → ProvesFile files old new r
-table_stored files old mid now new before after v line o r e f h is stores same none =
-    let some : ProvesSome v.program v.bound files.table old new r.outcome = record {
+pub table_stored : (files : TableFiles)
+    (old mid now new before after told_old told_new : Option (List ℕ)) (v : Bounded)
+    (line : List ℕ) (o : TaskOutcome) (r : Ending) → mid ≡ old → now ≡ mid
+    → IsBoundOf v.program v.bound → line ≡ bound_line v.bound
+    → StoresTable v.program line files.table before after now new told_old told_new o
+    → r.outcome ≡ o → r.why ≡ None → ProvesTold files old new told_old told_new r
+table_stored files old mid now new before after told_old told_new v line o r e f h is stores same none =
+    let some : ProvesSome v.program v.bound files.table old new told_old told_new r.outcome = record {
       before = before;
       after = after;
       stores =
           rw same (subst
           (λ (x : Option (List ℕ)). StoresTable v.program
-          (bound_line v.bound) files.table before after x new o) (f ∙ e)
-          (subst (λ (l : List ℕ). StoresTable v.program l files.table before after now new o) is
-          stores));
+          (bound_line v.bound) files.table before after x new told_old told_new o) (f ∙ e)
+          (subst
+          (λ (l : List ℕ). StoresTable v.program l files.table before after now new told_old
+          told_new o) is stores));
     } in
     inr (
       v.program,

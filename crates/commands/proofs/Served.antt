@@ -14,7 +14,7 @@ use Rattle.commands.specs.declared.endings.Ending.{Ending}
 use Rattle.commands.specs.Statuses.{IsWordsEnd, is_silent}
 use Rattle.commands.proofs.StatusesLaws.{says_wrong, wrong_silent}
 use Rattle.commands.specs.Flushing.{Flushes}
-use Rattle.commands.specs.Commands.{Serves}
+use Rattle.commands.specs.Commands.{Serves, ServesTold}
 use Rattle.commands.specs.Executing.{Executes}
 
 -- standard output to which nothing was written is left unchanged
@@ -30,26 +30,27 @@ untouched contents given r silent =
 
 -- the request is served, and then standard output is flushed
 pub asked-served : {W : Type 0} (contents : W → Option (List ℕ)) (words : List (List ℕ))
-    (request : TaskRequest) (old given new : PromptWriter W) (ended r : Ending)
-    → asked words ≡ Some request
-    → Serves (Some request) (held contents old) (held contents given) ended
-    → Flushes contents given new ended r → Executes contents words old new r
-asked-served contents words request old given new ended r is h on =
+    (request : TaskRequest) (old given new : PromptWriter W) (told_old told_new : Option (List ℕ))
+    (ended r : Ending) → asked words ≡ Some request
+    → ServesTold (Some request) (held contents old) (held contents given) told_old told_new ended
+    → Flushes contents given new ended r → Executes contents words old new told_old told_new r
+asked-served contents words request old given new told_old told_new ended r is h on =
     inr (record {
       given = given;
       ended = ended;
       serves = subst
-          (λ (x : Option TaskRequest). Serves x (held contents old) (held contents given) ended)
+          (λ (x : Option TaskRequest). ServesTold x (held contents old) (held contents given)
+          told_old told_new ended)
           (sym is) h;
       hands_on = on;
     })
 
 -- arguments that ask for nothing
 pub unasked : {W : Type 0} (contents : W → Option (List ℕ)) (words : List (List ℕ))
-    (error : WordsError) (out : PromptWriter W) (o : TaskOutcome) → AsksFor words (Err error)
-    → IsWordsEnd error o
-    → Executes contents words out out (record { outcome = o; why = None })
-unasked contents words (Wrong text) out o none is =
+    (error : WordsError) (out : PromptWriter W) (told : Option (List ℕ)) (o : TaskOutcome)
+    → AsksFor words (Err error) → IsWordsEnd error o
+    → Executes contents words out out told told (record { outcome = o; why = None })
+unasked contents words (Wrong text) out told o none is =
     let ending : Ending = record { outcome = o; why = None } in
     let serves : Serves None (held contents out)
     (held contents out) ending = ((says_wrong (string_bytes text) o is, refl), refl) in
@@ -57,11 +58,11 @@ unasked contents words (Wrong text) out o none is =
       given = out;
       ended = ending;
       serves =
-          subst (λ (x : Option TaskRequest). Serves x (held contents out)
-          (held contents out) ending) (sym none) serves;
+          subst (λ (x : Option TaskRequest). ServesTold x (held contents out)
+          (held contents out) told told ending) (sym none) (serves, refl);
       hands_on = untouched contents out ending (wrong_silent (string_bytes text) o is);
     })
-unasked contents words NotUnicode out o none is =
+unasked contents words NotUnicode out told o none is =
     let ending : Ending = record { outcome = o; why = None } in
     let serves : Serves None (held contents out)
     (held contents out) ending = ((says_wrong (codes "error: an argument is not UTF-8\n") o is, refl), refl) in
@@ -69,8 +70,8 @@ unasked contents words NotUnicode out o none is =
       given = out;
       ended = ending;
       serves =
-          subst (λ (x : Option TaskRequest). Serves x (held contents out)
-          (held contents out) ending) (sym none) serves;
+          subst (λ (x : Option TaskRequest). ServesTold x (held contents out)
+          (held contents out) told told ending) (sym none) (serves, refl);
       hands_on = untouched contents out ending (wrong_silent (codes "error: an argument is not UTF-8\n") o is);
     })
-unasked contents words Memory out o none is = inl ((is, refl), refl)
+unasked contents words Memory out told o none is = inl (((is, refl), refl), refl)

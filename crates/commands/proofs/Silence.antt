@@ -12,7 +12,6 @@ use Rattle.host.specs.declared.traced.Traced.{Traced}
 use Rattle.host.specs.Tallies.{tallied}
 use Rattle.words.specs.Requests.{TaskRequest, RunFiles, TableFiles, Trace, Run, Verify, Prove, Recheck, Assemble, Disassemble, Explain}
 use Rattle.table_entries.specs.declared.errors.WriteTableError.{WriteTableError}
-use Rattle.proof_table.specs.Writing.{GainsTable, BeginsTable}
 use Rattle.rechecking.specs.declared.errors.TableError.{TableError}
 use Rattle.rechecking.specs.declared.errors.TableError.TheVariants as table_error
 use Rattle.commands.specs.declared.outcomes.TaskOutcome.{TaskOutcome}
@@ -25,7 +24,7 @@ use Rattle.commands.specs.Judging.{EndsUnwritten, IsStoreFailure}
 use Rattle.commands.specs.Streams.{IsBeginningOf}
 use Rattle.commands.proofs.FilesSilence.{says_loud, stops_silent, bound_silent, loads_silent, opens_silent, on_silent, disassemble_silent, assemble_silent, silent_then, unwritten_silent}
 use Rattle.commands.specs.Judging.{RefusesProgram, RefusesTable, SaysOfTable, Verifies}
-use Rattle.commands.specs.Proving.{StoresTable}
+use Rattle.commands.specs.Proving.{StoresTable, GainsSaid, BeginsSaid}
 use Rattle.commands.specs.Commands.{ShowsNone, TracesFile, RunsFile, RunsShown, VerifiesFile, ProvesFile, RechecksFile, Serves}
 
 -- ---- verdicts
@@ -94,10 +93,10 @@ trace_silent files limit old new r (inr (p, is, inr some)) e =
 run_silent : (files : RunFiles) (old new : Option (List ℕ)) (r : Ending) → RunsFile files old new r
     → is_silent r.outcome ≡ true → new ≡ old
 run_silent files old new r (inl (loads, none)) e = loads_silent _ old new r.outcome loads e
-run_silent files old new r (inr (p, is, (inl refuses, known))) e =
+run_silent files old new r (inr (p, is, inl (refuses, known))) e =
     program_silent p old new r.outcome refuses e
-run_silent files old new r (inr (p, is, (inr (bound, verified, runs), known))) e =
-    on_silent files _ old new r.outcome runs e
+run_silent files old new r (inr (p, is, inr (bound, verified, runs))) e =
+    on_silent files _ old new r runs e
 
 verify_silent : (path : List ℕ) (old new : Option (List ℕ)) (r : Ending)
     → VerifiesFile path old new r → is_silent r.outcome ≡ true → new ≡ old
@@ -115,8 +114,7 @@ shows_silent files old new r (inr (p, is, inr (bytes, refuses, known))) e =
 shown_silent : (files : RunFiles) (table : List ℕ) (old new : Option (List ℕ)) (r : Ending)
     → RunsShown files table old new r → is_silent r.outcome ≡ true → new ≡ old
 shown_silent files table old new r (inl shows) e = shows_silent _ old new r shows e
-shown_silent files table old new r (inr (v, is, (runs, none))) e =
-    on_silent files v old new r.outcome runs e
+shown_silent files table old new r (inr (v, is, runs)) e = on_silent files v old new r runs e
 
 recheck_silent : (files : TableFiles) (old new : Option (List ℕ)) (r : Ending)
     → RechecksFile files old new r → is_silent r.outcome ≡ true → new ≡ old
@@ -124,16 +122,17 @@ recheck_silent files old new r (inl shows) e = shows_silent files old new r show
 recheck_silent files old new r (inr (v, is, (accepts, none))) e =
     bound_silent v old new r.outcome accepts e
 
-written_silent : (p : Program) (line name : List ℕ) (before after old new : Option (List ℕ))
-    (r : TaskOutcome) → StoresTable p line name before after old new r → is_silent r ≡ true
+written_silent : (p : Program) (line name : List ℕ)
+    (before after old new told_old told_new : Option (List ℕ)) (r : TaskOutcome)
+    → StoresTable p line name before after old new told_old told_new r → is_silent r ≡ true
     → new ≡ old
-written_silent p line name before after old new r stores e = by stores.ends
+written_silent p line name before after old new told_old told_new r stores e = by stores.ends
   where
-    by : (GainsTable p before stores.handed × Keeps stores.handed after
+    by : (GainsSaid p before stores.handed told_old told_new × Keeps stores.handed after
         × Says old new line outcome.Done r)
-        ⊎ ((GainsTable p before stores.handed × IsBeginningOf after stores.handed
+        ⊎ ((GainsSaid p before stores.handed told_old told_new × IsBeginningOf after stores.handed
         × IsStoreFailure name r × (new ≡ old))
-        ⊎ (BeginsTable p before stores.handed × IsBeginningOf after stores.handed
+        ⊎ (BeginsSaid p before stores.handed told_old told_new × IsBeginningOf after stores.handed
         × ((error : WriteTableError) × EndsUnwritten name error old new r))) → new ≡ old
     by (inl (gains, keeps, says)) = absurd (says_loud old new _ _ r refl says e)
     by (inr (inl (gains, begins, fails, same))) = same
@@ -141,12 +140,14 @@ written_silent p line name before after old new r stores e = by stores.ends
 
 prove_silent : (files : TableFiles) (old new : Option (List ℕ)) (r : Ending)
     → ProvesFile files old new r → is_silent r.outcome ≡ true → new ≡ old
-prove_silent files old new r (inl (loads, none)) e = loads_silent _ old new r.outcome loads e
-prove_silent files old new r (inr (p, is, (inl refuses, known))) e =
+prove_silent files old new r (a, b, inl ((loads, none), same)) e =
+    loads_silent _ old new r.outcome loads e
+prove_silent files old new r (a, b, inr (p, is, (inl (refuses, same), known))) e =
     program_silent p old new r.outcome refuses e
-prove_silent files old new r (inr (p, is, (inr (bound, of, inl makes), known))) e = makes.1
-prove_silent files old new r (inr (p, is, (inr (bound, of, inr some), known))) e =
-    written_silent p _ _ _ _ old new r.outcome some.stores e
+prove_silent files old new r (a, b, inr (p, is, (inr (bound, of, inl (makes, same)), known))) e =
+    makes.1
+prove_silent files old new r (a, b, inr (p, is, (inr (bound, of, inr some), known))) e =
+    written_silent p _ _ _ _ old new a b r.outcome some.stores e
 
 served_silent : (request : TaskRequest) (old new : Option (List ℕ)) (r : Ending)
     → Serves (Some request) old new r → is_silent r.outcome ≡ true → new ≡ old

@@ -53,11 +53,11 @@ pub record TracesSome (p : Program) (limit : ℕ) (out : List ℕ) (old new : Op
       (record { report = new; sent = after }) result
 
 -- a proof table was written to the file at the path, and then the line with the bound
-pub record ProvesSome (p : Program) (bound : ℕ) (path : List ℕ) (old new : Option (List ℕ))
-    (result : TaskOutcome) : Type 0 where
+pub record ProvesSome (p : Program) (bound : ℕ) (path : List ℕ)
+    (old new told_old told_new : Option (List ℕ)) (result : TaskOutcome) : Type 0 where
   pub before : Option (List ℕ)
   pub after : Option (List ℕ)
-  pub stores : StoresTable p (bound_line bound) path before after old new result
+  pub stores : StoresTable p (bound_line bound) path before after old new told_old told_new result
 
 -- ---- the commands
 
@@ -69,25 +69,26 @@ TracesFile files limit old new result =
     (λ p. Plainly (OpensNone files old new) result ⊎ TracesSome p limit files.out old new result)
 
 -- a program is accepted, with its bound, and run
-abbrev pub AcceptsAndRuns : RunFiles → Program → Option (List ℕ) → Option (List ℕ) → TaskOutcome
+abbrev pub AcceptsAndRuns : RunFiles → Program → Option (List ℕ) → Option (List ℕ) → Ending
     → Type 0
 AcceptsAndRuns files p old new result =
     (bound : ℕ) × IsBoundOf p bound
     × RunsOn files (record { program = p; bound = bound }) old new result
 
--- `run`: if the program is refused, the lines at the end of the message say what is known
+-- `run`: if the program is refused, the lines at the end of the message say what is known, and
+-- after a run which packet frames' runs ended with INVALID
 abbrev pub RunsFile : RunFiles → Option (List ℕ) → Option (List ℕ) → Ending → Type 0
 RunsFile files old new result =
     Plainly (LoadsNone files.image old new) result
     ⊎ ReadsImage
-    (λ p. (RefusesProgram p old new result.outcome ⊎ AcceptsAndRuns files p old new result.outcome)
-    × IsKnownOfProgram p result)
+    (λ p. (RefusesProgram p old new result.outcome × IsKnownOfProgram p result)
+    ⊎ AcceptsAndRuns files p old new result)
 
 -- `run --table`: a table takes the place of the verifier
 abbrev pub RunsShown : RunFiles → List ℕ → Option (List ℕ) → Option (List ℕ) → Ending → Type 0
 RunsShown files table old new result =
     ShowsNone (record { image = files.image; table = table }) old new result
-    ⊎ ShowsSome (λ v. Plainly (RunsOn files v old new) result)
+    ⊎ ShowsSome (λ v. RunsOn files v old new result)
 
 -- `recheck`: standard output says the bound that a table shows
 abbrev pub RechecksFile : TableFiles → Option (List ℕ) → Option (List ℕ) → Ending → Type 0
@@ -101,19 +102,29 @@ VerifiesFile path old new result =
     ⊎ ReadsImage (λ p. Verifies p old new result.outcome × IsKnownOfProgram p result)
 
 -- a program is accepted, with its bound, and then a table of it is written
-abbrev pub AcceptsAndProves : List ℕ → Program → Option (List ℕ) → Option (List ℕ) → TaskOutcome
-    → Type 0
-AcceptsAndProves table p old new result =
+abbrev pub AcceptsAndProves : List ℕ → Program → Option (List ℕ) → Option (List ℕ)
+    → Option (List ℕ) → Option (List ℕ) → TaskOutcome → Type 0
+AcceptsAndProves table p old new told_old told_new result =
     (bound : ℕ) × IsBoundOf p bound
-    × (MakesNone table old new result ⊎ ProvesSome p bound table old new result)
+    × ((MakesNone table old new result × (told_new ≡ told_old))
+    ⊎ ProvesSome p bound table old new told_old told_new result)
 
--- `prove`: if the program is refused, the lines at the end of the message say what is known
+-- `prove`, before its message is written: standard error got nothing, or how many bytes the table
+-- has; if the program is refused, the lines at the end of the message say what is known
+abbrev pub ProvesTold : TableFiles → Option (List ℕ) → Option (List ℕ) → Option (List ℕ)
+    → Option (List ℕ) → Ending → Type 0
+ProvesTold files old new told_old told_new result =
+    (Plainly (LoadsNone files.image old new) result × (told_new ≡ told_old))
+    ⊎ ReadsImage
+    (λ p. ((RefusesProgram p old new result.outcome × (told_new ≡ told_old))
+    ⊎ AcceptsAndProves files.table p old new told_old told_new result.outcome)
+    × IsKnownOfProgram p result)
+
+-- what `prove` does to standard output
 abbrev pub ProvesFile : TableFiles → Option (List ℕ) → Option (List ℕ) → Ending → Type 0
 ProvesFile files old new result =
-    Plainly (LoadsNone files.image old new) result
-    ⊎ ReadsImage
-    (λ p. (RefusesProgram p old new result.outcome
-    ⊎ AcceptsAndProves files.table p old new result.outcome) × IsKnownOfProgram p result)
+    (told_old : Option (List ℕ)) × (told_new : Option (List ℕ))
+    × ProvesTold files old new told_old told_new result
 
 -- `explain`: standard output gets the entry of the code, or nothing has that code
 abbrev pub ExplainsCode : List ℕ → Option (List ℕ) → Option (List ℕ) → TaskOutcome → Type 0
@@ -135,3 +146,12 @@ Serves (Some (Recheck files)) old new result = RechecksFile files old new result
 Serves (Some (Assemble path image)) old new result = AssemblesFile path image old new result
 Serves (Some (Disassemble path)) old new result = Plainly (DisassemblesFile path old new) result
 Serves (Some (Explain code)) old new result = Plainly (ExplainsCode code old new) result
+
+-- the same, and what standard error gets before the message: of all commands only `prove` writes
+-- something then
+abbrev pub ServesTold : Option TaskRequest → Option (List ℕ) → Option (List ℕ) → Option (List ℕ)
+    → Option (List ℕ) → Ending → Type 0
+ServesTold (Some (Prove files)) old new told_old told_new result =
+    ProvesTold files old new told_old told_new result
+ServesTold request old new told_old told_new result =
+    Serves request old new result × (told_new ≡ told_old)

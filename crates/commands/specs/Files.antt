@@ -45,7 +45,7 @@ OpensNone files old new result =
 -- a program with its bound is run on some source, whose first bytes have some file form; the frames
 -- out are written to the file at the path
 pub record RunsSome (v : Bounded) (out : List ℕ) (old new : Option (List ℕ))
-    (result : TaskOutcome) : Type 0 where
+    (result : Ending) : Type 0 where
   pub source : Origin
   pub form : FileForm
   pub before : Option (List ℕ)
@@ -62,8 +62,9 @@ pub record StoresSome (p : Program) (path : List ℕ) (old new : Option (List �
   pub stores : StoresImage p (size_line p) path before after old new result
 
 -- a program with its bound is run
-abbrev pub RunsOn : RunFiles → Bounded → Option (List ℕ) → Option (List ℕ) → TaskOutcome → Type 0
-RunsOn files v old new result = OpensNone files old new result ⊎ RunsSome v files.out old new result
+abbrev pub RunsOn : RunFiles → Bounded → Option (List ℕ) → Option (List ℕ) → Ending → Type 0
+RunsOn files v old new result =
+    Plainly (OpensNone files old new) result ⊎ RunsSome v files.out old new result
 
 -- `dis`: standard output gets the text of the image's program
 abbrev pub DisassemblesFile : List ℕ → Option (List ℕ) → Option (List ℕ) → TaskOutcome → Type 0

@@ -3,6 +3,7 @@ pub mod Commands
 pub mod Executing
 pub mod Files
 pub mod Flushing
+pub mod InvalidRuns
 pub mod Judging
 pub mod Known
 pub mod Names

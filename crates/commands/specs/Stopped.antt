@@ -43,14 +43,17 @@ trap_line TooManyCallFrames =
 trap_line NoResult = codes "r0 has to be a number: 0 ABORTED, 1 DROP, 2 PASS, 3 TX\n"
 trap_line BadAction = codes "the low half of r0 has to be 0 to 4: mask it (r0 &= 3) or test it\n"
 
+-- a hint for an answer that names no action
+abbrev pub no_action_line : List ℕ
+no_action_line = codes "r0 names no action: 0 ABORTED, 1 DROP, 2 PASS, 3 TX, 4 REDIRECT\n"
+
 -- a hint for how a run ended
 abbrev pub end_line : End → List ℕ
-end_line (Exit value steps) =
-    codes "r0 names no action: 0 ABORTED, 1 DROP, 2 PASS, 3 TX, 4 REDIRECT\n"
+end_line (Exit value steps) = no_action_line
 end_line (Trap reason steps) = trap_line reason
 end_line Limit = codes "the limit of steps is reached: give more by --limit, or end a loop\n"
 
--- how many frames more stopped at the slot
+-- how many frames more there are
 abbrev pub others_words : ℕ → List ℕ
 others_words count =
     if nat_lt 1 count then codes " and " ++ (decimal (count - 1) ++ codes " more") else []

@@ -8,7 +8,7 @@ use Rattle.frames.specs.Sources.{Origin}
 use Rattle.host.specs.declared.errors.HostError.{HostError}
 use Rattle.host.specs.declared.tallies.Tally.{Tally}
 use Rattle.host.specs.Writing.{Outputs}
-use Rattle.host.specs.Accepted.{ReportsRun}
+use Rattle.host.specs.InvalidRuns.{ReportsNoted, tally_ran}
 use Rattle.messages.specs.declared.forms.FileForm.{FileForm}
 use Rattle.commands.specs.declared.outcomes.TaskOutcome.{TaskOutcome}
 use Rattle.commands.specs.declared.outcomes.TaskOutcome.TheVariants.{Done, Faulted, NoMemory}
@@ -16,11 +16,13 @@ use Rattle.commands.specs.Statuses.{IsOutputFailure, IsWriteFailureBy}
 use Rattle.std.specs.declared.alloc.Global.{Global}
 use Rattle.isa_model.specs.{Program}
 use Rattle.isa_model.specs.Reporting.Reports.{checked_report}
+use Rattle.host.specs.declared.noting.Ran.{Ran}
 use Rattle.host.specs.declared.traced.Traced.{Traced}
 use Rattle.host.specs.Stops.{ShowsTraced}
 use Rattle.host.specs.Tallies.{tallied}
 use Rattle.host.specs.Reported.{Reports}
 use Rattle.commands.specs.declared.endings.Ending.{Ending}
+use Rattle.commands.specs.InvalidRuns.{TellsInvalidOf}
 use Rattle.commands.specs.Stopped.{TellsStopsOf, at_end}
 use Rattle.host.specs.declared.errors.HostError.TheVariants as failure
 
@@ -61,15 +63,20 @@ EndsTask path cause form ended handed got result =
 -- An accepted program is run on a stream: what is written is exactly the report of the program and
 -- of the packet frames that were found, which are those that the source's bytes spell, if those are
 -- known; no run meets a trap, and each exits within the bound.
+-- If the file of the frames out failed, `cause` is why, and the message says it. If the report was
+-- completed, the message also says which runs ended with INVALID.
 pub record RunsAccepted (v : Bounded) (source : Origin) (form : FileForm) (path : List ℕ)
-    (cause : Option ErrorKind) (old new : Outputs) (result : TaskOutcome) : Type 0 where
-  pub ended : Result Tally HostError
+    (cause : Option ErrorKind) (old new : Outputs) (result : Ending) : Type 0 where
+  pub ended : Result Ran HostError
   pub handed : Option (List ℕ)
-  pub ends : EndsTask path cause form ended handed new.sent result
+  pub ends : EndsTask path cause form (tally_ran ended) handed new.sent result.outcome
   pub report_untouched : ended ≡ Err failure.Memory → new.report ≡ old.report
   pub sent_untouched : ended ≡ Err failure.Memory → handed ≡ old.sent
+  pub lines : Option (String Global)
+  pub tells : TellsInvalidOf ended lines
+  pub why : result.why ≡ at_end result.outcome lines
   pub reports : ended ≢ Err failure.Memory
-      → ReportsRun v source old (record { report = new.report; sent = handed }) ended
+      → ReportsNoted v source old (record { report = new.report; sent = handed }) ended
 
 -- A program is traced on a stream: what is written is exactly the checked report of the program and
 -- of the packet frames that were found, which are those that the source's bytes spell, if those are

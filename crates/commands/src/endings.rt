@@ -22,8 +22,8 @@ pub struct Ending<'a> {
     pub outcome: TaskOutcome<'a>,
     /// Of a refused program, the registers and stack slots that concern the instruction, and
     /// the last jumps on the path to it; of a refused entry of a proof table, what is known of its
-    /// step; of a refused text, its line and a hint; of a trace, where the runs stopped that ended
-    /// without an action.
+    /// step; of a refused text, its line and a hint; of a run, which packet frames' runs ended with
+    /// INVALID; of a trace, where the runs stopped that ended without an action.
     pub why: Option<String>,
 }
 

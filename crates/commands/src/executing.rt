@@ -4,7 +4,7 @@ ghost use Rattle.std.specs.Prelude.{◌≡◌, ◌≢◌, ◌≤◌, map, MatchR
 ghost use Rattle.std.specs.String.{string_bytes};
 ghost use Rattle.exact_io.specs.Waiting.{held};
 ghost use Rattle.commands.specs.Flushing.{IsFlushed};
-ghost use Rattle.commands.specs.Executing.{ExecutesWords, TellsWordsError, IsTold, TellsDone, TellsFault};
+ghost use Rattle.commands.specs.Executing.{ExecutesWords, TellsWordsError, TellsBehind, IsTold, TellsDone, TellsFault};
 
 use super::outcomes::TaskOutcome;
 use super::requests::serve;
@@ -24,10 +24,11 @@ use words::{WordsError, read_words};
 /// The first word is the program's name. `out` is standard output with its buffer, and `err` is
 /// standard error. At status 0, 2 and 3 all output has been written through the buffer. At status 1
 /// and 5 nothing is written to standard output. At 0 nothing is written to standard error, except
-/// by `trace`, which names the packet frames whose runs ended without an action. At 2 standard
-/// error says what was refused, why and where; for a program and for an entry of a proof table also
-/// what is known there, for a text also the line and a hint. At 3 it says why the frame stream
-/// ended early.
+/// by `trace`, which names the packet frames whose runs ended without an action, by `run`, which
+/// names the first that ended with INVALID and says how many there are, and by `prove`, which says
+/// before it writes a large table how many bytes that has. At 2 standard error says what was
+/// refused, why and where; for a program and for an entry of a proof table also what is known there,
+/// for a text also the line and a hint. At 3 it says why the frame stream ended early.
 #[tactic(auto, using(crate::proofs::ExecutingLaws::statuses))]
 pub fn execute<R: Files + Clock + AllocGlobal, W1: Write + Drop, W2: Write>(
     rt: &R,
@@ -41,14 +42,16 @@ pub fn execute<R: Files + Clock + AllocGlobal, W1: Write + Drop, W2: Write>(
     ensures wrong_words { result ≡ 1 → held W1.contents out.new ≡ held W1.contents out.old }
     ensures no_memory { result ≡ 5 → held W1.contents out.new ≡ held W1.contents out.old }
     ensures handed_on { result ≤ 3 → result ≢ 1 → IsFlushed out.new }
-    ensures done { result ≡ 0 → TellsDone (map string_bytes words.now)
+    ensures done { result ≡ 0 → TellsBehind (map string_bytes words.now)
+        (TellsDone (map string_bytes words.now)) (W2.contents err.old) (W2.contents err.new) }
+    ensures refused { result ≡ 2 → TellsBehind (map string_bytes words.now) IsTold
         (W2.contents err.old) (W2.contents err.new) }
-    ensures refused { result ≡ 2 → IsTold (W2.contents err.old) (W2.contents err.new) }
-    ensures faulted { result ≡ 3 → TellsFault (W2.contents err.old) (W2.contents err.new) }
+    ensures faulted { result ≡ 3 → TellsBehind (map string_bytes words.now) TellsFault
+        (W2.contents err.old) (W2.contents err.new) }
 {
     let alloc = rt.alloc();
     match read_words(alloc, words) {
-        Ok(task) => serve(rt, alloc, task, out).flushed(out).tell(err),
+        Ok(task) => serve(rt, alloc, task, out, err).flushed(out).tell(err),
         Err(error) => TaskOutcome::of_words(&error).tell(err),
     }
 }

@@ -95,7 +95,7 @@ pub fn run_on<'a, R: Files + Clock, W: Write>(
     paths: RunPaths<'a>,
     read: &[&str],
     out: &mut W,
-) -> TaskOutcome<'a>
+) -> Ending<'a>
     ensures { RunsOn (files_of paths.entry) verified (W.contents out.old) (W.contents out.new)
         result }
 {
@@ -103,7 +103,7 @@ pub fn run_on<'a, R: Files + Clock, W: Write>(
         Ok((source, form, mut file)) => {
             run_stream(alloc, verified, source, form, paths.out, out, &mut file)
         }
-        Err(outcome) => outcome,
+        Err(outcome) => Ending::plain(outcome),
     }
 }
 
@@ -148,7 +148,7 @@ pub fn run_verified<'a, R: Files + Clock, W: Write>(
     match judge(rt, alloc, image, out) {
         Ok(verified) => {
             let read = [paths.image, paths.frames];
-            Ending::plain(run_on(rt, alloc, verified, paths, &read, out))
+            run_on(rt, alloc, verified, paths, &read, out)
         }
         Err(ending) => ending,
     }

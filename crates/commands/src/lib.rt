@@ -11,6 +11,7 @@ mod executing;
 mod files;
 mod fronts;
 mod images;
+mod invalid;
 mod names;
 mod outcomes;
 mod outputs;

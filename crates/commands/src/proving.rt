@@ -1,30 +1,84 @@
 //! Writing a proof table, and how the task ends then.
 
+ghost use Rattle.std.specs.Prelude.{◌≡◌, OnErr, IfOk};
 ghost use Rattle.exact_io.specs.Waiting.{behind, held};
-ghost use Rattle.commands.specs.Proving.{StoresTable};
+ghost use Rattle.proof_table.specs.Writing.{IsForTable, IsTableSize, entries_for, table_length};
+ghost use Rattle.std.specs.String.{string_bytes};
+ghost use Rattle.commands.specs.Proving.{SaysSize, SaysSizeOf, StoresTable, size_text};
 
 use super::outcomes::TaskOutcome;
 use super::verdicts::{say_line, say_unwritten};
 use bounds::Verified;
-use exact_io::PromptWriter;
-use proof_table::write_table;
-use std::alloc::Global;
+use exact_io::{PromptWriter, write_bytes};
+use listeners::Explored;
+use proof_table::{explore_again, table_size, write_explored};
+use std::alloc::{AllocError, Global};
 use std::io::Write;
+use table_entries::WriteTableError;
+
+/// A table of more bytes is large: how many it has is said before it is written.
+const LARGE: u64 = 64 << 20;
+
+// The line that says how many bytes a table has.
+fn size_line(alloc: Global, size: u64) -> Result<String, AllocError>
+    ensures { IfOk result (λ text. string_bytes text ≡ size_text size) }
+{
+    format!(in alloc; "the proof table has {size} bytes\n")
+}
+
+// Says how many bytes a table has, if it is large. A failure is not reported.
+fn say_size<W: Write>(alloc: Global, size: u64, err: &mut W)
+    ensures { SaysSize size (W.contents err.old) (W.contents err.new) }
+{
+    if size <= LARGE {
+        return;
+    }
+    if let Ok(line) = size_line(alloc, size) {
+        let _ = write_bytes(err, line.as_bytes());
+    }
+}
+
+// Explores a verified program again, and says how many bytes the table of what was explored has, if
+// it is large.
+fn measured<W: Write>(
+    alloc: Global,
+    verified: &Verified,
+    err: &mut W,
+) -> Result<Explored, WriteTableError>
+    ensures table { IfOk result (IsForTable verified.now.program) }
+    ensures size { IfOk result (λ explored. IsTableSize verified.now.program
+        (table_length (entries_for explored))) }
+    ensures said { IfOk result (λ explored. SaysSizeOf (entries_for explored)
+        (W.contents err.old) (W.contents err.new)) }
+    ensures unsaid { OnErr result (W.contents err.new ≡ W.contents err.old) }
+{
+    let explored = explore_again(alloc, verified)?;
+    let size = table_size(alloc, verified, &explored)?;
+    say_size(alloc, size, err);
+    Ok(explored)
+}
 
 /// Writes a proof table through a buffer to a file that was opened by this path, and then a line to
-/// standard output.
-pub fn store_table<'a, W1: Write, W2: Write + Drop>(
+/// standard output. Before a large table is written, standard error gets how many bytes it has.
+pub fn store_table<'a, W1: Write, W2: Write, W3: Write + Drop>(
     alloc: Global,
     verified: &Verified,
     line: &str,
     path: &'a str,
     out: &mut W1,
-    file: &mut PromptWriter<W2>,
+    err: &mut W2,
+    file: &mut PromptWriter<W3>,
 ) -> TaskOutcome<'a>
-    ensures { StoresTable verified.now.program line.now path.now (held W2.contents file.old)
-        (W2.contents (behind file.new)) (W1.contents out.old) (W1.contents out.new) result }
+    ensures { StoresTable verified.now.program line.now path.now (held W3.contents file.old)
+        (W3.contents (behind file.new)) (W1.contents out.old) (W1.contents out.new)
+        (W2.contents err.old) (W2.contents err.new) result }
 {
-    match write_table(alloc, verified, file) {
+    verified.image().recall();
+    let explored = match measured(alloc, verified, err) {
+        Ok(explored) => explored,
+        Err(error) => return say_unwritten(path, error, out),
+    };
+    match write_explored(alloc, verified, &explored, file) {
         Ok(()) => match file.flush() {
             Ok(()) => say_line(line, TaskOutcome::Done, out),
             Err(error) => TaskOutcome::of_write(path, &error),

@@ -2,7 +2,7 @@
 
 ghost use Rattle.std.specs.Prelude.{Some, option_map};
 ghost use Rattle.words.specs.Requests.{Run, files_of, request_of};
-ghost use Rattle.commands.specs.Commands.{Serves};
+ghost use Rattle.commands.specs.Commands.{Serves, ServesTold};
 
 use super::codes::explain_code;
 use super::endings::Ending;
@@ -31,21 +31,23 @@ fn run<'a, R: Files + Clock, W: Write>(
     }
 }
 
-/// Does a task. Files are opened by their paths, and `out` is standard output.
-pub fn serve<'a, R: Files + Clock, W: Write>(
+/// Does a task. Files are opened by their paths, `out` is standard output, and `err` is standard
+/// error, to which `prove` writes before the message.
+pub fn serve<'a, R: Files + Clock, W1: Write, W2: Write>(
     rt: &R,
     alloc: Global,
     task: Task<'a>,
-    out: &mut W,
+    out: &mut W1,
+    err: &mut W2,
 ) -> Ending<'a>
-    ensures { Serves (Some (request_of task.entry))
-        (W.contents out.old) (W.contents out.new) result }
+    ensures { ServesTold (Some (request_of task.entry)) (W1.contents out.old) (W1.contents out.new)
+        (W2.contents err.old) (W2.contents err.new) result }
 {
     match task {
         Task::Trace(paths, limit) => trace(rt, alloc, paths, limit, out),
         Task::Run(paths, table) => run(rt, alloc, paths, table, out),
         Task::Verify(path) => verify_file(rt, alloc, path, out),
-        Task::Prove(paths) => prove_file(rt, alloc, paths, out),
+        Task::Prove(paths) => prove_file(rt, alloc, paths, out, err),
         Task::Recheck(paths) => recheck_file(rt, alloc, paths, out),
         Task::Assemble(paths) => assemble_file(rt, alloc, paths, out),
         Task::Disassemble(path) => Ending {

@@ -4,7 +4,7 @@ ghost use Rattle.std.specs.Prelude.{◌≡◌, ◌<◌, ◌^◌, None, IfOk, IfS
 ghost use Rattle.std.specs.String.{string_bytes};
 ghost use Rattle.isa_model.specs.Text.CanonicalText as canonical;
 ghost use Rattle.host.specs.Stops.{noted_of};
-ghost use Rattle.commands.specs.Stopped.{insn_lines, trap_line, end_line, others_words, stop_line, first_lines, told_of, more_line, stop_lines, TellsStopsOf, at_end};
+ghost use Rattle.commands.specs.Stopped.{insn_lines, trap_line, no_action_line, end_line, others_words, stop_line, first_lines, told_of, more_line, stop_lines, TellsStopsOf, at_end};
 
 use super::outcomes::TaskOutcome;
 use disassembler::write_insn;
@@ -72,19 +72,26 @@ fn trap_line(reason: TrapReason) -> &'static str
     }
 }
 
+/// A hint for an answer that names no action.
+pub fn no_action_line() -> &'static str
+    ensures { result.now ≡ no_action_line }
+{
+    "r0 names no action: 0 ABORTED, 1 DROP, 2 PASS, 3 TX, 4 REDIRECT\n"
+}
+
 // A hint for how a run ended.
 fn end_line(end: End) -> &'static str
     ensures { result.now ≡ end_line end }
 {
     match end {
-        End::Exit(_, _) => "r0 names no action: 0 ABORTED, 1 DROP, 2 PASS, 3 TX, 4 REDIRECT\n",
+        End::Exit(_, _) => no_action_line(),
         End::Trap(reason, _) => trap_line(reason),
         End::Limit => "the limit of steps is reached: give more by --limit, or end a loop\n",
     }
 }
 
-// How many frames more stopped at the slot.
-fn others_words(alloc: Global, count: u32) -> Result<String, AllocError>
+/// How many frames more there are.
+pub fn others_words(alloc: Global, count: u32) -> Result<String, AllocError>
     ensures { IfOk result (λ text. string_bytes text ≡ others_words count) }
 {
     if count > 1 {
@@ -174,8 +181,8 @@ pub fn lines_of_stops(alloc: Global, ended: &Result<Traced, HostError>) -> Optio
     }
 }
 
-/// The message after a task that traces, by how the task ended: it is written if all of the output
-/// was flushed.
+/// The message after a task that runs or traces a program, by how the task ended: it is written if
+/// all of the output was flushed.
 pub fn at_end(outcome: TaskOutcome<'_>, why: Option<String>) -> Option<String>
     ensures { result ≡ at_end outcome.entry why }
 {

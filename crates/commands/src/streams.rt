@@ -4,12 +4,13 @@ ghost use Rattle.exact_io.specs.Waiting.{behind, failure_of, held};
 ghost use Rattle.commands.specs.Streams.{EndsTask, RunsAccepted, Traces};
 
 use super::endings::Ending;
+use super::invalid::lines_of_invalid;
 use super::outcomes::{STANDARD_OUTPUT, TaskOutcome};
 use super::stopped::{at_end, lines_of_stops};
 use bounds::Verified;
 use exact_io::PromptWriter;
 use frames::Source;
-use host::{HostError, Tally, run, run_checked, tally_in};
+use host::{HostError, Ran, Tally, run_checked, run_noting_invalid, tally_in};
 use image::Image;
 use messages::FileForm;
 use std::alloc::Global;
@@ -46,7 +47,8 @@ pub fn outcome_of<'a, W: Write + Drop>(
 }
 
 /// Runs an accepted program on a frame stream of this file form. The report is written to `out` as
-/// it is made, and the frames out through a buffer to a file that was opened by this path.
+/// it is made, and the frames out through a buffer to a file that was opened by this path. If the
+/// report was completed, `why` says which packet frames' runs ended with INVALID.
 pub fn run_stream<'a, R: Source + Drop, W1: Write, W2: Write + Drop>(
     alloc: Global,
     verified: Verified,
@@ -55,15 +57,20 @@ pub fn run_stream<'a, R: Source + Drop, W1: Write, W2: Write + Drop>(
     path: &'a str,
     out: &mut W1,
     file: &mut PromptWriter<W2>,
-) -> TaskOutcome<'a>
+) -> Ending<'a>
     ensures { RunsAccepted verified
         record { bytes = R.remaining source; may_fail = R.may_fail } form path.now
         (failure_of file.new)
         record { report = W1.contents out.old; sent = held W2.contents file.old }
         record { report = W1.contents out.new; sent = W2.contents (behind file.new) } result }
 {
-    let ended = run(alloc, verified, source, out, file);
-    outcome_of(path, form, ended, file)
+    let ended = run_noting_invalid(alloc, verified, source, out, file);
+    let invalid = lines_of_invalid(alloc, &ended);
+    let outcome = outcome_of(path, form, Ran::tally_in(ended), file);
+    Ending {
+        outcome,
+        why: at_end(outcome, invalid),
+    }
 }
 
 /// Runs a program on a frame stream of this file form, with checks. The checked report is written

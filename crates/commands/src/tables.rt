@@ -3,7 +3,7 @@
 ghost use Rattle.std.specs.Prelude.{◌≡◌, IfOk, IfErr, OnOk};
 ghost use Rattle.bounds.specs.Bounds.{IsVerified};
 ghost use Rattle.words.specs.Requests.{files_of, table_files_of};
-ghost use Rattle.commands.specs.Commands.{ShowsNone, IsShown, RechecksFile, RunsShown, ProvesFile};
+ghost use Rattle.commands.specs.Commands.{ShowsNone, IsShown, RechecksFile, RunsShown, ProvesTold};
 
 use super::endings::Ending;
 use super::files::run_on;
@@ -77,7 +77,7 @@ pub fn run_shown<'a, R: Files + Clock, W: Write>(
     match load_shown(rt, alloc, TablePaths { image, table }, out) {
         Ok(verified) => {
             let read = [image, paths.frames, table];
-            Ending::plain(run_on(rt, alloc, verified, paths, &read, out))
+            run_on(rt, alloc, verified, paths, &read, out)
         }
         Err(ending) => ending,
     }
@@ -85,14 +85,16 @@ pub fn run_shown<'a, R: Files + Clock, W: Write>(
 
 /// Proves a program: its image is read and judged, then the table is written, and then standard
 /// output says the most steps of a run. If the program is refused, no file is made for the table.
-pub fn prove_file<'a, R: Files + Clock, W: Write>(
+/// Before a large table is written, standard error gets how many bytes it has.
+pub fn prove_file<'a, R: Files + Clock, W1: Write, W2: Write>(
     rt: &R,
     alloc: Global,
     paths: TablePaths<'a>,
-    out: &mut W,
+    out: &mut W1,
+    err: &mut W2,
 ) -> Ending<'a>
-    ensures { ProvesFile (table_files_of paths.entry)
-        (W.contents out.old) (W.contents out.new) result }
+    ensures { ProvesTold (table_files_of paths.entry) (W1.contents out.old) (W1.contents out.new)
+        (W2.contents err.old) (W2.contents err.new) result }
 {
     let image = match load_image(rt, alloc, paths.image, out) {
         Ok(image) => image,
@@ -107,7 +109,15 @@ pub fn prove_file<'a, R: Files + Clock, W: Write>(
     };
     match create_table(rt, alloc, paths) {
         Ok(mut file) => {
-            let outcome = store_table(alloc, &verified, line.as_str(), paths.table, out, &mut file);
+            let outcome = store_table(
+                alloc,
+                &verified,
+                line.as_str(),
+                paths.table,
+                out,
+                err,
+                &mut file,
+            );
             Ending::plain(outcome)
         }
         Err(outcome) => Ending::plain(outcome),

@@ -5,10 +5,10 @@ use Rattle.std.specs.Io.KnownBytes.{Keeps, append_known}
 use Rattle.std.specs.declared.io.ErrorKind.{ErrorKind}
 use Rattle.std.proofs.lemmas.List.{append-nil}
 use Rattle.isa_model.specs.declared.versions.Version.{Version}
-use Rattle.captures.specs.declared.kinds.CaptureForm.{CaptureForm}
-use Rattle.captures.specs.declared.kinds.LostCounts.{LostCounts}
-use Rattle.captures.specs.Writing.{HasWritten, IsWrittenSoFar}
-use Rattle.captures.specs.Reached.{reached_by}
+use Rattle.capture_writer.specs.declared.kinds.CaptureForm.{CaptureForm}
+use Rattle.capture_writer.specs.declared.kinds.LostCounts.{LostCounts}
+use Rattle.capture_writer.specs.Writing.{HasWritten, IsWrittenSoFar}
+use Rattle.capture_writer.specs.Reached.{reached_by}
 use Rattle.commands.specs.Streams.{IsBeginningOf}
 use Rattle.filtering.specs.Capturing.{HasCaptured}
 

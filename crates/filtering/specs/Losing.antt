@@ -5,9 +5,9 @@ use Rattle.std.specs.String.{string_bytes}
 use Rattle.commands.specs.declared.outcomes.TaskOutcome.{TaskOutcome}
 use Rattle.commands.specs.declared.endings.Ending.{Ending}
 use Rattle.filtering.specs.declared.losing.Loss.{Loss}
-use Rattle.captures.specs.declared.kinds.CaptureKind.{CaptureKind}
-use Rattle.captures.specs.declared.kinds.CaptureKind.TheVariants.{Pcap, Pcapng}
-use Rattle.captures.specs.declared.kinds.LostCounts.{LostCounts}
+use Rattle.capture_writer.specs.declared.kinds.CaptureKind.{CaptureKind}
+use Rattle.capture_writer.specs.declared.kinds.CaptureKind.TheVariants.{Pcap, Pcapng}
+use Rattle.capture_writer.specs.declared.kinds.LostCounts.{LostCounts}
 
 -- a line with a count, unless it is 0
 abbrev pub lost_line : List ℕ → ℕ → List ℕ

@@ -17,7 +17,7 @@ use super::losing::{Loss, ending_with};
 use super::opening::{Named, Opened, open_all, output_name};
 use super::ready::Ready;
 use super::sending::SentOutput;
-use captures::{CaptureForm, CaptureKind, CaptureWriter, Followed, Unfollowed};
+use capture_writer::{CaptureForm, CaptureKind, CaptureWriter, Followed, Unfollowed};
 use commands::{Ending, TaskOutcome, judge, load_image, load_shown};
 use frames::Source;
 use host::Counted;

@@ -4,7 +4,7 @@ ghost use Rattle.std.specs.Prelude.{◌≡◌, IfOk};
 ghost use Rattle.std.specs.String.{string_bytes};
 ghost use Rattle.filtering.specs.Losing.{TellsLoss, interface_words, lost_line, lost_text};
 
-use captures::{CaptureKind, LostCounts};
+use capture_writer::{CaptureKind, LostCounts};
 use commands::{Ending, TaskOutcome};
 use std::alloc::{AllocError, Global};
 

@@ -10,5 +10,6 @@ pub mod Promise
 pub mod EndCounts
 pub mod Counts
 pub mod Counting
+pub mod InvalidRuns
 pub mod Places
 pub mod OnMachines

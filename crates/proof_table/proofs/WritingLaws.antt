@@ -1,10 +1,11 @@
 -- Tables and their entries that were written, whole or in part.
-use Rattle.std.specs.Prelude.{◌≡◌, ℕ, zero, suc, ◌+◌, ◌-◌, ◌^◌, ◌<◌, ◌≤◌, min, List, [], ◌∷◌, ◌++◌, length, replicate, slice_get, All, Option, Some, Ok, refl}
+use Rattle.std.specs.Prelude.{◌≡◌, ℕ, zero, suc, ◌+◌, ◌-◌, ◌^◌, ◌<◌, ◌≤◌, min, List, [], ◌∷◌, ◌++◌, length, take, replicate, slice_get, All, Option, Some, Ok, refl}
 use Rattle.std.specs.Option.{is_some}
 use Rattle.std.specs.List.{flat_map}
 use Rattle.std.proofs.Common.{ap, sym, ◌∙◌, subst, append-nil, length-append, arith}
-use Rattle.std.proofs.lemmas.List.{length-replicate}
-use Rattle.std.proofs.lemmas.Option.{slice_get_within}
+use Rattle.std.proofs.lemmas.List.{length-replicate, map-append, take_all}
+use Rattle.std.proofs.lemmas.Option.{slice_get_within, get_or_from_slice_get}
+use Rattle.std.proofs.Math.Seq.{take-suc}
 use Rattle.std.proofs.lemmas.Grind.{flat_map-append}
 use Rattle.std.proofs.lemmas.List.Elements.{All-nil, All-cons, All-append, All-push, All-replicate, All-from_recursion}
 use Rattle.std.specs.Io.KnownBytes.{Appends}
@@ -26,7 +27,7 @@ use Rattle.table_entries.specs.Entries.{Entry}
 use Rattle.table_entries.specs.Tables.{table_read}
 use Rattle.proof_table.specs.Spelling.{entry_bytes, head_bytes, table_bytes}
 use Rattle.proof_table.specs.Fitting.{KindFits, StackSlotFits, EntryFits, entry_said}
-use Rattle.proof_table.specs.Writing.{IsForTable, IsTableSize, GainsTable, BeginsTable, GainsEntries, BeginsEntries, SpellsEntry, IsNumberedAs, OfFirst}
+use Rattle.proof_table.specs.Writing.{IsForTable, IsTableSize, GainsTable, GainsTableOf, BeginsTable, GainsEntries, BeginsEntries, SpellsEntry, IsNumberedAs, OfFirst, entry_for, entries_for, table_length}
 use Rattle.proof_table.proofs.FittingLaws.{entry_bytes-said}
 use Rattle.proof_table.proofs.TableLaws.{table_read-table_bytes}
 
@@ -101,6 +102,19 @@ IsNumberedAs-more (x ∷ insns) zero [] e insn size found is h = cc (is, found)
 IsNumberedAs-more (x ∷ insns) (suc i) [] e insn size found is h = absurd (omega (arith, size))
 IsNumberedAs-more (x ∷ insns) i (f ∷ es) e insn size found is h = h
 
+-- one more instruction has one more entry
+entries_for-more : (insns : List ExploredInsn) (i : ℕ) (insn : ExploredInsn)
+    → slice_get insns i ≡ Some insn
+    → entries_for (take (i + 1) insns) ≡ entries_for (take i insns) ++ entry_for insn ∷ []
+entries_for-more insns i insn found =
+    let one : i + 1 ≡ suc i = omega arith in
+    let next : take (i + 1) insns ≡ take i insns ++ insn ∷ [] =
+    ap (λ (n : ℕ). take n insns) one
+    ∙ take-suc insns i insn (slice_get_within insns i insn found)
+    ∙ ap (λ (x : ExploredInsn). take i insns ++ x ∷ [])
+    (get_or_from_slice_get insns i insn insn found) in
+    ap entries_for next ∙ map-append entry_for (take i insns) (insn ∷ [])
+
 -- the number of the first entry is one of which this holds for the first instruction's
 OfFirst-numbered : (insns : List ExploredInsn) (es : List Entry) (fact : ℕ → Type 0)
     → 1 ≤ length es → IsNumberedAs insns es → OfStart insns fact → OfFirst es fact
@@ -114,6 +128,7 @@ GainsEntries-none p insns old =
     record {
       entries = [];
       count_is = refl;
+      exact = refl;
       numbered = tt;
       fit = All-nil (EntryFits p);
       gained = Appends-nil old;
@@ -121,7 +136,7 @@ GainsEntries-none p insns old =
 
 pub GainsEntries-more : (p : Program) (insns : List ExploredInsn) (i : ℕ)
     (old mid new : Option (List ℕ)) (e : Entry) (bytes : List ℕ) (insn : ExploredInsn)
-    → slice_get insns i ≡ Some insn → e.number ≡ insn.number
+    → slice_get insns i ≡ Some insn → e ≡ entry_for insn
     → GainsEntries p insns i old mid → SpellsEntry p e bytes → Appends mid new bytes
     → GainsEntries p insns (i + 1) old new
 GainsEntries-more p insns i old mid new e bytes insn found is g s written =
@@ -132,7 +147,12 @@ GainsEntries-more p insns i old mid new e bytes insn found is g s written =
     record {
       entries = g.entries ++ e ∷ [];
       count_is = omega (arith, length-append g.entries (e ∷ []), g.count_is);
-      numbered = IsNumberedAs-more insns i g.entries e insn g.count_is found is g.numbered;
+      exact = ap (λ (l : List Entry). l ++ e ∷ []) g.exact
+          ∙ ap (λ (x : Entry). entries_for (take i insns) ++ x ∷ []) is
+          ∙ sym (entries_for-more insns i insn found);
+      numbered =
+          IsNumberedAs-more insns i g.entries e insn g.count_is found
+          (ap (λ (x : Entry). x.number) is) g.numbered;
       fit = All-push (EntryFits p) g.entries e g.fit s.fits;
       gained =
           subst (Appends old new) (sym all)
@@ -194,13 +214,16 @@ is_read : (p : Program) (n : ℕ) (es : List Entry) → length es ≡ n → 1 �
     → All (EntryFits p) es → table_read p (table_bytes es) ≡ Ok es
 is_read p n es size some few fit = table_read-table_bytes p es (omega arith) (omega arith) fit
 
-pub GainsTable-entries : (p : Program) (insns : List ExploredInsn) (n : ℕ)
-    (old mid new : Option (List ℕ)) → 1 ≤ n → n ≤ MAX_EXPLORED
+-- the entries of all instructions are a table
+pub GainsTableOf-entries : (p : Program) (insns : List ExploredInsn) (n : ℕ)
+    (old mid new : Option (List ℕ)) → n ≡ length insns → 1 ≤ n → n ≤ MAX_EXPLORED
     → OfStart insns (HasNumber p start) → Appends old mid (head_bytes n)
-    → GainsEntries p insns n mid new → GainsTable p old new
-GainsTable-entries p insns n old mid new some few number head g =
+    → GainsEntries p insns n mid new → GainsTableOf p (entries_for insns) old new
+GainsTableOf-entries p insns n old mid new all some few number head g =
+    let whole : take n insns ≡ insns = take_all n insns (omega (arith, all)) in
+    let is : g.entries ≡ entries_for insns = g.exact ∙ ap entries_for whole in
+    let table : GainsTableOf p g.entries old new =
     record {
-      entries = g.entries;
       read = is_read p n g.entries g.count_is some few g.fit;
       number =
           OfFirst-numbered insns g.entries (HasNumber p start)
@@ -209,19 +232,40 @@ GainsTable-entries p insns n old mid new some few number head g =
           subst (Appends old new) (sym (counted n g.entries g.count_is))
           (Appends-trans old mid new (head_bytes n)
           (flat_map entry_bytes g.entries) head g.gained);
-    }
+    } in
+    subst (λ (es : List Entry). GainsTableOf p es old new) is table
 
--- the entries that were measured have the size of a table
+pub GainsTable-of : (p : Program) (entries : List Entry) (old new : Option (List ℕ))
+    → GainsTableOf p entries old new → GainsTable p old new
+GainsTable-of p entries old new g =
+    record { entries = entries; read = g.read; number = g.number; gained = g.gained }
+
+-- the entries that were measured are a table
+measured : (p : Program) (insns : List ExploredInsn) (written : List ℕ) → IsForTable p insns
+    → GainsEntries p insns (length insns) (Some (head_bytes (length insns))) (Some written)
+    → GainsTableOf p (entries_for insns) (Some []) (Some written)
+measured p insns written h g =
+    GainsTableOf-entries p insns (length insns) (Some []) (Some (head_bytes (length insns)))
+    (Some written) refl h.some h.few h.number refl g
+
+-- they have the size of a table
 pub IsTableSize-entries : (p : Program) (insns : List ExploredInsn) (written : List ℕ) (size : ℕ)
     → IsForTable p insns
     → GainsEntries p insns (length insns) (Some (head_bytes (length insns))) (Some written)
     → size ≡ min (length written) (2 ^ 64 - 1) → IsTableSize p size
 IsTableSize-entries p insns written size h g is = (
   written,
-  GainsTable-entries p insns (length insns) (Some []) (Some (head_bytes (length insns)))
-      (Some written) h.some h.few h.number refl g,
+  GainsTable-of p (entries_for insns) (Some []) (Some written) (measured p insns written h g),
   is,
 )
+
+-- which is that of the table of these instructions
+pub table_length-entries : (p : Program) (insns : List ExploredInsn) (written : List ℕ) (size : ℕ)
+    → IsForTable p insns
+    → GainsEntries p insns (length insns) (Some (head_bytes (length insns))) (Some written)
+    → size ≡ min (length written) (2 ^ 64 - 1) → size ≡ table_length (entries_for insns)
+table_length-entries p insns written size h g is =
+    is ∙ ap (λ (l : List ℕ). min (length l) (2 ^ 64 - 1)) (measured p insns written h g).gained
 
 pub BeginsTable-entries : (p : Program) (n : ℕ) (old mid new : Option (List ℕ)) → 1 ≤ n
     → n ≤ MAX_EXPLORED → Appends old mid (head_bytes n) → BeginsEntries p n mid new

@@ -4,7 +4,7 @@ ghost use Rattle.std.specs.Prelude.{◌≡◌, ◌≤◌, ◌⊎◌, OnOk, OnErr
 ghost use Rattle.std.specs.Io.KnownBytes.{Appends};
 ghost use Rattle.exact_io.specs.Transfers.{AppendsBeginning};
 ghost use Rattle.proof_table.specs.Spelling.{head_bytes};
-ghost use Rattle.proof_table.specs.Writing.{IsForTable, IsTableSize, GainsTable, BeginsTable, GainsEntries, BeginsEntries, SpellsEntry, Lacks, IsWriters, error_of};
+ghost use Rattle.proof_table.specs.Writing.{IsForTable, IsTableSize, GainsTable, GainsTableOf, BeginsTable, GainsEntries, BeginsEntries, SpellsEntry, Lacks, IsWriters, error_of, entries_for, table_length};
 ghost use Rattle.proof_table.specs.Fitting.{entry_said};
 
 use crate::entries::spell_entry;
@@ -154,7 +154,8 @@ pub fn table_size(
     explored: &Explored,
 ) -> Result<u64, WriteTableError>
     requires { IsForTable verified.now.program explored.now }
-    ensures { IfOk result (IsTableSize verified.now.program) }
+    ensures table { IfOk result (IsTableSize verified.now.program) }
+    ensures length { IfOk result (λ size. size ≡ table_length (entries_for explored.now)) }
 {
     let image = verified.image();
     let mut buffer = entry_buffer(alloc)?;
@@ -184,9 +185,10 @@ pub fn write_explored<W: Write>(
 ) -> Result<(), WriteTableError>
     requires { IsForTable verified.now.program explored.now }
 
-    // A table, which is read as the entries that it spells, and says the number of the start.
-    ensures ok { OnOk result
-        (GainsTable verified.now.program (W.contents writer.old) (W.contents writer.new)) }
+    // The table of these instructions, which is read as its entries, and says the number of the
+    // start.
+    ensures ok { OnOk result (GainsTableOf verified.now.program (entries_for explored.now)
+        (W.contents writer.old) (W.contents writer.new)) }
 
     // A beginning of such a table.
     ensures err { OnErr result

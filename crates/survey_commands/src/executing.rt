@@ -3,7 +3,10 @@
 ghost use Rattle.std.specs.Prelude.{◌≤◌, IfOk};
 
 use crate::failures::SurveyError;
+use crate::hits::print_hits;
 use crate::looks::{Look, look_at};
+use crate::pages::show_page;
+use crate::steps::print_steps;
 use crate::surveying::survey;
 use exact_io::PromptWriter;
 use std::io::Write;
@@ -24,8 +27,11 @@ fn serve<R: Files + Clock + AllocGlobal + Clone + Drop, W1: Write, W2: Write>(
     match asked {
         Asked::Survey(wanted) => survey(rt, wanted, has_progress, out, err),
         Asked::Log(path, part) => look_at(rt, *path, Look::Log(*part), out, err),
+        Asked::Page(path) => show_page(rt, *path, out, err),
         Asked::Listing(path) => look_at(rt, *path, Look::Listing, out, err),
         Asked::Graph(path) => look_at(rt, *path, Look::Graph, out, err),
+        Asked::Hits(run, format) => print_hits(rt, *run, *format, out, err),
+        Asked::Steps(run, frame, is_json) => print_steps(rt, *run, *frame, *is_json, out, err),
     }
 }
 
@@ -42,12 +48,13 @@ fn flushed<R: AllocGlobal, W: Write + Drop>(
     let status = ended?;
     match out.flush() {
         Ok(()) => Ok(status),
-        Err(error) => Err(SurveyError::of_output(rt.alloc(), &error)),
+        Err(error) => Err(SurveyError::of_output(rt.alloc(), error.kind())),
     }
 }
 
 /// Does what the arguments ask for, and returns the program's status: 0 all images are accepted, 1
-/// invalid arguments, 2 one is refused, 4 a file or an output failed, 5 out of memory. With
+/// invalid arguments, 2 one is refused, 3 a stream had a fault, 4 a file or an output failed, 5 out
+/// of memory. With
 /// `has_progress` the progress of a survey is written to standard error.
 pub fn execute<R: Files + Clock + AllocGlobal + Clone + Drop, W1: Write + Drop, W2: Write>(
     rt: &R,

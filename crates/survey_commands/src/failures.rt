@@ -1,16 +1,19 @@
 //! Why the program ends early, and its message then.
 
 ghost use Rattle.std.specs.Prelude.{◌≡◌, ◌≤◌};
+ghost use Rattle.survey_commands.specs.Failures.{IsUnread, IsUnwritten, failure_status, words_text};
 
+use commands::{STANDARD_OUTPUT, TaskOutcome};
 use exact_io::write_bytes;
 use messages::write_texts;
 use std::alloc::{AllocError, Global};
-use std::io;
 use std::io::{ErrorKind, Write};
 use survey_rows::shown;
 use words::{NOT_UNICODE, WordsError};
 
-const USAGE: &str = "usage: xdpvm_survey IMAGE|FOLDER .. | log IMAGE | dis IMAGE\n";
+const USAGE: &str =
+    "usage: xdpvm_survey IMAGE|FOLDER .. | log IMAGE | dis IMAGE | hits IMAGE FRAMES | steps IMAGE \
+     FRAMES --frame K\n";
 
 /// Says why the program ends early.
 #[derive(Drop)]
@@ -19,13 +22,17 @@ pub enum SurveyError {
     Words(String),
     /// An argument is not UTF-8.
     NotUnicode,
-    /// A file or an output failed, as the text says.
+    /// The file at the path cannot be read.
+    Unread(String, ErrorKind),
+    /// The file or output of this name cannot be written.
+    Unwritten(String, ErrorKind),
+    /// A file is not what it has to be, as the text says.
     File(String),
     Memory,
 }
 
 impl From<AllocError> for SurveyError {
-    ghost use Rattle.std.specs.Prelude.{◌≡◌};
+    ghost use Rattle.std.specs.Prelude.{◌≡◌, ◌≤◌};
     ghost use Rattle.survey_commands.specs.declared.failures.SurveyError.TheVariants.{Memory};
 
     ghost from_gives = { λ _ e. e ≡ Memory };
@@ -33,22 +40,6 @@ impl From<AllocError> for SurveyError {
     fn from(_error: AllocError) -> SurveyError {
         SurveyError::Memory
     }
-}
-
-/// The line for a file or an output that failed.
-pub fn file_line(
-    alloc: Global,
-    what: &str,
-    path: &str,
-    kind: ErrorKind,
-) -> Result<String, AllocError> {
-    let hint = if path == "-" {
-        "standard input is /dev/stdin\n"
-    } else {
-        ""
-    };
-    let path = shown(alloc, path)?;
-    format!(in alloc; "cannot {what} {path}: {kind}\n{hint}")
 }
 
 /// The line for a folder without images.
@@ -75,6 +66,13 @@ pub fn unnamed_line(alloc: Global, path: &str) -> Result<String, AllocError> {
     format!(in alloc; "cannot read all of {path}: a name in it is not UTF-8\n")
 }
 
+// What is said of arguments: the text on them, or where it is empty the usage.
+fn words_text(text: &str) -> &str
+    ensures { result.now ≡ words_text text.now }
+{
+    if text.is_empty() { USAGE } else { text }
+}
+
 impl SurveyError {
     /// No command was given in full, or memory ran out before that was known.
     pub fn of_words(error: WordsError) -> Self {
@@ -85,49 +83,59 @@ impl SurveyError {
         }
     }
 
-    /// A file or an output failed.
-    pub fn of_file(alloc: Global, what: &str, path: &str, error: &io::Error) -> Self {
-        match error.kind() {
-            ErrorKind::OutOfMemory => SurveyError::Memory,
-            kind => match file_line(alloc, what, path, kind) {
-                Ok(line) => SurveyError::File(line),
-                Err(_) => SurveyError::Memory,
-            },
+    /// A read of the file failed.
+    pub fn of_read(alloc: Global, path: &str, kind: ErrorKind) -> Self
+        ensures { IsUnread path.now kind result }
+    {
+        match String::from_str(alloc, path) {
+            Ok(path) if kind != ErrorKind::OutOfMemory => SurveyError::Unread(path, kind),
+            _ => SurveyError::Memory,
+        }
+    }
+
+    /// A write to the file or output of this name failed, or it could not be made.
+    pub fn of_write(alloc: Global, name: &str, kind: ErrorKind) -> Self
+        ensures { IsUnwritten name.now kind result }
+    {
+        match String::from_str(alloc, name) {
+            Ok(name) if kind != ErrorKind::OutOfMemory => SurveyError::Unwritten(name, kind),
+            _ => SurveyError::Memory,
         }
     }
 
     /// Standard output failed.
-    pub fn of_output(alloc: Global, error: &io::Error) -> Self {
-        SurveyError::of_file(alloc, "write", "standard output", error)
+    pub fn of_output(alloc: Global, kind: ErrorKind) -> Self
+        ensures { IsUnwritten STANDARD_OUTPUT.now kind result }
+    {
+        SurveyError::of_write(alloc, STANDARD_OUTPUT, kind)
     }
 
     /// Says on standard error what went wrong, and returns the status. A failure of standard error
     /// is not reported.
     pub fn tell<W: Write>(self, err: &mut W) -> u8
-        ensures { result ≤ 5 }
+        ensures status { result ≡ failure_status self }
+        ensures most { result ≤ 5 }
     {
         match self {
             SurveyError::Words(text) => {
-                let text = if text.is_empty() {
-                    USAGE
-                } else {
-                    text.as_str()
-                };
-                let _ = write_bytes(err, text.as_bytes());
+                let _ = write_bytes(err, words_text(text.as_str()).as_bytes());
                 1
             }
             SurveyError::NotUnicode => {
                 let _ = write_texts(err, NOT_UNICODE, USAGE, "");
                 1
             }
+            SurveyError::Unread(path, kind) => {
+                TaskOutcome::CannotRead(path.as_str(), kind).tell(err)
+            }
+            SurveyError::Unwritten(name, kind) => {
+                TaskOutcome::CannotWrite(name.as_str(), Some(kind)).tell(err)
+            }
             SurveyError::File(line) => {
                 let _ = write_bytes(err, line.as_bytes());
                 4
             }
-            SurveyError::Memory => {
-                let _ = write_bytes(err, b"out of memory\n");
-                5
-            }
+            SurveyError::Memory => TaskOutcome::NoMemory.tell(err),
         }
     }
 }

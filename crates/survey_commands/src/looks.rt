@@ -33,10 +33,10 @@ fn write_through<W: Write>(text: &str, out: &mut W) -> io::Result<()> {
 
 /// Writes a line to standard output, and all that waits before it, so that what standard error gets
 /// comes after it.
-fn say<W: Write>(alloc: Global, text: &str, out: &mut W) -> Result<(), SurveyError> {
+pub fn say<W: Write>(alloc: Global, text: &str, out: &mut W) -> Result<(), SurveyError> {
     match write_through(text, out) {
         Ok(()) => Ok(()),
-        Err(error) => Err(SurveyError::of_output(alloc, &error)),
+        Err(error) => Err(SurveyError::of_output(alloc, error.kind())),
     }
 }
 
@@ -48,7 +48,7 @@ fn tell_malformed<W: Write>(bytes: &[u8], error: ImageError, err: &mut W) -> io:
 }
 
 /// Says that bytes are not an image, as `xdpvm verify` does, and returns the status.
-fn say_malformed<W1: Write, W2: Write>(
+pub fn say_malformed<W1: Write, W2: Write>(
     alloc: Global,
     bytes: &[u8],
     error: ImageError,
@@ -65,7 +65,7 @@ fn say_malformed<W1: Write, W2: Write>(
 
 /// Says on standard error why a program is refused, the instruction, and what is known there. After
 /// a failure nothing more is written.
-fn tell<W: Write>(
+pub fn tell<W: Write>(
     alloc: Global,
     image: &Image,
     refusal: Refusal,
@@ -111,9 +111,7 @@ fn look_into<W1: Write, W2: Write>(
         Err(LookError::Refused(Refusal::Memory | Refusal::Flow(FlowError::Memory), _)) => Err(
             SurveyError::Memory,
         ),
-        Err(LookError::Writer(kind)) => {
-            Err(SurveyError::of_output(alloc, &io::Error::from(kind)))
-        }
+        Err(LookError::Writer(kind)) => { Err(SurveyError::of_output(alloc, kind)) }
         Err(LookError::Refused(refusal, slot)) => {
             let line = verdict_line(alloc, refusal, slot)?;
             say(alloc, line.as_str(), out)?;
@@ -149,6 +147,28 @@ fn say_slot<W: Write>(
     Ok(true)
 }
 
+/// The image in a file. None: the bytes are no image, which is said.
+pub fn image_in<R: Files + AllocGlobal, W1: Write, W2: Write>(
+    rt: &R,
+    path: &str,
+    out: &mut W1,
+    err: &mut W2,
+) -> Result<Option<Image>, SurveyError> {
+    let alloc = rt.alloc();
+    let bytes = match read_image(rt, alloc, path) {
+        Ok(bytes) => bytes,
+        Err(error) => return Err(SurveyError::of_read(alloc, path, error.kind())),
+    };
+    match Image::parse(alloc, bytes.as_slice()) {
+        Ok(image) => Ok(Some(image)),
+        Err(ImageError::Memory) => Err(SurveyError::Memory),
+        Err(error) => {
+            say_malformed(alloc, bytes.as_slice(), error, out, err)?;
+            Ok(None)
+        }
+    }
+}
+
 /// Shows the image in a file, and returns the status. Standard error is told of a slot that the
 /// code has not got, and why an image is refused.
 pub fn look_at<R: Files + AllocGlobal, W1: Write, W2: Write>(
@@ -161,16 +181,11 @@ pub fn look_at<R: Files + AllocGlobal, W1: Write, W2: Write>(
     ensures { IfOk result (λ status. status ≤ 2) }
 {
     let alloc = rt.alloc();
-    let bytes = match read_image(rt, alloc, path) {
-        Ok(bytes) => bytes,
-        Err(error) => return Err(SurveyError::of_file(alloc, "read", path, &error)),
-    };
-    match Image::parse(alloc, bytes.as_slice()) {
-        Ok(image) => {
+    match image_in(rt, path, out, err)? {
+        Some(image) => {
             let is_told = say_slot(alloc, &image, look, err)?;
             look_into(alloc, &image, look, is_told, out, err)
         }
-        Err(ImageError::Memory) => Err(SurveyError::Memory),
-        Err(error) => say_malformed(alloc, bytes.as_slice(), error, out, err),
+        None => Ok(2),
     }
 }

@@ -2,12 +2,13 @@
 
 ghost use Rattle.std.specs.Prelude.{◌≤◌, IfOk};
 
-use crate::failures::{SurveyError, empty_line, file_line, unnamed_line};
+use crate::failures::{SurveyError, empty_line, unnamed_line};
 use crate::files::read_image;
 use crate::folders::{FolderFailure, NamedPath, add_folder, add_images, images};
 use crate::progress::SurveyProgress;
 use crate::tables::{TablesWanted, put_table};
 use crate::writing::{Sheet, sheet_of, write_head, write_row, write_waiting};
+use commands::TaskOutcome;
 use exact_io::write_bytes;
 use std::alloc::{AllocError, Global};
 use std::io::{ErrorKind, Write};
@@ -17,18 +18,12 @@ use survey_words::Survey;
 use surveys::{Judged, judge};
 
 /// Says on standard error why a file cannot be read, and returns how its image is judged.
-fn judged_unread<W: Write>(
-    alloc: Global,
-    path: &str,
-    kind: ErrorKind,
-    err: &mut W,
-) -> Result<Judgement, AllocError> {
+fn judged_unread<W: Write>(path: &str, kind: ErrorKind, err: &mut W) -> Judgement {
     if let ErrorKind::OutOfMemory = kind {
-        return Ok(Judgement::NoMemory);
+        return Judgement::NoMemory;
     }
-    let line = file_line(alloc, "read", path, kind)?;
-    let _ = write_bytes(err, line.as_bytes());
-    Ok(Judgement::Unreadable)
+    let _ = TaskOutcome::CannotRead(path, kind).tell(err);
+    Judgement::Unreadable
 }
 
 /// A row with a verdict and no counts.
@@ -49,7 +44,7 @@ fn row_unread<W: Write>(
     kind: ErrorKind,
     err: &mut W,
 ) -> Result<Row, AllocError> {
-    let verdict = judged_unread(alloc, path, kind, err)?;
+    let verdict = judged_unread(path, kind, err);
     row_uncounted(alloc, path, verdict)
 }
 

@@ -14,11 +14,11 @@ use proof_table::{
     WriteTableError, explore_again, most_bytes, recheck, table_size, write_explored,
 };
 use std::alloc::{AllocError, Global};
+use std::fs;
 use std::io::Write;
 use std::path::Path;
 use std::rt::Files;
 use std::time::{Clock, Instant};
-use std::{fs, io};
 use survey_rows::Counts;
 use surveys::microseconds_since;
 
@@ -85,11 +85,11 @@ fn store_table<R: Files>(
 ) -> Result<(), SurveyError> {
     let mut file = match fs::create(rt, path) {
         Ok(file) => file,
-        Err(error) => return Err(SurveyError::of_file(alloc, "write", path, &error)),
+        Err(error) => return Err(SurveyError::of_write(alloc, path, error.kind())),
     };
     match write_bytes(&mut file, table) {
         Ok(()) => Ok(()),
-        Err(error) => Err(SurveyError::of_file(alloc, "write", path, &error)),
+        Err(error) => Err(SurveyError::of_write(alloc, path, error.kind())),
     }
 }
 
@@ -125,13 +125,11 @@ fn stream_table<R: Files>(
 {
     let file = match fs::create(rt, path) {
         Ok(file) => file,
-        Err(error) => return Err(SurveyError::of_file(alloc, "write", path, &error)),
+        Err(error) => return Err(SurveyError::of_write(alloc, path, error.kind())),
     };
     match write_through(alloc, verified, explored, file) {
         Ok(()) => Ok(true),
-        Err(WriteTableError::Writer(kind)) => {
-            Err(SurveyError::of_file(alloc, "write", path, &io::Error::from(kind)))
-        }
+        Err(WriteTableError::Writer(kind)) => { Err(SurveyError::of_write(alloc, path, kind)) }
         Err(_) => Ok(false),
     }
 }

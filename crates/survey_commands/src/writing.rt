@@ -4,9 +4,9 @@ use crate::failures::SurveyError;
 use crate::folders::NamedPath;
 use exact_io::write_bytes;
 use std::alloc::{AllocError, Global};
+use std::fs;
 use std::io::Write;
 use std::rt::Files;
-use std::{fs, io};
 use survey_rows::{
     COLUMNS, Changes, Column, ColumnHead, EarlierError, Grid, Row, RowCell, RowLayout,
     change_heads, changes_since, csv_text, grid_of, grid_text, json_text, shown, shown_width, sort,
@@ -94,7 +94,7 @@ fn write_grid<W: Write>(
     let text = text_of(alloc, sheet.survey.format, has_header, grid)?;
     match write_bytes(out, text.as_slice()) {
         Ok(()) => Ok(()),
-        Err(error) => Err(SurveyError::of_output(alloc, &error)),
+        Err(error) => Err(SurveyError::of_output(alloc, error.kind())),
     }
 }
 
@@ -133,9 +133,7 @@ pub fn write_row<W: Write>(
 /// Returns why there is no comparison with the earlier survey in a file.
 fn failure_of(alloc: Global, path: &str, error: EarlierError) -> Result<SurveyError, AllocError> {
     Ok(match error {
-        EarlierError::Unread(kind) => {
-            SurveyError::of_file(alloc, "read", path, &io::Error::from(kind))
-        }
+        EarlierError::Unread(kind) => SurveyError::of_read(alloc, path, kind),
         EarlierError::Memory => SurveyError::Memory,
         EarlierError::NoSurvey => {
             let path = shown(alloc, path)?;
@@ -154,7 +152,7 @@ fn compared<'a, R: Files>(
 ) -> Result<Changes<'a>, SurveyError> {
     let source = match fs::open(rt, path) {
         Ok(source) => source,
-        Err(error) => return Err(SurveyError::of_file(alloc, "read", path, &error)),
+        Err(error) => return Err(SurveyError::of_read(alloc, path, error.kind())),
     };
     match changes_since(alloc, source, rows) {
         Ok(changes) => Ok(changes),

@@ -1,6 +1,8 @@
-//! What the program can be asked for: a survey, or a log, a listing or a graph of one image.
+//! What the program can be asked for: a survey, or a log, a listing or a graph of one image, or what
+//! its runs on packet frames did.
 
 use survey_rows::Column;
+use words::StepLimit;
 
 /// Says how rows are written.
 #[derive(Clone, Copy, PartialEq, Eq, Debug, Drop)]
@@ -36,14 +38,30 @@ pub struct LogPart {
     pub states: u64,
 }
 
+/// An image that is run on a frame stream, with all checks.
+#[derive(Clone, Copy, Drop)]
+pub struct RunAsked<'a> {
+    pub image: &'a str,
+    pub frames: &'a str,
+    /// The text that fills the maps before the first frame.
+    pub maps: Option<&'a str>,
+    pub limit: StepLimit,
+}
+
 /// Says what is asked for.
 #[derive(Drop)]
 pub enum Asked<'a> {
     Survey(Survey<'a>),
     /// The instructions that the search explores of an image, or a part of them.
     Log(&'a str, LogPart),
+    /// A page on what the search explores of an image.
+    Page(&'a str),
     /// The listing of an image.
     Listing(&'a str),
     /// The graph of an image's basic blocks.
     Graph(&'a str),
+    /// How often each instruction is run over the frames of a stream.
+    Hits(RunAsked<'a>, Format),
+    /// The run of the frame of this number, step by step; as JSON, or as text.
+    Steps(RunAsked<'a>, u32, bool),
 }

@@ -1,5 +1,6 @@
 //! The command line of the program, for clap.
 
+use crate::run_lines::{hits, steps};
 use clap::{Arg, ArgAction, Command};
 use std::alloc::{AllocError, Global};
 
@@ -16,64 +17,67 @@ const AFTER: &str =
 
 const LOG_ABOUT: &str = "Prints each explored instruction with the state that it was reached in";
 
+const HTML: &str =
+    "Writes a page: of each instruction how often it was explored and what is known there";
+
 const DIS_ABOUT: &str =
     "Prints slots, bytes, labels and text of an image, or its basic blocks as a graph";
 
-// An option that takes a value, the name of its value in the help, and its help text.
+/// An option that takes a value, the name of its value in the help, and its help text.
 #[derive(Clone, Copy)]
-struct Choice {
-    name: &'static str,
-    value_name: &'static str,
-    help: &'static str,
+pub struct ValueChoice {
+    pub name: &'static str,
+    pub value_name: &'static str,
+    pub help: &'static str,
 }
 
-const CHOICES: [Choice; 6] = [
-    Choice {
+const CHOICES: [ValueChoice; 6] = [
+    ValueChoice {
         name: "format",
         value_name: "FORMAT",
         help: "How rows are written: table, csv or json [default: table]",
     },
-    Choice {
+    ValueChoice {
         name: "sort",
         value_name: "COLUMN",
         help: "Sorts by a column: texts from a to z, numbers from the greatest to the least",
     },
-    Choice {
+    ValueChoice {
         name: "only",
         value_name: "refused",
         help: "Prints only the rows of refused images",
     },
-    Choice {
+    ValueChoice {
         name: "compare",
         value_name: "OLD.csv",
         help: "Prints what differs from an earlier survey, written as csv",
     },
-    Choice {
+    ValueChoice {
         name: "tables",
         value_name: "FOLDER",
         help: "Writes a proof table of each accepted image there, and tests it",
     },
-    Choice {
+    ValueChoice {
         name: "most",
         value_name: "BYTES",
         help: "Writes no table of more bytes than this",
     },
 ];
 
-const SLOT: Choice = Choice {
+const SLOT: ValueChoice = ValueChoice {
     name: "slot",
     value_name: "N",
     help: "Prints only what was explored at this slot",
 };
 
-const STATES: Choice = Choice {
+const STATES: ValueChoice = ValueChoice {
     name: "states",
     value_name: "N",
     help: "Prints at most so many states [default: 10000]",
 };
 
-// An option that takes a value.
-fn option<'a>(alloc: Global, choice: Choice) -> Arg<'a> {
+/// An option that takes a value.
+pub fn option<'a>(alloc: Global, choice: ValueChoice) -> Arg<'a> {
     Arg::new(alloc, choice.name)
         .long(choice.name)
         .action(ArgAction::Set)
@@ -81,16 +85,16 @@ fn option<'a>(alloc: Global, choice: Choice) -> Arg<'a> {
         .help(choice.help)
 }
 
-// An option that takes no value.
-fn flag<'a>(alloc: Global, name: &'static str, help: &'static str) -> Arg<'a> {
+/// An option that takes no value.
+pub fn flag<'a>(alloc: Global, name: &'static str, help: &'static str) -> Arg<'a> {
     Arg::new(alloc, name)
         .long(name)
         .action(ArgAction::SetTrue)
         .help(help)
 }
 
-// A command that shows one image.
-fn look<'a>(
+/// A command on one image.
+pub fn look<'a>(
     alloc: Global,
     name: &'static str,
     about: &'static str,
@@ -123,7 +127,7 @@ fn with_paths<'a>(alloc: Global, command: Command<'a>) -> Result<Command<'a>, Al
     command.arg(paths)
 }
 
-/// The program, whose arguments are those of a survey, with its two commands.
+/// The program, whose arguments are those of a survey, with its commands.
 pub fn program<'a>(alloc: Global) -> Result<Command<'a>, AllocError> {
     let empty = Command::new(alloc, NAME)
         .version(VERSION)
@@ -133,7 +137,8 @@ pub fn program<'a>(alloc: Global) -> Result<Command<'a>, AllocError> {
         .bin_name(NAME)?;
     let log = look(alloc, "log", LOG_ABOUT)?
         .arg(option(alloc, SLOT))?
-        .arg(option(alloc, STATES))?;
+        .arg(option(alloc, STATES))?
+        .arg(flag(alloc, "html", HTML))?;
     let graph = flag(
         alloc,
         "dot",
@@ -142,5 +147,6 @@ pub fn program<'a>(alloc: Global) -> Result<Command<'a>, AllocError> {
     let dis = look(alloc, "dis", DIS_ABOUT)?.arg(graph)?;
     let with_paths = with_paths(alloc, empty)?;
     let surveying = with_options(alloc, with_paths)?;
-    surveying.subcommand(log)?.subcommand(dis)
+    let looking = surveying.subcommand(log)?.subcommand(dis)?;
+    looking.subcommand(hits(alloc)?)?.subcommand(steps(alloc)?)
 }

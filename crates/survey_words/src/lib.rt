@@ -4,6 +4,8 @@
 mod asked;
 mod command_line;
 mod reading;
+mod run_lines;
+mod run_reading;
 
-pub use asked::{Asked, Format, LogPart, Survey};
+pub use asked::{Asked, Format, LogPart, RunAsked, Survey};
 pub use reading::read_words;

@@ -2,11 +2,12 @@
 
 use crate::asked::{Asked, Format, LogPart, Survey};
 use crate::command_line::program;
+use crate::run_reading::{hits_in, steps_in};
 use clap::ArgMatches;
 use clap::error::ErrorKind;
 use std::alloc::{AllocError, Global};
 use survey_rows::Column;
-use words::WordsError;
+use words::{WordsError, shown_lines};
 
 // The messages for arguments that clap accepts and the program does not.
 const NO_FORMAT: &str = "error: the value of --format is not table, csv or json\n";
@@ -19,6 +20,9 @@ const NO_SLOT: &str = "error: the value of --slot is no number\n";
 
 const NO_STATES: &str = "error: the value of --states is no number\n";
 
+const NO_PAGE: &str =
+    "error: --html writes a page on the whole search: it goes without --slot and --states\n";
+
 const NO_MOST: &str = "error: the value of --most is no number of bytes\n";
 
 const NO_TABLES: &str = "error: --most says how large a table of --tables may be\n";
@@ -26,7 +30,8 @@ const NO_TABLES: &str = "error: --most says how large a table of --tables may be
 /// How many states a log prints where no other number is given.
 const STATES: u64 = 10_000;
 
-fn wrong(alloc: Global, text: &str) -> WordsError {
+/// Says what is wrong with the arguments.
+pub fn wrong(alloc: Global, text: &str) -> WordsError {
     match String::from_str(alloc, text) {
         Ok(text) => WordsError::Wrong(text),
         Err(_) => WordsError::Memory,
@@ -68,8 +73,8 @@ fn only_in(alloc: Global, matches: &ArgMatches<'_>) -> Result<bool, WordsError> 
     }
 }
 
-// The number that an option gives, or what is said of one that is none.
-fn number_in(
+/// The number that an option gives, or what is said of one that is none.
+pub fn number_in(
     alloc: Global,
     matches: &ArgMatches<'_>,
     name: &str,
@@ -99,6 +104,21 @@ fn part_in(alloc: Global, matches: &ArgMatches<'_>) -> Result<LogPart, WordsErro
     let slot = slot_in(alloc, matches)?;
     let states = number_in(alloc, matches, "states", NO_STATES)?.unwrap_or(STATES);
     Ok(LogPart { slot, states })
+}
+
+// The log that is asked for, or the page.
+fn log_in<'a>(
+    alloc: Global,
+    image: &'a str,
+    matches: &ArgMatches<'a>,
+) -> Result<Asked<'a>, WordsError> {
+    if !matches.get_flag("html") {
+        return Ok(Asked::Log(image, part_in(alloc, matches)?));
+    }
+    if matches.get_str("slot").is_some() || matches.get_str("states").is_some() {
+        return Err(wrong(alloc, NO_PAGE));
+    }
+    Ok(Asked::Page(image))
 }
 
 // The most bytes of a table; they are said of tables that are asked for.
@@ -141,17 +161,25 @@ fn look_in<'a>(
         return Err(WordsError::Wrong(String::new(alloc)));
     };
     match name {
-        "log" => Ok(Asked::Log(image, part_in(alloc, matches)?)),
+        "hits" => hits_in(alloc, matches),
+        "steps" => steps_in(alloc, matches),
+        "log" => log_in(alloc, image, matches),
         _ if matches.get_flag("dot") => Ok(Asked::Graph(image)),
         _ => Ok(Asked::Listing(image)),
     }
+}
+
+// What clap says of the arguments.
+fn error_text(alloc: Global, error: &clap::Error) -> Result<String, AllocError> {
+    let text = format!(in alloc; "{error}")?;
+    shown_lines(alloc, text.as_str())
 }
 
 // Why clap did not accept the arguments, or the help that they ask for.
 fn words_error_of(alloc: Global, error: &clap::Error) -> WordsError {
     match error.kind() {
         ErrorKind::OutOfMemory => WordsError::Memory,
-        _ => match format!(in alloc; "{error}") {
+        _ => match error_text(alloc, error) {
             Ok(text) => WordsError::Wrong(text),
             Err(_) => WordsError::Memory,
         },

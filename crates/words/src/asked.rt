@@ -9,6 +9,7 @@ ghost use Rattle.words.specs.Requests.{files_of, table_files_of, request_of};
 ghost use Rattle.words.specs.Asked.{AsksFor, TellsOf, assembly_of, files_in, limit_in, limit_of, table_files_in, request_by, run_of, trace_of};
 
 use super::command_line::program;
+use super::shown::shown_lines;
 use super::tasks::{AssemblyPaths, RunPaths, StepLimit, TablePaths, Task, WordsError};
 use clap::ArgMatches;
 use clap::error::ErrorKind;
@@ -139,10 +140,11 @@ fn without_tip(alloc: Global, message: String) -> Result<String, AllocError> {
     Ok(message)
 }
 
-/// Returns what clap prints for a command line that it did not accept, or for help or the version.
+/// Returns what clap prints for a command line that it did not accept, or for help or the version;
+/// control characters of arguments are shown as escapes.
 pub fn message_of(alloc: Global, error: &clap::Error) -> Result<String, AllocError> {
-    let message = format!(in alloc; "{error}")?;
-    without_tip(alloc, message)
+    let message = without_tip(alloc, format!(in alloc; "{error}")?)?;
+    shown_lines(alloc, message.as_str())
 }
 
 // Why a command line was not accepted.

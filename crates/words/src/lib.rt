@@ -7,10 +7,12 @@ mod filter_asked;
 mod filter_line;
 mod filter_tasks;
 mod given;
+mod shown;
 mod tasks;
 
 pub use asked::read_words;
 pub use filter_asked::read_filter_words;
 pub use filter_tasks::{FilterTask, FilterWordsError, Judging};
 pub use given::given_words;
+pub use shown::shown_lines;
 pub use tasks::{AssemblyPaths, NOT_UNICODE, RunPaths, StepLimit, TablePaths, Task, WordsError};

@@ -18,7 +18,7 @@ impl Core {
     }
 
     /// Returns whether the test of a conditional jump holds, in a run on a packet of this length.
-    fn test(&self, cond: Cond, len: usize) -> Result<bool, TrapReason>
+    pub fn test(&self, cond: Cond, len: usize) -> Result<bool, TrapReason>
         requires { len < 2 ^ 63 }
         ensures { (packet : List ℕ) → length packet ≡ len
             → result ≡ test_of (state_of self.now packet) cond }

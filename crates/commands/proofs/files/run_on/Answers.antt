@@ -6,4 +6,6 @@ pub returns-in-Ok : goal.returns-in-Ok
 returns-in-Ok g c = runs_on (files_of c.args.paths) _ _ _ _ _ _ _ _ _ c.run_stream.ensures
 
 pub returns-in-Err : goal.returns-in-Err
-returns-in-Err g c = opens_on (files_of c.args.paths) _ _ _ c.in-Err.ensures
+returns-in-Err g c =
+    opens_on (files_of c.args.paths) _ _ _ _ c.in-Err.ensures c.plain.ensures.outcome
+    c.plain.ensures.why

@@ -15,7 +15,6 @@ returns-in-Err-judge g c =
 
 pub returns-in-Ok-judge : goal.returns-in-Ok-judge
 returns-in-Ok-judge g c =
-    image_run (files_of c.args.paths) _ _ _ _ _ _ _ c.in-Ok.ensures.ok c.in-Ok-judge.ensures.ok
+    image_run (files_of c.args.paths) _ _ _ _ _ _ c.in-Ok.ensures.ok c.in-Ok-judge.ensures.ok
     (bound_of_verified _ _ c.in-Ok-judge.ensures.program c.in-Ok-judge.ensures.verified
     c.in-Ok-judge.ensures.number c.in-Ok-judge.ensures.bounds) c.run_on.ensures
-    c.plain-in-Ok-judge.ensures.outcome c.plain-in-Ok-judge.ensures.why

@@ -1,4 +1,4 @@
-use Rattle.std.proofs.Common.{◌∙◌}
+use Rattle.std.proofs.Common.{◌∙◌, refl}
 use Rattle.words.specs.Requests.{table_files_of}
 use Rattle.commands.proofs.Loading.{bound_of_verified, prove_refused, prove_unloaded, prove_unmade, table_stored}
 use Rattle.commands.proofs.tables.prove_file.Goals as goal
@@ -6,17 +6,17 @@ use Rattle.commands.proofs.tables.prove_file.Goals as goal
 pub returns-in-Err : goal.returns-in-Err
 returns-in-Err g c =
     prove_unloaded
-    (table_files_of c.args.paths) _ _ _ _ c.in-Err.ensures.none c.plain.ensures.outcome
+    (table_files_of c.args.paths) _ _ _ _ _ _ c.in-Err.ensures.none refl c.plain.ensures.outcome
     c.plain.ensures.why
 
 pub returns-in-Err-judge : goal.returns-in-Err-judge
 returns-in-Err-judge g c =
-    prove_refused (table_files_of c.args.paths) _ _ _ _ _ c.in-Ok.ensures.ok c.in-Ok.ensures.fits
-    c.in-Err-judge.ensures.refused c.in-Err-judge.ensures.known
+    prove_refused (table_files_of c.args.paths) _ _ _ _ _ _ _ c.in-Ok.ensures.ok
+    c.in-Ok.ensures.fits c.in-Err-judge.ensures.refused c.in-Err-judge.ensures.known refl
 
 pub returns-in-Ok-create_table : goal.returns-in-Ok-create_table
 returns-in-Ok-create_table g c =
-    table_stored (table_files_of c.args.paths) _ _ _ _ _ _ _ _ _ _ c.in-Ok.ensures.ok
+    table_stored (table_files_of c.args.paths) _ _ _ _ _ _ _ _ _ _ _ _ c.in-Ok.ensures.ok
     c.in-Ok-judge.ensures.ok
     (bound_of_verified _ _ c.in-Ok-judge.ensures.program c.in-Ok-judge.ensures.verified
     c.in-Ok-judge.ensures.number c.in-Ok-judge.ensures.bounds)
@@ -25,9 +25,9 @@ returns-in-Ok-create_table g c =
 
 pub returns : goal.returns
 returns g c =
-    prove_unmade (table_files_of c.args.paths) _ _ _ _ _ _ c.in-Ok.ensures.ok
+    prove_unmade (table_files_of c.args.paths) _ _ _ _ _ _ _ _ c.in-Ok.ensures.ok
     c.in-Ok-judge.ensures.ok
     (bound_of_verified _ _ c.in-Ok-judge.ensures.program c.in-Ok-judge.ensures.verified
     c.in-Ok-judge.ensures.number c.in-Ok-judge.ensures.bounds)
-    c.in-Err-create_table.ensures c.plain-in-Err-create_table.ensures.outcome
+    c.in-Err-create_table.ensures refl c.plain-in-Err-create_table.ensures.outcome
     c.plain-in-Err-create_table.ensures.why

@@ -3,7 +3,7 @@ use Rattle.std.specs.Prelude.{min}
 use Rattle.isa_model.specs.Code.Instructions.{Program}
 use Rattle.proof_table.specs.Spelling.{head_bytes}
 use Rattle.proof_table.specs.Writing.{IsForTable, IsTableSize, GainsEntries}
-use Rattle.proof_table.proofs.WritingLaws.{GainsEntries-none, GainsEntries-more, IsTableSize-entries}
+use Rattle.proof_table.proofs.WritingLaws.{GainsEntries-none, GainsEntries-more, IsTableSize-entries, table_length-entries}
 use Rattle.proof_table.proofs.tables.table_size.Goals as goal
 
 pub loop-at-init : goal.loop-at-init
@@ -22,8 +22,8 @@ loop-at-preserved c =
       omega (arith, size, length-append written bytes),
     )
 
-pub returns : goal.returns
-returns c =
+pub returns-clause-table : goal.returns-clause-table
+returns-clause-table c =
     let (written, all, size) = c.loop-at.invariant in
     let image = c.image-image.result.now in
     let insns = c.args.explored.now in
@@ -42,3 +42,23 @@ returns c =
     (IsTableSize-entries c.image-image.result.now c.args.explored.now written c.loop-at.size
     (subst (λ (p : Program). IsForTable p c.args.explored.now) (sym c.image-image.ensures.program)
     c.requires) whole size)
+
+pub returns-clause-length : goal.returns-clause-length
+returns-clause-length c =
+    let (written, all, size) = c.loop-at.invariant in
+    let image = c.image-image.result.now in
+    let insns = c.args.explored.now in
+    let count : c.loop-at.at ≡ length insns =
+    omega (
+      arith,
+      c.requires.some,
+      c.len-at-end.ensures,
+      c.loop-at-test.false,
+      c.loop-at.auto.at-end,
+    ) in
+    let whole =
+    subst (λ n. GainsEntries image insns n (Some (head_bytes (length insns))) (Some written)) count
+    all in
+    table_length-entries c.image-image.result.now c.args.explored.now written c.loop-at.size
+    (subst (λ (p : Program). IsForTable p c.args.explored.now) (sym c.image-image.ensures.program)
+    c.requires) whole size

@@ -1,12 +1,22 @@
-use Rattle.std.proofs.Common.{ℕ, List, subst, sym, refl}
+use Rattle.std.proofs.Common.{◌≡◌, ℕ, List, subst, sym, refl, arith}
 use Rattle.std.specs.Io.KnownBytes.{Appends}
 use Rattle.exact_io.specs.Transfers.{AppendsBeginning}
 use Rattle.image.proofs.Writing.{on_err}
+use Rattle.proof_table.specs.Writing.{GainsEntries}
 use Rattle.proof_table.proofs.WritingLaws.{GainsEntries-none, GainsEntries-more, BeginsEntries-part, BeginsEntries-some}
 use Rattle.proof_table.proofs.tables.write_entries.Goals as goal
 
 pub loop-index-init : goal.loop-index-init
 loop-index-init g c = GainsEntries-none c.args.image.now c.args.explored.now _
+
+pub returns-clause-ok : goal.returns-clause-ok
+returns-clause-ok g c =
+    let all : c.loop-index.index ≡ c.args.count =
+    omega (arith, c.loop-index-test.false, c.loop-index.auto.index-end) in
+    subst
+    (λ (n : ℕ). GainsEntries c.args.image.now c.args.explored.now n
+    (g.W.Write.contents c.args.writer.now) (g.W.Write.contents c.loop-index.writer)) all
+    c.loop-index.invariant
 
 pub returns-in_default-clause-err : goal.returns-in_default-clause-err
 returns-in_default-clause-err g c =

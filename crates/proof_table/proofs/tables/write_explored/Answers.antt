@@ -9,8 +9,8 @@ use Rattle.stack_state.specs.Starts.{start}
 use Rattle.walks.specs.Counts.{HasNumber}
 use Rattle.listeners.specs.Listed.{OfStart}
 use Rattle.image.proofs.Writing.{on_err}
-use Rattle.proof_table.specs.Writing.{BeginsTable, GainsTable, BeginsEntries, GainsEntries}
-use Rattle.proof_table.proofs.WritingLaws.{GainsTable-entries, BeginsTable-entries, BeginsTable-head, BeginsTable-nothing}
+use Rattle.proof_table.specs.Writing.{BeginsTable, GainsTableOf, BeginsEntries, GainsEntries, entries_for}
+use Rattle.proof_table.proofs.WritingLaws.{GainsTableOf-entries, BeginsTable-entries, BeginsTable-head, BeginsTable-nothing}
 use Rattle.proof_table.proofs.tables.write_explored.Goals as goal
 
 pub returns-in_err-buffer-clause-err : goal.returns-in_err-buffer-clause-err
@@ -41,11 +41,12 @@ returns-clause-ok g c =
     let head =
     subst (λ (l : List ℕ). Appends old mid l) c.head_bytes.ensures
     c.in_ok-write_all.ensures.ok in
-    subst (λ (p : Program). OnOk c.write_entries.result (GainsTable p old new))
+    subst (λ (p : Program). OnOk c.write_entries.result
+    (GainsTableOf p (entries_for c.args.explored.now) old new))
     c.image-image.ensures.program
     (on_ok_weaker c.write_entries.result
-    (λ (h : GainsEntries c.image-image.result.now c.args.explored.now n mid new). GainsTable-entries
-    c.image-image.result.now c.args.explored.now n old mid new
+    (λ (h : GainsEntries c.image-image.result.now c.args.explored.now n mid new). GainsTableOf-entries
+    c.image-image.result.now c.args.explored.now n old mid new c.len-count.ensures
     (omega (arith, c.requires.some, c.len-count.ensures))
     (omega (arith, c.requires.few, c.len-count.ensures))
     (subst (λ (p : Program). OfStart c.args.explored.now (HasNumber p start))

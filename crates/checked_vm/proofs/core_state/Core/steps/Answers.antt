@@ -1,8 +1,9 @@
-use Rattle.std.proofs.Common.{◌≡◌, ◌+◌, refl, sym, ap, ◌∙◌, arith}
+use Rattle.std.proofs.Common.{◌≡◌, ◌+◌, List, refl, sym, ap, ◌∙◌, subst, arith}
 use Rattle.isa_model.specs.declared.ends.End.TheVariants.{Exit, Trap}
+use Rattle.isa_model.specs.Machine.States.{State}
 use Rattle.isa_model.specs.Running.Runs.{left}
 use Rattle.isa_model.proofs.RunLaws.{progress-zero}
-use Rattle.checked_vm.proofs.Turns.{progress-next, turn_of-finished, turn_of-trapped, state_at-finished, state_at-trapped}
+use Rattle.checked_vm.proofs.Turns.{progress-next, turn_of-finished, turn_of-trapped, state_at-finished, state_at-trapped, begun_in-zero, begun_in-next, begun_in-finished, begun_in-trapped}
 use Rattle.checked_vm.proofs.core_state.Core.steps.Goals as goal
 
 pub loop-done-init : goal.loop-done-init
@@ -16,6 +17,9 @@ loop-done-init g c = record {
       let none = c.requires.clock_calls in
       let same : k ≡ c.args.self.now.clock_calls + k = omega arith in
       ap (g.C.Clock.at c.args.clock.now) same;
+  seen = λ p code rows version states h.
+      subst (g.W.Watcher.has_seen c.args.watcher.now c.args.insns.now)
+      (begun_in-zero p (g.C.Clock.at c.args.clock.now) _ states) h;
 }
 
 pub loop-done-preserved : goal.loop-done-preserved
@@ -32,6 +36,11 @@ loop-done-preserved g c =
       serial = omega (arith, e.serial, inv.serial);
       clock_calls = omega (arith, e.clock_calls, inv.clock_calls);
       clock = e.clock (g.C.Clock.at c.args.clock.now) inv.clock;
+      seen = λ p code rows version states h.
+          subst (g.W.Watcher.has_seen c.see.new.self c.args.insns.now)
+          (begun_in-next p (g.C.Clock.at c.args.clock.now) c.loop-done.done _ _ states
+          (inv.so_far p code rows version))
+          (c.see.ensures _ (inv.seen p code rows version states h));
     }
 
 pub returns-in-Finished-clause-turn : goal.returns-in-Finished-clause-turn
@@ -75,3 +84,23 @@ returns-in-Trapped-clause-stop g c = λ p code rows version.
     let went = c.in-Trapped.ensures.step p clock code (rows ∙ sym inv.rows) version inv.clock in
     state_at-trapped p clock c.loop-done.done c.args.limit c.in-Trapped.reason _ _
     (inv.so_far p code rows version) went.0 (omega arith) ∙ sym went.1
+
+pub returns-in-Finished-clause-seen : goal.returns-in-Finished-clause-seen
+returns-in-Finished-clause-seen g c = λ p code rows version states h.
+    let inv = c.loop-done.invariant in
+    let clock = g.C.Clock.at c.args.clock.now in
+    let went = c.in-Finished.ensures.step p clock code (rows ∙ sym inv.rows) version inv.clock in
+    subst (g.W.Watcher.has_seen c.see.new.self c.args.insns.now)
+    (begun_in-finished p clock c.loop-done.done c.args.limit c.in-Finished.number _ _ states
+    (inv.so_far p code rows version) went.0 (omega arith))
+    (c.see.ensures _ (inv.seen p code rows version states h))
+
+pub returns-in-Trapped-clause-seen : goal.returns-in-Trapped-clause-seen
+returns-in-Trapped-clause-seen g c = λ p code rows version states h.
+    let inv = c.loop-done.invariant in
+    let clock = g.C.Clock.at c.args.clock.now in
+    let went = c.in-Trapped.ensures.step p clock code (rows ∙ sym inv.rows) version inv.clock in
+    subst (g.W.Watcher.has_seen c.see.new.self c.args.insns.now)
+    (begun_in-trapped p clock c.loop-done.done c.args.limit c.in-Trapped.reason _ _ states
+    (inv.so_far p code rows version) went.0 (omega arith))
+    (c.see.ensures _ (inv.seen p code rows version states h))

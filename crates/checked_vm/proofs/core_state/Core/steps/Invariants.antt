@@ -1,8 +1,10 @@
-use Rattle.std.proofs.Common.{◌≡◌, ◌+◌, ◌≤◌}
+use Rattle.std.proofs.Common.{◌≡◌, ◌+◌, ◌≤◌, List, ◌++◌}
 use Rattle.isa_model.specs.Code.Instructions.{Program}
 use Rattle.isa_model.specs.Running.Runs.{GoesOn, progress}
 use Rattle.checked_vm.specs.Machine.{state_of, IsRunning}
+use Rattle.isa_model.specs.Machine.States.{State}
 use Rattle.checked_vm.specs.StepResults.{ClockAnswers}
+use Rattle.checked_vm.specs.Watching.{begun_in}
 use Rattle.checked_vm.proofs.core_state.Core.steps.Given as goal
 
 abbrev pub invariant-loop-done : goal.invariant-loop-done
@@ -16,4 +18,10 @@ invariant-loop-done g l = record {
   serial : l.self.maps.next_serial ≤ l.initial.self.maps.next_serial + l.done;
   clock_calls : l.self.clock_calls ≤ l.done;
   clock : ClockAnswers (g.C.Clock.at l.initial.clock) l.self.clock_calls (g.C.Clock.at l.clock);
+  seen : (p : Program) → p.insns ≡ l.insns → p.maps ≡ l.initial.self.maps.rows
+      → p.version ≡ l.version
+      → (states : List State) → g.W.Watcher.has_seen l.initial.watcher l.insns states
+      → g.W.Watcher.has_seen l.watcher l.insns
+      (states ++ begun_in p (g.C.Clock.at l.initial.clock) l.done
+      (state_of l.initial.self l.initial.packet));
 }

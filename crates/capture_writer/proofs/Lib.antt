@@ -1,0 +1,6 @@
+pub mod PieceLaws
+pub mod WritingLaws
+pub mod Recorded
+pub mod PcapRecorded
+pub mod PcapngRecorded
+pub mod ReadBackLaws

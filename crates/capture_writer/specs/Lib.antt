@@ -1,0 +1,5 @@
+pub mod CaptureBytes
+pub mod Writing
+pub mod Reached
+pub mod WriterStates
+pub mod ReadBack

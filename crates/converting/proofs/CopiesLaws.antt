@@ -1,0 +1,140 @@
+-- One more turn of the loop over a stream's frames, and how the loop ends.
+use Rattle.std.proofs.Common.{◌≡◌, ◌∙◌, ℕ, ◌+◌, ◌<◌, ◌≤◌, List, [], ◌∷◌, ◌++◌, Option, Result, length, refl, sym, ap, subst, append_assoc, append-nil, length-append, arith, inl, inr}
+use Rattle.std.specs.List.{flat_map}
+use Rattle.std.specs.Io.KnownBytes.{Appends, Keeps}
+use Rattle.std.proofs.KnownBytes.{Appends-kept, Appends-trans}
+use Rattle.std.proofs.lemmas.Grind.{flat_map-append}
+use Rattle.exact_io.specs.Transfers.{AppendsBeginning}
+use Rattle.exact_io.proofs.TransferLaws.{AppendsBeginning-second}
+use Rattle.isa_model.specs.declared.streams.Fault.{Fault}
+use Rattle.isa_model.specs.declared.streams.Finish.{Finish}
+use Rattle.isa_model.specs.declared.streams.Finish.TheVariants as finish
+use Rattle.isa_model.specs.declared.versions.Version.{Version}
+use Rattle.isa_model.specs.declared.versions.Version.TheVariants.{One}
+use Rattle.isa_model.specs.Code.Limits.{max_body}
+use Rattle.isa_model.specs.Reporting.Streams.{PacketFrame, max_frames, stream_with}
+use Rattle.frames.specs.Sources.{Origin}
+use Rattle.frames.specs.Readers.{Position, Fresh}
+use Rattle.frames.specs.Reading.{OpensStream, begun_at, Found, Stopped, Finds}
+use Rattle.frames.specs.Inputs.{IsBegunVersion}
+use Rattle.frames.proofs.InputsLaws.{HasBegun, HasBegun-opens, HasBegun-found, HasBegun-stopped, HasFound-begins}
+use Rattle.converting.specs.declared.forms.FrameForm.{FrameForm}
+use Rattle.converting.specs.declared.forms.StreamEnd.{StreamEnd}
+use Rattle.converting.specs.Copies.{CopiesFront, CopiesWhole, frame_as, frames_as, start_as}
+
+-- these frames were found, and were written
+pub record CopiedSoFar (form : FrameForm) (v : Version) (source : Origin)
+    (before : Option (List ℕ)) (frames : List PacketFrame) (known : Option (List ℕ))
+    (position : Position) (number : ℕ) (now : Option (List ℕ)) : Type 0 where
+  pub begun : HasBegun v frames source known position
+  pub numbered : number ≡ length frames
+  pub wrote : Appends before now (frames_as form v frames)
+
+-- a reader that was made and then read the magic has begun
+pub begun-magic : (v : Version) (source : Origin) (known new : Option (List ℕ))
+    (first after : Position) (magic : Result ℕ (Fault × ℕ)) → first ≡ Fresh → known ≡ source.bytes
+    → OpensStream source.may_fail first known new after → magic ≡ begun_at after
+    → IsBegunVersion magic v → HasBegun v [] source new after
+begun-magic v source known new first after magic is same opens begins version =
+    HasBegun-opens v source new after
+    (subst (λ (k : Option (List ℕ)). OpensStream source.may_fail Fresh k new after) same
+    (subst (λ (x : Position). OpensStream source.may_fail x known new after) is opens))
+    (subst (λ (b : Result ℕ (Fault × ℕ)). IsBegunVersion b v) begins version)
+
+-- the bytes of one more frame
+frames_as-push : (form : FrameForm) (v : Version) (frames : List PacketFrame) (f : PacketFrame)
+    → frames_as form v (frames ++ f ∷ []) ≡ frames_as form v frames ++ frame_as form v f
+frames_as-push form v frames f =
+    ap (λ (l : List ℕ). start_as form v ++ l)
+    (flat_map-append (frame_as form v) frames (f ∷ [])
+    ∙ ap (λ (l : List ℕ). flat_map (frame_as form v) frames ++ l) (append-nil (frame_as form v f)))
+    ∙ sym (append_assoc (start_as form v) (flat_map (frame_as form v) frames) (frame_as form v f))
+
+frames_as-none : (form : FrameForm) (v : Version) → frames_as form v [] ≡ start_as form v
+frames_as-none form v = append-nil (start_as form v)
+
+module _ (form : FrameForm) (v : Version) (source : Origin) (before : Option (List ℕ)) where
+  -- before the first turn of the loop
+  pub none_copied : (known now : Option (List ℕ)) (p : Position) → HasBegun v [] source known p
+      → Appends before now (start_as form v)
+      → CopiedSoFar form v source before [] known p 0 now
+  none_copied known now p begun w = record {
+    begun = begun;
+    numbered = refl;
+    wrote = subst (Appends before now) (sym (frames_as-none form v)) w;
+  }
+
+  -- what stands before the frames was written in part
+  pub start_failed : (known now : Option (List ℕ)) (p : Position) → HasBegun v [] source known p
+      → AppendsBeginning before now (start_as form v) → CopiesFront form source before now
+  start_failed known now p (inl s) b = record {
+    version = v;
+    frames = [];
+    read = inl (HasFound-begins source.may_fail v [] source.bytes known p s);
+    wrote = subst (AppendsBeginning before now) (sym (frames_as-none form v)) b;
+  }
+  start_failed known now p (inr u) b = record {
+    version = One;
+    frames = [];
+    read = inr (finish.Fault u.fault 0, u.read);
+    wrote =
+        subst (AppendsBeginning before now) (sym (frames_as-none form One))
+        (subst (λ (x : Version). AppendsBeginning before now (start_as form x)) u.first b);
+  }
+
+  module _ (frames : List PacketFrame) (known new : Option (List ℕ)) (p q : Position) (number : ℕ)
+      (now flushed after : Option (List ℕ))
+      (so : CopiedSoFar form v source before frames known p number now)
+      (kept : Keeps now flushed) where
+    whole_flushed : Appends before flushed (frames_as form v frames)
+    whole_flushed = Appends-kept before now flushed _ so.wrote kept
+
+    module _ (f : PacketFrame) (h : Finds source.may_fail p known new q (Found f)) where
+      -- there is a number for the frame, and its body fits
+      pub frame_fits : (number < max_frames) × (length f.body ≤ max_body v)
+      frame_fits =
+          let (found, early, fits) = HasBegun-found v frames source known new p q f so.begun h in
+          let n = so.numbered in
+          (omega (arith, early), fits.short)
+
+      -- one more frame was found and written
+      pub one_copied : Appends flushed after (frame_as form v f)
+          → CopiedSoFar form v source before (frames ++ f ∷ []) new q (number + 1) after
+      one_copied w =
+          let (found, early, fits) = HasBegun-found v frames source known new p q f so.begun h in
+          record {
+            begun = inl found;
+            numbered = omega (arith, length-append frames (f ∷ []), so.numbered);
+            wrote =
+                subst (Appends before after) (sym (frames_as-push form v frames f))
+                (Appends-trans before flushed after _ (frame_as form v f) whole_flushed w);
+          }
+
+      -- one more frame was found, and written in part
+      pub one_failed : AppendsBeginning flushed after (frame_as form v f)
+          → CopiesFront form source before after
+      one_failed w =
+          let (found, early, fits) = HasBegun-found v frames source known new p q f so.begun h in
+          record {
+            version = v;
+            frames = frames ++ f ∷ [];
+            read =
+                inl (HasFound-begins source.may_fail v (frames ++ f ∷ []) source.bytes new q found);
+            wrote =
+                subst (AppendsBeginning before after) (sym (frames_as-push form v frames f))
+                (AppendsBeginning-second before flushed after _ (frame_as form v f) whole_flushed
+                w);
+          }
+
+    -- the stream stopped
+    pub all_copied : (stop : Finish) (ended : StreamEnd)
+        → Finds source.may_fail p known new q (Stopped stop)
+        → ended ≡ record { frames = number; finish = stop }
+        → CopiesWhole form source before flushed ended
+    all_copied stop ended h is = record {
+      found = stream_with v (frames, stop);
+      read = HasBegun-stopped v frames source known new p q stop so.begun h;
+      wrote = whole_flushed;
+      count = ap (λ (e : StreamEnd). e.frames) is ∙ so.numbered;
+      finish = ap (λ (e : StreamEnd). e.finish) is;
+    }

@@ -1,0 +1,2 @@
+pub mod TextsLaws
+pub mod CopiesLaws

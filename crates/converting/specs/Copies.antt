@@ -1,0 +1,55 @@
+-- What is written of the frames that a source has.
+use Rattle.std.specs.Prelude.{◌≡◌, ◌⊎◌, ℕ, List, [], ◌++◌, length, Option, Result, Ok, Err}
+use Rattle.std.specs.List.{flat_map}
+use Rattle.std.specs.Io.KnownBytes.{Appends}
+use Rattle.exact_io.specs.Transfers.{AppendsBeginning}
+use Rattle.isa_model.specs.declared.streams.Finish.{Finish}
+use Rattle.isa_model.specs.declared.versions.Version.{Version}
+use Rattle.isa_model.specs.Code.Versions.{stream_magic}
+use Rattle.isa_model.specs.Reporting.Streams.{PacketFrame, Stream, record_bytes, stream_with}
+use Rattle.frames.specs.declared.writer.Unwritten.{Unwritten}
+use Rattle.frames.specs.Sources.{Origin}
+use Rattle.frames.specs.Inputs.{AreReadFrom, IsBegunBy}
+use Rattle.converting.specs.declared.forms.FrameForm.{FrameForm}
+use Rattle.converting.specs.declared.forms.FrameForm.TheVariants.{Records, Text}
+use Rattle.converting.specs.declared.forms.StreamEnd.{StreamEnd}
+use Rattle.converting.specs.Texts.{frame_text}
+
+-- what stands before the frames
+abbrev pub start_as : FrameForm → Version → List ℕ
+start_as Records v = stream_magic v
+start_as Text v = []
+
+-- a frame
+abbrev pub frame_as : FrameForm → Version → PacketFrame → List ℕ
+frame_as Records v f = record_bytes v f
+frame_as Text v f = frame_text f
+
+-- these frames
+abbrev pub frames_as : FrameForm → Version → List PacketFrame → List ℕ
+frames_as form v frames = start_as form v ++ flat_map (frame_as form v) frames
+
+-- The stream was read to its end, or to a fault: it is the stream of the source's bytes, where they
+-- are known. Its frames were written.
+pub record CopiesWhole (form : FrameForm) (source : Origin) (before after : Option (List ℕ))
+    (ended : StreamEnd) : Type 0 where
+  pub found : Stream
+  pub read : AreReadFrom source found
+  pub wrote : Appends before after (frames_as form found.version found.frames)
+  pub count : ended.frames ≡ length found.frames
+  pub finish : ended.finish ≡ found.finish
+
+-- The output failed at what stands before the frames, or at the last of these frames. The source
+-- begins with them, where its bytes are known; or nothing of it is a frame.
+pub record CopiesFront (form : FrameForm) (source : Origin) (before after : Option (List ℕ))
+    : Type 0 where
+  pub version : Version
+  pub frames : List PacketFrame
+  pub read : IsBegunBy source version frames
+      ⊎ ((finish : Finish) × AreReadFrom source (stream_with version (frames, finish)))
+  pub wrote : AppendsBeginning before after (frames_as form version frames)
+
+abbrev pub CopiesFrames : FrameForm → Origin → Option (List ℕ) → Option (List ℕ)
+    → Result StreamEnd Unwritten → Type 0
+CopiesFrames form source before after (Ok ended) = CopiesWhole form source before after ended
+CopiesFrames form source before after (Err failed) = CopiesFront form source before after

@@ -1,0 +1,13 @@
+//! Writes the frames of a stream again: as a stream of their records, or as text.
+//!
+//! `specs/Texts.antt` defines the text of a frame, and `specs/Copies.antt` what is written of the
+//! frames that a source has. No call takes memory.
+#![tactic(auto)]
+
+mod copying;
+mod forms;
+mod rows;
+mod texts;
+
+pub use copying::copy_frames;
+pub use forms::{FrameForm, StreamEnd};
