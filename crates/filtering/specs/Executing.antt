@@ -7,7 +7,7 @@ use Rattle.words.specs.declared.filter_tasks.FilterWordsError.{FilterWordsError}
 use Rattle.words.specs.declared.filter_tasks.FilterWordsError.TheVariants as error
 use Rattle.words.specs.declared.tasks.WordsError.{WordsError}
 use Rattle.words.specs.declared.tasks.WordsError.TheVariants.{Wrong, NotUnicode, Memory}
-use Rattle.words.specs.FilterRequests.{FilterRequest}
+use Rattle.words.specs.FilterRequests.{ConvertRequest, FilterRequest, OperatorRequest, Filter, Convert}
 use Rattle.words.specs.FilterAsked.{AsksForText, filter_asked}
 use Rattle.commands.specs.declared.endings.Ending.{Ending}
 use Rattle.commands.specs.declared.outcomes.TaskOutcome.{TaskOutcome}
@@ -16,6 +16,9 @@ use Rattle.commands.specs.Flushing.{Flushes}
 use Rattle.commands.specs.Known.{told_of}
 use Rattle.commands.specs.Saying.{AppendsPart, Says}
 use Rattle.commands.specs.Statuses.{status_of}
+use Rattle.messages.specs.declared.forms.FileForm.{FileForm}
+use Rattle.filtering.specs.FrameKinds.{kind_of}
+use Rattle.filtering.specs.Conversions.{ConvertsTo}
 use Rattle.filtering.specs.Files.{FiltersFiles}
 
 -- ---- a run
@@ -56,10 +59,36 @@ FiltersWhole contents request old new before after status =
     FiltersByOutput (bytes_eq request.files.out (codes "-")) contents request old new before after
     status
 
--- ---- no run
+-- ---- frames that are written again
 
 abbrev pub usage : List ℕ
-usage = codes "usage: xdpvm_filter IMAGE FRAMES OUT\n"
+usage =
+    codes "usage: xdpvm_filter IMAGE FRAMES OUT\n       xdpvm_filter convert IN OUT\n       xdpvm_filter show IN\n"
+
+-- the message where nothing says what the frames are to become
+abbrev pub unnamed : List ℕ
+unnamed =
+    codes "error: the name of OUT does not say what it is to be: let it end in .pcap, .pcapng, .frames or .txt, or give --to KIND\n"
+
+-- Frames were written again, or not, and standard error got the messages; or nothing says what they
+-- are to become, and standard error got that and how the arguments are written.
+abbrev pub ConvertsWhole : {W : Type 0} → (W → Option (List ℕ)) → ConvertRequest
+    → PromptWriter W → PromptWriter W → Option (List ℕ) → Option (List ℕ) → ℕ → Type 0
+ConvertsWhole contents request old new before after status =
+    ((ended : Ending) × ConvertsTo contents request old new ended
+    × (status ≡ status_of ended.outcome) × AppendsPart before after (told_of ended))
+    ⊎ ((form : FileForm) × (kind_of request form ≡ None) × (new ≡ old) × (status ≡ 1)
+    × AppendsPart before after (unnamed ++ usage))
+
+-- what is asked for is done
+abbrev pub ServesRequest : {W : Type 0} → (W → Option (List ℕ)) → OperatorRequest
+    → PromptWriter W → PromptWriter W → Option (List ℕ) → Option (List ℕ) → ℕ → Type 0
+ServesRequest contents (Filter request) old new before after status =
+    FiltersWhole contents request old new before after status
+ServesRequest contents (Convert request) old new before after status =
+    ConvertsWhole contents request old new before after status
+
+-- ---- nothing is asked for
 
 -- the arguments are wrong: standard error got why and how they are written, or a beginning of that
 abbrev pub TellsWrong : {W : Type 0} → List ℕ → PromptWriter W → PromptWriter W → Option (List ℕ)
@@ -98,11 +127,11 @@ SaysNoTask contents error.Memory old new before after status =
 
 -- what is done for a request, or where the arguments make none: only those that may ask for the
 -- help or the version get a text
-abbrev pub Answers : {W : Type 0} → (W → Option (List ℕ)) → Option FilterRequest
+abbrev pub Answers : {W : Type 0} → (W → Option (List ℕ)) → Option OperatorRequest
     → List (List ℕ) → PromptWriter W → PromptWriter W → Option (List ℕ) → Option (List ℕ) → ℕ
     → Type 0
 Answers contents (Some request) words old new before after status =
-    FiltersWhole contents request old new before after status
+    ServesRequest contents request old new before after status
 Answers contents None words old new before after status =
     ((text : List ℕ) × TellsWrong text old new before after status)
     ⊎ ((text : List ℕ) × AsksForText words × SaysText contents text old new before after status)

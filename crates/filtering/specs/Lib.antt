@@ -7,4 +7,7 @@ pub mod Finishing
 pub mod Losing
 pub mod Capturing
 pub mod Files
+pub mod Copying
+pub mod FrameKinds
+pub mod Conversions
 pub mod Executing

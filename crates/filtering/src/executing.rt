@@ -3,9 +3,10 @@
 ghost use Rattle.std.specs.Prelude.{◌≡◌, ◌≤◌, map, MatchResult};
 ghost use Rattle.std.specs.String.{string_bytes};
 ghost use Rattle.exact_io.specs.Waiting.{held};
-ghost use Rattle.words.specs.FilterRequests.{filter_request_of};
-ghost use Rattle.filtering.specs.Executing.{FiltersWords, FiltersWhole, SaysNoTask, SaysOnOutput, TellsUnread};
+ghost use Rattle.words.specs.FilterRequests.{convert_request_of, filter_request_of, operator_request_of};
+ghost use Rattle.filtering.specs.Executing.{ConvertsWhole, FiltersWords, FiltersWhole, SaysNoTask, SaysOnOutput, ServesRequest, TellsUnread};
 
+use super::conversions::{Conversion, convert_files};
 use super::files::filter_files;
 use super::opening::is_dash;
 use commands::{Ending, TaskOutcome, say_line};
@@ -14,9 +15,18 @@ use messages::write_texts;
 use std::alloc::Global;
 use std::io::Write;
 use std::rt::{Clock, Files};
-use words::{FilterTask, FilterWordsError, NOT_UNICODE, WordsError, read_filter_words};
+use words::{
+    ConvertTask, FilterTask, FilterWordsError, NOT_UNICODE, OperatorTask, WordsError,
+    read_filter_words,
+};
 
-const USAGE: &str = "usage: xdpvm_filter IMAGE FRAMES OUT\n";
+const USAGE: &str =
+    "usage: xdpvm_filter IMAGE FRAMES OUT\n       xdpvm_filter convert IN OUT\n       \
+     xdpvm_filter show IN\n";
+
+// The message for an output of frames that are written again.
+const UNNAMED: &str =
+    "error: the name of OUT does not say what it is to be: let it end in .pcap, .pcapng, .frames or .txt, or give --to KIND\n";
 
 // Does what the task says: a refusal and the counts are said on standard output.
 fn serve_output<R: Files + Clock, W1: Write + Drop, W2: Write>(
@@ -34,7 +44,7 @@ fn serve_output<R: Files + Clock, W1: Write + Drop, W2: Write>(
 
 // Does what the task says: a refusal and the counts are said on standard output, or on standard
 // error, if the frames out go to standard output.
-fn serve<R: Files + Clock, W1: Write + Drop, W2: Write>(
+fn serve_filter<R: Files + Clock, W1: Write + Drop, W2: Write>(
     rt: &R,
     alloc: Global,
     task: FilterTask<'_>,
@@ -51,7 +61,44 @@ fn serve<R: Files + Clock, W1: Write + Drop, W2: Write>(
     }
 }
 
-// Says why the arguments ask for no run, or what they ask for in its place.
+// Writes frames again. Standard error is said what went wrong, or what a capture does not say.
+fn serve_conversion<R: Files + Clock, W1: Write + Drop, W2: Write>(
+    rt: &R,
+    alloc: Global,
+    task: ConvertTask<'_>,
+    out: &mut PromptWriter<W1>,
+    err: &mut W2,
+) -> u8
+    ensures { ConvertsWhole W1.contents (convert_request_of task.entry) out.old out.new
+        (W2.contents err.old) (W2.contents err.new) result }
+{
+    match convert_files(rt, alloc, task, out) {
+        Conversion::Ended(ending) => ending.tell(err),
+        Conversion::Unnamed => {
+            let _ = write_texts(err, UNNAMED, USAGE, "");
+            1
+        }
+    }
+}
+
+// Does what the task says.
+fn serve<R: Files + Clock, W1: Write + Drop, W2: Write>(
+    rt: &R,
+    alloc: Global,
+    task: OperatorTask<'_>,
+    out: &mut PromptWriter<W1>,
+    err: &mut W2,
+) -> u8
+    ensures { ServesRequest W1.contents (operator_request_of task.entry) out.old out.new
+        (W2.contents err.old) (W2.contents err.new) result }
+{
+    match task {
+        OperatorTask::Filter(task) => serve_filter(rt, alloc, task, out, err),
+        OperatorTask::Convert(task) => serve_conversion(rt, alloc, task, out, err),
+    }
+}
+
+// Says why the arguments ask for nothing, or what they ask for in its place.
 fn say_no_task<W1: Write + Drop, W2: Write>(
     error: FilterWordsError,
     out: &mut PromptWriter<W1>,
@@ -93,9 +140,10 @@ fn say_unread<W: Write>(error: WordsError, err: &mut W) -> u8
 /// Does what the arguments ask for, and returns the program's status: 0 done, 1 invalid arguments,
 /// 2 refused, 3 the frame stream has a fault, 4 a file or an output failed, 5 out of memory.
 ///
-/// `filter_asked` says which run the arguments ask for, on which files, and `FiltersFiles` what it
+/// `filter_asked` says what the arguments ask for, on which files. `FiltersFiles` says what a run
 /// does: the report and the frames out are exactly those of the image's program, of the contents of
-/// the maps and of the frames; the counts are that report's. No contract can say what a file holds.
+/// the maps and of the frames; the counts are that report's. `ConvertsFiles` says what becomes of
+/// frames that are written again. No contract can say what a file holds.
 ///
 /// The first word is the program's name. `out` is standard output with its buffer, and `err` is
 /// standard error.

@@ -1,12 +1,16 @@
-//! What xdpvm_filter does: runs a program whose maps may be filled on a frame stream, and counts.
+//! What xdpvm_filter does: runs a program whose maps may be filled on a frame stream, and counts; or
+//! writes frames again in another form.
 #![tactic(auto)]
 
+mod conversions;
+mod copying;
 mod counting;
 mod delivering;
 mod executing;
 mod files;
 mod filling;
 mod finishing;
+mod frame_kinds;
 mod losing;
 mod opening;
 mod ready;

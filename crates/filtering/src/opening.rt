@@ -47,8 +47,8 @@ pub fn is_dash(path: &str) -> bool
     path == "-"
 }
 
-// Where the frames are read.
-fn frames_path(path: &str) -> &str
+/// Where the frames are read.
+pub fn frames_path(path: &str) -> &str
     ensures { result.now ≡ frames_path path.now }
 {
     if is_dash(path) { "/dev/stdin" } else { path }
@@ -100,8 +100,8 @@ fn keep_all_apart<'a, R: Files>(
     }
 }
 
-// Makes the output of the frames out.
-fn open_sent<'a, R: Files>(
+/// Makes the output of frames.
+pub fn open_sent<'a, R: Files>(
     rt: &R,
     alloc: Global,
     path: &'a str,
@@ -137,8 +137,8 @@ fn open_wanted<'a, R: Files>(
     }
 }
 
-// Whether a name has this ending.
-fn has_ending(name: &str, ending: &str) -> bool
+/// Whether a name has this ending.
+pub fn has_ending(name: &str, ending: &str) -> bool
     ensures { result ≡ has_ending name.now ending.now }
 {
     name.as_bytes().ends_with(ending.as_bytes())
@@ -181,9 +181,9 @@ fn kind_of_out(name: &str, form: FileForm) -> Option<CaptureKind>
     }
 }
 
-// The frame stream of a file with this path and this form: that which a capture becomes, or the
-// file itself.
-fn frames_of<'a, S: Source + Drop>(
+/// The frame stream of a file with this path and this form: that which a capture becomes, or the
+/// file itself.
+pub fn frames_of<'a, S: Source + Drop>(
     alloc: Global,
     source: S,
     form: FileForm,

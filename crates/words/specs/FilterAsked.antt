@@ -1,5 +1,5 @@
 -- What the arguments of xdpvm_filter ask for.
-use Rattle.std.specs.Prelude.{◌≡◌, ◌⊎◌, ℕ, Bool, true, false, List, Option, Some, None, Result, Ok, Err, codes, bytes_eq, option_map, option_and_then}
+use Rattle.std.specs.Prelude.{◌≡◌, ◌⊎◌, ℕ, Bool, true, false, List, Option, Some, None, Result, Ok, Err, codes, bytes_eq, option_map, option_and_then, if◌then◌else◌}
 use Rattle.std.specs.Borrow.{Bor}
 use Rattle.std.specs.Option.{option_map_or}
 use Rattle.clap.specs.Walk.{Row, first_of}
@@ -7,12 +7,17 @@ use Rattle.clap.specs.Simple.{matches_of}
 use Rattle.clap.specs.Kinds.{IsAmong}
 use Rattle.clap.specs.Faults.{fault_of}
 use Rattle.clap.specs.declared.error.kind.ErrorKind.TheVariants.{DisplayHelp, DisplayVersion}
-use Rattle.words.specs.declared.filter_tasks.FilterTask.{FilterTask}
+use Rattle.words.specs.declared.filter_commands.FilterCommand.{FilterCommand}
+use Rattle.words.specs.declared.filter_commands.FilterCommand.TheVariants as command
+use Rattle.words.specs.declared.filter_tasks.FramesKind.{FramesKind}
+use Rattle.words.specs.declared.filter_tasks.FramesKind.TheVariants.{Pcap, Pcapng, Stream, Text}
+use Rattle.words.specs.declared.filter_tasks.OperatorTask.{OperatorTask}
 use Rattle.words.specs.declared.filter_tasks.Judging.{Judging}
 use Rattle.words.specs.declared.filter_tasks.FilterWordsError.{FilterWordsError}
 use Rattle.words.specs.declared.filter_tasks.FilterWordsError.TheVariants as error
-use Rattle.words.specs.FilterRequests.{JudgingRequest, FilterRequest, Verified, Shown, Checked, judging_of, filter_request_of}
-use Rattle.words.specs.FilterLine.{filter_program}
+use Rattle.words.specs.FilterRequests.{JudgingRequest, OperatorRequest, Verified, Shown, Checked, Filter, Convert, judging_of, operator_request_of}
+use Rattle.words.specs.FilterCommands.{command_of, words_by}
+use Rattle.words.specs.FilterLine.{app_by}
 use Rattle.words.specs.Asked.{files_in, limit_or_most, unless_wrong}
 
 -- ---- what the arguments ask for
@@ -35,27 +40,73 @@ judging_in rows =
     judging_by (is_given (codes "checked") rows) (first_of (codes "table") rows)
     (first_of (codes "limit") rows)
 
-abbrev pub filter_request_in : List Row → Option FilterRequest
+-- a run
+abbrev pub filter_request_in : List Row → Option OperatorRequest
 filter_request_in rows =
-    option_and_then (λ files. option_map (λ judging. record {
+    option_and_then (λ files. option_map (λ judging. Filter (record {
       files = files;
       judging = judging;
       maps = first_of (codes "maps") rows;
       maps_out = first_of (codes "maps-out") rows;
       report = first_of (codes "report") rows;
-    }) (judging_in rows)) (files_in rows)
+    })) (judging_in rows)) (files_in rows)
+
+-- what frames become by this name
+abbrev pub kind_named : List ℕ → Option FramesKind
+kind_named name =
+    if bytes_eq name (codes "pcap") then Some Pcap
+    else if bytes_eq name (codes "pcapng") then Some Pcapng
+    else if bytes_eq name (codes "frames") then Some Stream
+    else if bytes_eq name (codes "text") then Some Text
+    else None
+
+-- what frames become, if that is said: a name of something, or nothing
+abbrev pub kind_said : Option (List ℕ) → Option (Option FramesKind)
+kind_said None = Some None
+kind_said (Some name) = option_map Some (kind_named name)
+
+abbrev pub kind_in : List Row → Option (Option FramesKind)
+kind_in rows = kind_said (first_of (codes "to") rows)
+
+-- frames that are written again
+abbrev pub convert_request_in : List Row → Option OperatorRequest
+convert_request_in rows =
+    option_and_then
+    (λ frames. option_and_then
+    (λ out. option_map (λ kind. Convert (record { frames = frames; out = out; kind = kind }))
+    (kind_in rows)) (first_of (codes "out") rows)) (first_of (codes "in") rows)
+
+-- frames that are written to standard output as a text
+abbrev pub show_request_in : List Row → Option OperatorRequest
+show_request_in rows =
+    option_map
+    (λ frames. Convert (record { frames = frames; out = codes "-"; kind = Some Text }))
+    (first_of (codes "in") rows)
+
+-- what a command asks for with these arguments
+abbrev pub asked_by : FilterCommand → List Row → Option OperatorRequest
+asked_by command.Filter rows = filter_request_in rows
+asked_by command.Convert rows = convert_request_in rows
+asked_by command.Show rows = show_request_in rows
+
+-- what the command line of a command asks for
+abbrev pub asked_on : FilterCommand → List (List ℕ) → Option OperatorRequest
+asked_on command line =
+    unless_wrong (fault_of (app_by command) line)
+    (asked_by command (matches_of (app_by command) line))
 
 -- what the arguments ask for; the first word is the program's name
-unfoldable pub filter_asked : List (List ℕ) → Option FilterRequest
-filter_asked words =
-    unless_wrong (fault_of filter_program words)
-    (filter_request_in (matches_of filter_program words))
+unfoldable pub filter_asked : List (List ℕ) → Option OperatorRequest
+filter_asked words = asked_on (command_of words) (words_by (command_of words) words)
 
--- the help or the version may be asked for
+-- the help or the version may be asked for on the command line of a command
+abbrev pub AsksForTextOn : FilterCommand → List (List ℕ) → Type 0
+AsksForTextOn command line =
+    IsAmong DisplayHelp (fault_of (app_by command) line)
+    ⊎ IsAmong DisplayVersion (fault_of (app_by command) line)
+
 abbrev pub AsksForText : List (List ℕ) → Type 0
-AsksForText words =
-    IsAmong DisplayHelp (fault_of filter_program words)
-    ⊎ IsAmong DisplayVersion (fault_of filter_program words)
+AsksForText words = AsksForTextOn (command_of words) (words_by (command_of words) words)
 
 -- ---- the result of reading them
 
@@ -64,9 +115,15 @@ abbrev pub TellsJudging : Option JudgingRequest → Result Judging (Bor (List �
 TellsJudging request (Ok judging) = request ≡ Some (judging_of judging)
 TellsJudging request (Err message) = request ≡ None
 
+-- what frames become is what the result says, or it is nothing, and it is the message why
+abbrev pub TellsKind : Option (Option FramesKind) → Result (Option FramesKind) (Bor (List ℕ))
+    → Type 0
+TellsKind said (Ok kind) = said ≡ Some kind
+TellsKind said (Err message) = said ≡ None
+
 -- the result is the task of this request, or says that there is none; or memory ran out
-abbrev pub FilterTellsOf : Option FilterRequest → Result FilterTask FilterWordsError → Type 0
-FilterTellsOf request (Ok task) = request ≡ Some (filter_request_of task)
+abbrev pub FilterTellsOf : Option OperatorRequest → Result OperatorTask FilterWordsError → Type 0
+FilterTellsOf request (Ok task) = request ≡ Some (operator_request_of task)
 FilterTellsOf request (Err (error.Shown text)) = request ≡ None
 FilterTellsOf request (Err (error.Wrong text)) = request ≡ None
 FilterTellsOf request (Err error.Memory) = Unit {0}
@@ -83,13 +140,16 @@ IsUnshown (error.Shown text) = ⊥
 IsUnshown (error.Wrong text) = Unit {0}
 IsUnshown error.Memory = Unit {0}
 
--- only arguments that may ask for the help or the version get it
-abbrev pub ShowsText : List (List ℕ) → Result FilterTask FilterWordsError → Type 0
-ShowsText words (Ok task) = Unit {0}
-ShowsText words (Err (error.Shown text)) = AsksForText words
-ShowsText words (Err (error.Wrong text)) = Unit {0}
-ShowsText words (Err error.Memory) = Unit {0}
+-- only a command line that may ask for the help or the version gets it
+abbrev pub ShowsTextOn : FilterCommand → List (List ℕ) → Result OperatorTask FilterWordsError
+    → Type 0
+ShowsTextOn command line (Ok task) = Unit {0}
+ShowsTextOn command line (Err (error.Shown text)) = AsksForTextOn command line
+ShowsTextOn command line (Err (error.Wrong text)) = Unit {0}
+ShowsTextOn command line (Err error.Memory) = Unit {0}
 
 -- the result of reading arguments: what they ask for, or that it is nothing; or memory ran out
-abbrev pub FilterAsksFor : List (List ℕ) → Result FilterTask FilterWordsError → Type 0
-FilterAsksFor words result = FilterTellsOf (filter_asked words) result × ShowsText words result
+abbrev pub FilterAsksFor : List (List ℕ) → Result OperatorTask FilterWordsError → Type 0
+FilterAsksFor words result =
+    FilterTellsOf (filter_asked words) result
+    × ShowsTextOn (command_of words) (words_by (command_of words) words) result

@@ -4,6 +4,8 @@ use Rattle.clap.specs.Walk.{Rule}
 use Rattle.clap.specs.Simple.{App, new_rule, on_top, with_rule}
 use Rattle.clap.specs.declared.builder.action.ArgAction.TheVariants.{SetTrue}
 use Rattle.words.specs.CommandLine.{command, optional}
+use Rattle.words.specs.declared.filter_commands.FilterCommand.{FilterCommand}
+use Rattle.words.specs.declared.filter_commands.FilterCommand.TheVariants.{Filter, Convert, Show}
 
 -- an option that takes no value
 abbrev pub flag : List ℕ → Rule
@@ -26,3 +28,18 @@ filter_program =
     (with_option (codes "table")
     (with_option (codes "maps-out") (with_option (codes "maps") filter_start)))
     (flag (codes "checked"))))
+
+-- xdpvm_filter convert, which requires frames and an output
+unfoldable pub convert_program : App
+convert_program =
+    with_option (codes "to") (command (codes "convert") (codes "in" ∷ codes "out" ∷ []))
+
+-- xdpvm_filter show, which requires frames
+unfoldable pub show_program : App
+show_program = command (codes "show") (codes "in" ∷ [])
+
+-- the command line of a command
+abbrev pub app_by : FilterCommand → App
+app_by Filter = filter_program
+app_by Convert = convert_program
+app_by Show = show_program

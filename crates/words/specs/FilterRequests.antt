@@ -1,5 +1,9 @@
 -- The parts of a request of xdpvm_filter, and the request that a task makes.
 use Rattle.std.specs.Prelude.{ℕ, List, Option, option_map}
+use Rattle.words.specs.declared.filter_tasks.ConvertTask.{ConvertTask}
+use Rattle.words.specs.declared.filter_tasks.FramesKind.{FramesKind}
+use Rattle.words.specs.declared.filter_tasks.OperatorTask.{OperatorTask}
+use Rattle.words.specs.declared.filter_tasks.OperatorTask.TheVariants as operator
 use Rattle.words.specs.Requests.{RunFiles, files_of}
 use Rattle.words.specs.declared.filter_tasks.FilterTask.{FilterTask}
 use Rattle.words.specs.declared.filter_tasks.Judging.{Judging}
@@ -21,6 +25,18 @@ pub record FilterRequest : Type 0 where
   pub maps_out : Option (List ℕ)
   pub report : Option (List ℕ)
 
+-- frames that are written again, by the paths of their file and of the output; `kind` is what they
+-- become, if the name of the output is not asked
+pub record ConvertRequest : Type 0 where
+  pub frames : List ℕ
+  pub out : List ℕ
+  pub kind : Option FramesKind
+
+-- what is asked for: a run, or frames that are written again
+pub data OperatorRequest : Type 0 where
+  Filter : FilterRequest → OperatorRequest
+  Convert : ConvertRequest → OperatorRequest
+
 -- ---- the request of a task
 
 abbrev pub judging_of : Judging → JudgingRequest
@@ -37,3 +53,11 @@ filter_request_of task =
       maps_out = option_map (λ path. path.now) task.maps_out;
       report = option_map (λ path. path.now) task.report;
     }
+
+abbrev pub convert_request_of : ConvertTask → ConvertRequest
+convert_request_of task =
+    record { frames = task.frames.now; out = task.out.now; kind = task.kind }
+
+abbrev pub operator_request_of : OperatorTask → OperatorRequest
+operator_request_of (operator.Filter task) = Filter (filter_request_of task)
+operator_request_of (operator.Convert task) = Convert (convert_request_of task)

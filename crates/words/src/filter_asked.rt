@@ -3,11 +3,14 @@
 ghost use Rattle.std.specs.Prelude.{◌≡◌, ◌⊎◌, true, false, None, map, option_map, IfErr};
 ghost use Rattle.std.specs.String.{string_bytes};
 ghost use Rattle.clap.specs.Words.{found_of, kind_of, rows_of};
-ghost use Rattle.words.specs.FilterAsked.{FilterAsksFor, FilterTellsOf, IsUnshown, HasText, TellsJudging, filter_request_in, is_given, judging_by, judging_in};
+ghost use Rattle.words.specs.FilterAsked.{FilterAsksFor, FilterTellsOf, IsUnshown, HasText, TellsJudging, TellsKind, asked_by, convert_request_in, filter_request_in, is_given, judging_by, judging_in, kind_in, kind_named, show_request_in};
 
 use super::asked::{NO_LIMIT, limit_of, message_of, paths_in, value_in};
-use super::filter_line::filter_program;
-use super::filter_tasks::{FilterTask, FilterWordsError, Judging};
+use super::filter_commands::{FilterCommand, command_in};
+use super::filter_line::line_of;
+use super::filter_tasks::{
+    ConvertTask, FilterTask, FilterWordsError, FramesKind, Judging, OperatorTask,
+};
 use super::tasks::StepLimit;
 use clap::ArgMatches;
 use clap::error::ErrorKind;
@@ -18,6 +21,8 @@ use std::alloc::Global;
 const TWO_WAYS: &str = "error: --table and --checked exclude each other\n";
 
 const UNUSED_LIMIT: &str = "error: --limit is of use only with --checked\n";
+
+const NO_KIND: &str = "error: the value of --to is not pcap, pcapng, frames or text\n";
 
 // Whether an option is given that takes no value.
 fn is_given(matches: &ArgMatches<'_>, name: &str) -> bool
@@ -94,8 +99,11 @@ fn wrong(alloc: Global, message: &str) -> FilterWordsError
     }
 }
 
-// The task of a command line that clap accepts.
-fn task_in<'a>(alloc: Global, matches: &ArgMatches<'a>) -> Result<FilterTask<'a>, FilterWordsError>
+// The run of a command line that clap accepts.
+fn filter_in<'a>(
+    alloc: Global,
+    matches: &ArgMatches<'a>,
+) -> Result<OperatorTask<'a>, FilterWordsError>
     ensures tells { FilterTellsOf (filter_request_in (rows_of (found_of matches.now))) result }
     ensures unshown { IfErr result IsUnshown }
 {
@@ -103,14 +111,91 @@ fn task_in<'a>(alloc: Global, matches: &ArgMatches<'a>) -> Result<FilterTask<'a>
         return Err(wrong(alloc, ""));
     };
     match judging_in(matches) {
-        Ok(judging) => Ok(FilterTask {
+        Ok(judging) => Ok(OperatorTask::Filter(FilterTask {
             paths,
             judging,
             maps: value_in(matches, "maps"),
             maps_out: value_in(matches, "maps-out"),
             report: value_in(matches, "report"),
-        }),
+        })),
         Err(message) => Err(wrong(alloc, message)),
+    }
+}
+
+// What frames become by this name.
+fn kind_named(name: &str) -> Option<FramesKind>
+    ensures { result ≡ kind_named name.now }
+{
+    match name {
+        "pcap" => Some(FramesKind::Pcap),
+        "pcapng" => Some(FramesKind::Pcapng),
+        "frames" => Some(FramesKind::Stream),
+        "text" => Some(FramesKind::Text),
+        _ => None,
+    }
+}
+
+// What frames become, if that is said, or the message why it is nothing.
+fn kind_in(matches: &ArgMatches<'_>) -> Result<Option<FramesKind>, &'static str>
+    ensures { TellsKind (kind_in (rows_of (found_of matches.now))) result }
+{
+    match value_in(matches, "to") {
+        None => Ok(None),
+        Some(name) => match kind_named(name) {
+            Some(kind) => Ok(Some(kind)),
+            None => Err(NO_KIND),
+        },
+    }
+}
+
+// The frames of a command line that clap accepts, and what they become.
+fn convert_in<'a>(
+    alloc: Global,
+    matches: &ArgMatches<'a>,
+) -> Result<OperatorTask<'a>, FilterWordsError>
+    ensures tells { FilterTellsOf (convert_request_in (rows_of (found_of matches.now))) result }
+    ensures unshown { IfErr result IsUnshown }
+{
+    let (Some(frames), Some(out)) = (value_in(matches, "in"), value_in(matches, "out")) else {
+        return Err(wrong(alloc, ""));
+    };
+    match kind_in(matches) {
+        Ok(kind) => Ok(OperatorTask::Convert(ConvertTask { frames, out, kind })),
+        Err(message) => Err(wrong(alloc, message)),
+    }
+}
+
+// The frames of a command line that clap accepts, which are printed.
+fn show_in<'a>(
+    alloc: Global,
+    matches: &ArgMatches<'a>,
+) -> Result<OperatorTask<'a>, FilterWordsError>
+    ensures tells { FilterTellsOf (show_request_in (rows_of (found_of matches.now))) result }
+    ensures unshown { IfErr result IsUnshown }
+{
+    let Some(frames) = value_in(matches, "in") else {
+        return Err(wrong(alloc, ""));
+    };
+    Ok(OperatorTask::Convert(ConvertTask {
+        frames,
+        out: "-",
+        kind: Some(FramesKind::Text),
+    }))
+}
+
+// The task of a command line that clap accepts.
+fn task_in<'a>(
+    alloc: Global,
+    command: FilterCommand,
+    matches: &ArgMatches<'a>,
+) -> Result<OperatorTask<'a>, FilterWordsError>
+    ensures tells { FilterTellsOf (asked_by command (rows_of (found_of matches.now))) result }
+    ensures unshown { IfErr result IsUnshown }
+{
+    match command {
+        FilterCommand::Filter => filter_in(alloc, matches),
+        FilterCommand::Convert => convert_in(alloc, matches),
+        FilterCommand::Show => show_in(alloc, matches),
     }
 }
 
@@ -133,12 +218,13 @@ fn filter_error_of(alloc: Global, error: &clap::Error) -> FilterWordsError
 pub fn read_filter_words<'a>(
     alloc: Global,
     words: &'a [String],
-) -> Result<FilterTask<'a>, FilterWordsError>
+) -> Result<OperatorTask<'a>, FilterWordsError>
     ensures { FilterAsksFor (map string_bytes words.now) result }
 {
-    let matches = match filter_program(alloc)?.try_get_matches_from(words) {
+    let (command, line) = command_in(words);
+    let matches = match line_of(alloc, command)?.try_get_matches_from(line) {
         Ok(matches) => matches,
         Err(error) => return Err(filter_error_of(alloc, &error)),
     };
-    task_in(alloc, &matches)
+    task_in(alloc, command, &matches)
 }

@@ -2,9 +2,10 @@
 
 ghost use Rattle.std.specs.Prelude.{◌≡◌, IfOk};
 ghost use Rattle.clap.specs.Words.{app_of, with_rule};
-ghost use Rattle.words.specs.FilterLine.{flag, filter_start, filter_program};
+ghost use Rattle.words.specs.FilterLine.{app_by, convert_program, flag, filter_start, filter_program, show_program};
 
 use super::command_line::{Argument, Choice, IMAGE, INSTEAD, LIMIT, VERSION, command, with_choice};
+use super::filter_commands::FilterCommand;
 use clap::{Arg, ArgAction, Command};
 use std::alloc::{AllocError, Global};
 
@@ -12,6 +13,15 @@ use std::alloc::{AllocError, Global};
 const NAME: &str = "xdpvm_filter";
 
 const ABOUT: &str = "Verifies a BPF program of type XDP, runs it on a stream of frames, and counts";
+
+const AFTER: &str =
+    "xdpvm_filter convert IN OUT writes frames as a capture, a frame stream or a text, and \
+     xdpvm_filter show IN prints them; with --help each says more.";
+
+const CONVERT_ABOUT: &str = "Writes frames again: as a capture, a frame stream or a text";
+
+const SHOW_ABOUT: &str =
+    "Prints frames as a text, with their bytes in hexadecimal and as characters";
 
 const FRAMES: Argument = Argument {
     name: "frames",
@@ -22,6 +32,23 @@ const OUT: Argument = Argument {
     name: "out",
     help: "Gets the frames that are sent on; - is standard output, and then all lines go to \
          standard error",
+};
+
+const CONVERTED: Argument = Argument {
+    name: "in",
+    help: "A frame stream or a capture (pcap, pcapng); - is standard input",
+};
+
+const WRITTEN: Argument = Argument {
+    name: "out",
+    help: "Gets the frames, as its name ends: .pcap, .pcapng, .frames or .txt; with another name \
+         the frames of a capture become a frame stream. - is standard output",
+};
+
+const TO: Choice = Choice {
+    name: "to",
+    value: "KIND",
+    help: "What OUT becomes, whatever its name is: pcap, pcapng, frames or text",
 };
 
 const MAPS: Choice = Choice {
@@ -69,11 +96,11 @@ fn filter_start<'a>(alloc: Global) -> Result<Command<'a>, AllocError>
     ensures { IfOk result (λ made. app_of made ≡ filter_start) }
 {
     let plain = command(alloc, NAME, ABOUT, &[IMAGE, FRAMES, OUT])?;
-    plain.version(VERSION).bin_name(NAME)
+    plain.version(VERSION).after_help(AFTER).bin_name(NAME)
 }
 
-/// The program with its arguments.
-pub fn filter_program<'a>(alloc: Global) -> Result<Command<'a>, AllocError>
+// The program with its arguments.
+fn filter_program<'a>(alloc: Global) -> Result<Command<'a>, AllocError>
     ensures { IfOk result (λ made. app_of made ≡ filter_program) }
 {
     let start = filter_start(alloc)?;
@@ -83,4 +110,31 @@ pub fn filter_program<'a>(alloc: Global) -> Result<Command<'a>, AllocError>
     let with_checked = with_flag(alloc, with_table, CHECKED, CHECKED_HELP)?;
     let with_limit = with_choice(alloc, with_checked, LIMIT)?;
     with_choice(alloc, with_limit, REPORT)
+}
+
+// The command that writes frames again.
+fn convert_program<'a>(alloc: Global) -> Result<Command<'a>, AllocError>
+    ensures { IfOk result (λ made. app_of made ≡ convert_program) }
+{
+    let plain = command(alloc, "convert", CONVERT_ABOUT, &[CONVERTED, WRITTEN])?;
+    let named = plain.bin_name("xdpvm_filter convert")?;
+    with_choice(alloc, named, TO)
+}
+
+// The command that prints frames.
+fn show_program<'a>(alloc: Global) -> Result<Command<'a>, AllocError>
+    ensures { IfOk result (λ made. app_of made ≡ show_program) }
+{
+    command(alloc, "show", SHOW_ABOUT, &[CONVERTED])?.bin_name("xdpvm_filter show")
+}
+
+/// The command line of a command.
+pub fn line_of<'a>(alloc: Global, command: FilterCommand) -> Result<Command<'a>, AllocError>
+    ensures { IfOk result (λ made. app_of made ≡ app_by command) }
+{
+    match command {
+        FilterCommand::Filter => filter_program(alloc),
+        FilterCommand::Convert => convert_program(alloc),
+        FilterCommand::Show => show_program(alloc),
+    }
 }

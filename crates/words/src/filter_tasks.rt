@@ -28,7 +28,37 @@ pub struct FilterTask<'a> {
     pub report: Option<&'a str>,
 }
 
-/// Says why the arguments ask for no run.
+/// Says what frames become that are written again.
+#[derive(Clone, Copy)]
+pub enum FramesKind {
+    Pcap,
+    Pcapng,
+    /// A frame stream, of the version that it has.
+    Stream,
+    Text,
+}
+
+/// Frames that are written again, and nothing else is done with them.
+#[derive(Clone, Copy)]
+pub struct ConvertTask<'a> {
+    /// A frame stream or a capture. `-` is standard input.
+    pub frames: &'a str,
+    /// Gets the frames. `-` is standard output.
+    pub out: &'a str,
+    /// What they become, if the name of the output is not asked.
+    pub kind: Option<FramesKind>,
+}
+
+/// Says what xdpvm_filter is asked to do.
+#[derive(Clone, Copy)]
+pub enum OperatorTask<'a> {
+    /// Run a program on a frame stream.
+    Filter(FilterTask<'a>),
+    /// Write frames again.
+    Convert(ConvertTask<'a>),
+}
+
+/// Says why the arguments ask for nothing.
 #[derive(Drop)]
 pub enum FilterWordsError {
     /// They ask for the help or the version, which this is, in whole lines.

@@ -4,6 +4,7 @@
 mod asked;
 mod command_line;
 mod filter_asked;
+mod filter_commands;
 mod filter_line;
 mod filter_tasks;
 mod given;
@@ -12,7 +13,9 @@ mod tasks;
 
 pub use asked::read_words;
 pub use filter_asked::read_filter_words;
-pub use filter_tasks::{FilterTask, FilterWordsError, Judging};
+pub use filter_tasks::{
+    ConvertTask, FilterTask, FilterWordsError, FramesKind, Judging, OperatorTask,
+};
 pub use given::given_words;
 pub use shown::shown_lines;
 pub use tasks::{AssemblyPaths, NOT_UNICODE, RunPaths, StepLimit, TablePaths, Task, WordsError};

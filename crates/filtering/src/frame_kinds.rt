@@ -1,0 +1,69 @@
+//! What frames become that are written again.
+
+ghost use Rattle.std.specs.Prelude.{◌≡◌};
+ghost use Rattle.words.specs.FilterRequests.{convert_request_of};
+ghost use Rattle.filtering.specs.FrameKinds.{kind_by_end, kind_of, kind_unnamed, plain_form, printed_form};
+
+use super::opening::{has_ending, is_dash};
+use converting::FrameForm;
+use messages::FileForm;
+use words::{ConvertTask, FramesKind};
+
+// What frames become by the end of their output's name.
+fn kind_by_end(name: &str) -> Option<FramesKind>
+    ensures { result ≡ kind_by_end name.now }
+{
+    if has_ending(name, ".pcapng") {
+        Some(FramesKind::Pcapng)
+    } else if has_ending(name, ".pcap") || has_ending(name, ".cap") {
+        Some(FramesKind::Pcap)
+    } else if has_ending(name, ".frames") {
+        Some(FramesKind::Stream)
+    } else if has_ending(name, ".txt") {
+        Some(FramesKind::Text)
+    } else {
+        None
+    }
+}
+
+// What frames become that are read from a file of this form, if no name says it.
+fn kind_unnamed(form: FileForm) -> Option<FramesKind>
+    ensures { result ≡ kind_unnamed form }
+{
+    match form {
+        FileForm::Frames => None,
+        _ => Some(FramesKind::Stream),
+    }
+}
+
+/// What the frames of a task become: what is asked for, or else what the name of the output says,
+/// or else the form of their file.
+pub fn kind_of(task: &ConvertTask<'_>, form: FileForm) -> Option<FramesKind>
+    ensures { result ≡ kind_of (convert_request_of task.now) form }
+{
+    match task.kind {
+        Some(kind) => Some(kind),
+        None => match kind_by_end(task.out) {
+            Some(kind) => Some(kind),
+            None => kind_unnamed(form),
+        },
+    }
+}
+
+// How frames are written that become no capture.
+fn plain_form(kind: FramesKind) -> Option<FrameForm>
+    ensures { result ≡ plain_form kind }
+{
+    match kind {
+        FramesKind::Pcap | FramesKind::Pcapng => None,
+        FramesKind::Stream => Some(FrameForm::Records),
+        FramesKind::Text => Some(FrameForm::Text),
+    }
+}
+
+/// How frames are written to standard output, if they go there and become no capture.
+pub fn printed_form(out: &str, kind: FramesKind) -> Option<FrameForm>
+    ensures { result ≡ printed_form out.now kind }
+{
+    if is_dash(out) { plain_form(kind) } else { None }
+}
