@@ -5,3 +5,6 @@ complete -c xdpvm_filter -n __fish_use_subcommand -l table -r -d 'A proof table,
 complete -c xdpvm_filter -n __fish_use_subcommand -l checked -d 'Tests every access while the program runs, in place of verifying it'
 complete -c xdpvm_filter -n __fish_use_subcommand -l limit -r -d 'The most steps on one frame, from 1 to 1000000 [default: 1000000]'
 complete -c xdpvm_filter -n __fish_use_subcommand -l report -r -d 'Gets the report, with a line for each frame, as `xdpvm run` writes it'
+complete -c xdpvm_filter -n __fish_use_subcommand -f -a convert -d 'Writes frames again: as a capture, a frame stream or a text'
+complete -c xdpvm_filter -n '__fish_seen_subcommand_from convert' -l to -r -d 'What OUT becomes, whatever its name is: pcap, pcapng, frames or text'
+complete -c xdpvm_filter -n __fish_use_subcommand -f -a show -d 'Prints frames as a text, with their bytes in hexadecimal and as characters'

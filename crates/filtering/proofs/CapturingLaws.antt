@@ -1,16 +1,25 @@
 -- Laws of the file that has a capture of the frames out.
-use Rattle.std.proofs.Common.{◌≡◌, ◌∙◌, ℕ, List, [], ◌∷◌, Option, Some, None, Result, Ok, Err, refl, sym, ap, subst}
-use Rattle.std.specs.Prelude.{OnOk, option_map, unwrap_or}
+use Rattle.std.proofs.Common.{◌≡◌, ◌∙◌, ℕ, List, [], ◌∷◌, Option, Some, None, Result, Ok, Err, refl, sym, ap, subst, inl, inr}
+use Rattle.std.specs.Prelude.{IfOk, OnOk, option_map, unwrap_or}
 use Rattle.std.specs.Io.KnownBytes.{Keeps, append_known}
 use Rattle.std.specs.declared.io.ErrorKind.{ErrorKind}
+use Rattle.std.proofs.KnownBytes.{Appends-kept}
+use Rattle.std.proofs.Math.Logic.{∥∥₁_map}
 use Rattle.std.proofs.lemmas.List.{append-nil}
+use Rattle.frames.specs.declared.writer.Unwritten.{Unwritten}
+use Rattle.frames.specs.Sources.{Origin}
 use Rattle.isa_model.specs.declared.versions.Version.{Version}
 use Rattle.capture_writer.specs.declared.kinds.CaptureForm.{CaptureForm}
 use Rattle.capture_writer.specs.declared.kinds.LostCounts.{LostCounts}
 use Rattle.capture_writer.specs.Writing.{HasWritten, IsWrittenSoFar}
 use Rattle.capture_writer.specs.Reached.{reached_by}
+use Rattle.converting.specs.declared.forms.FrameForm.TheVariants.{Records}
+use Rattle.converting.specs.declared.forms.StreamEnd.{StreamEnd}
+use Rattle.converting.specs.Copies.{CopiesFrames, CopiesWhole}
+use Rattle.commands.specs.declared.outcomes.TaskOutcome.{TaskOutcome}
 use Rattle.commands.specs.Streams.{IsBeginningOf}
 use Rattle.filtering.specs.Capturing.{HasCaptured}
+use Rattle.filtering.specs.Copying.{CapturesAll, Copies}
 
 -- no byte is in the buffer
 append_known-nil : (a : Option (List ℕ)) → append_known a [] ≡ a
@@ -56,3 +65,48 @@ begins-reached None [] handed handed' k =
     ([], subst (Keeps handed) (sym (append_known-nil handed')) k)
 begins-reached None (b ∷ waits) handed handed' k = begins-none handed handed' k
 begins-reached (Some kind) waits handed handed' k = begins-none handed handed' k
+
+-- a writer of a capture after the frames of a source were copied to it
+module _ (known : Option CaptureForm) (form : CaptureForm) (source : Origin)
+    (failure : Option ErrorKind) (version : Option Version) (part : List ℕ) (d : ℕ) (l : LostCounts)
+    (old handed origin before got : Option (List ℕ)) (waits : List ℕ)
+    (f : unwrap_or known form ≡ form)
+    (so : ∥ IsWrittenSoFar form failure version part d l origin handed before (append_known got waits) ∥₁)
+  where
+    -- it is that of all of them, where nothing failed and the buffer is empty
+    all-of : (copied : Option (List ℕ)) (end : StreamEnd) → failure ≡ None → waits ≡ []
+        → CopiesWhole Records source old copied end → Keeps copied (reached_by failure waits handed)
+        → CapturesAll known source old origin before got l end
+    all-of copied end n e w kept =
+        let same : reached_by failure waits handed ≡ handed =
+        ap (λ (x : Option ErrorKind). reached_by x waits handed) n
+        ∙ ap (λ (x : List ℕ). reached_by None x handed) e in
+        record {
+          handed = handed;
+          copies = record {
+            found = w.found;
+            read = w.read;
+            wrote = Appends-kept old copied handed _ w.wrote (subst (Keeps copied) same kept);
+            count = w.count;
+            finish = w.finish;
+          };
+          captures = ∥∥₁_map so (λ x. captured-whole known form failure version part d l origin
+              handed before got waits f n e x);
+        }
+
+    -- which is so where copying them succeeded
+    pub captures-all : (name : List ℕ) (r : Result StreamEnd TaskOutcome)
+        → OnOk r ((failure ≡ None) × (waits ≡ []))
+        → Copies Records source name failure old (reached_by failure waits handed) r
+        → IfOk r (CapturesAll known source old origin before got l)
+    captures-all name (Err o) whole c = tt
+    captures-all name (Ok end) whole c =
+        elim c.ends [
+          | inl (e, is, same, kept) ↦
+              let here : e ≡ end = cc in
+              all-of c.handed end whole.0 whole.1
+              (subst (CopiesWhole Records source old c.handed) here
+              (subst (λ (x : Result StreamEnd Unwritten). CopiesFrames Records source old c.handed x)
+              is c.copies)) kept
+          | inr (o, is, fails, begins) ↦ let same : Ok end ≡ Err o = is in absurd (cc same)
+        ]

@@ -1,5 +1,5 @@
 -- What a run on files did, by how far it came.
-use Rattle.std.proofs.Common.{◌≡◌, ◌∙◌, ◌⊎◌, ℕ, List, Option, None, Result, Ok, Err, refl, subst, sym, inl, inr}
+use Rattle.std.proofs.Common.{◌≡◌, ◌∙◌, ℕ, List, Option, None, Result, Ok, Err, refl, subst, sym, inl, inr}
 use Rattle.isa_model.specs.{Program}
 use Rattle.isa_model.specs.Machine.States.{KeyValues}
 use Rattle.image.specs.Images.{IsImage}
@@ -16,7 +16,7 @@ use Rattle.commands.specs.Files.{LoadsNone}
 use Rattle.commands.specs.Known.{Plainly}
 use Rattle.words.specs.declared.tasks.StepLimit.{StepLimit}
 use Rattle.words.specs.FilterRequests.{FilterRequest, Verified, Shown, Checked}
-use Rattle.commands.specs.Commands.{IsShown, ShowsNone}
+use Rattle.commands.specs.Commands.{IsShown}
 use Rattle.commands.specs.Judging.{IsBoundOf, RefusesProgram}
 use Rattle.commands.specs.Known.{IsKnownOfProgram}
 use Rattle.filtering.specs.declared.ready.Ready.{Ready}

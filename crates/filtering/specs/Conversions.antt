@@ -1,6 +1,5 @@
 -- What is done with frames that are written again. No contract can say what the files hold.
 use Rattle.std.specs.Prelude.{◌≡◌, ◌⊎◌, ℕ, List, Option, Some, None, Result, Ok, Err, codes, option_map}
-use Rattle.std.specs.declared.io.ErrorKind.{ErrorKind}
 use Rattle.isa_model.specs.declared.streams.Finish.{Finish}
 use Rattle.isa_model.specs.declared.streams.Finish.TheVariants as finish
 use Rattle.exact_io.specs.declared.buffering.PromptWriter.{PromptWriter}
@@ -20,7 +19,7 @@ use Rattle.commands.specs.Statuses.{IsMakeFailure, IsReadFailure}
 use Rattle.filtering.specs.declared.conversions.Conversion.{Conversion}
 use Rattle.filtering.specs.declared.conversions.Conversion.TheVariants.{Ended, Unnamed}
 use Rattle.filtering.specs.declared.losing.Loss.{Loss}
-use Rattle.filtering.specs.Copying.{Copies}
+use Rattle.filtering.specs.Copying.{Copies, CopiesSome}
 use Rattle.filtering.specs.FrameKinds.{capture_kind, form_of, kind_of, printed_form}
 use Rattle.filtering.specs.Losing.{TellsLoss}
 use Rattle.filtering.specs.Opening.{frames_path, is_capture, output_name}
@@ -35,14 +34,6 @@ outcome_by (finish.Fault fault at) form = Faulted fault form
 abbrev pub outcome_of : Result StreamEnd TaskOutcome → FileForm → TaskOutcome
 outcome_of (Ok end) form = outcome_by end.finish form
 outcome_of (Err o) form = o
-
--- the frames of a source are copied to some output of this name
-pub record CopiesSome (form : FrameForm) (source : Origin) (name : List ℕ)
-    (result : Result StreamEnd TaskOutcome) : Type 0 where
-  pub cause : Option ErrorKind
-  pub before : Option (List ℕ)
-  pub after : Option (List ℕ)
-  pub copies : Copies form source name cause before after result
 
 -- The frames of a stream are copied to an output of this name, as this kind. The message has at its
 -- end what a capture does not say of them.

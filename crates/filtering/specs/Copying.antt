@@ -6,12 +6,15 @@ use Rattle.frames.specs.declared.writer.Unwritten.{Unwritten}
 use Rattle.frames.specs.Sources.{Origin}
 use Rattle.capture_writer.specs.declared.kinds.CaptureForm.{CaptureForm}
 use Rattle.capture_writer.specs.declared.kinds.CaptureKind.{CaptureKind}
+use Rattle.capture_writer.specs.declared.kinds.LostCounts.{LostCounts}
 use Rattle.converting.specs.declared.forms.FrameForm.{FrameForm}
 use Rattle.converting.specs.declared.forms.StreamEnd.{StreamEnd}
-use Rattle.converting.specs.Copies.{CopiesFrames}
+use Rattle.converting.specs.declared.forms.FrameForm.TheVariants.{Records}
+use Rattle.converting.specs.Copies.{CopiesFrames, CopiesWhole}
 use Rattle.commands.specs.declared.outcomes.TaskOutcome.{TaskOutcome}
 use Rattle.commands.specs.Statuses.{IsWriteFailureBy}
 use Rattle.commands.specs.Streams.{IsBeginningOf}
+use Rattle.filtering.specs.Capturing.{HasCaptured}
 
 -- a capture of all frames, also of those with a reason
 abbrev pub all_frames : CaptureKind → CaptureForm
@@ -35,3 +38,20 @@ pub record Copies (form : FrameForm) (source : Origin) (name : List ℕ) (cause 
   pub handed : Option (List ℕ)
   pub copies : CopiesFrames form source old handed ended
   pub ends : DeliversCopy name cause ended handed got result
+
+-- the frames of a source are copied to some output of this name
+pub record CopiesSome (form : FrameForm) (source : Origin) (name : List ℕ)
+    (result : Result StreamEnd TaskOutcome) : Type 0 where
+  pub cause : Option ErrorKind
+  pub before : Option (List ℕ)
+  pub after : Option (List ℕ)
+  pub copies : Copies form source name cause before after result
+
+-- All frames of a source were captured: what was handed on, from `old` to `handed`, is exactly the
+-- stream of the frames that the source's bytes spell, if those are known, up to the end or the fault
+-- of `end`; and the file, which had `before`, got the capture of that stream (`HasCaptured`).
+pub record CapturesAll (known : Option CaptureForm) (source : Origin)
+    (old origin before got : Option (List ℕ)) (lost : LostCounts) (end : StreamEnd) : Type 0 where
+  pub handed : Option (List ℕ)
+  pub copies : CopiesWhole Records source old handed end
+  pub captures : ∥ HasCaptured known lost origin handed before got ∥₁

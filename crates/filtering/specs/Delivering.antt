@@ -1,5 +1,5 @@
 -- What the files get that a run writes, and how a task ends that ran a program.
-use Rattle.std.specs.Prelude.{◌≡◌, ◌≢◌, ◌⊎◌, ℕ, List, Option, Some, None, Result, Ok, Err}
+use Rattle.std.specs.Prelude.{◌≡◌, ◌≢◌, ◌⊎◌, ℕ, List, Option, None, Result, Ok, Err}
 use Rattle.std.specs.Io.KnownBytes.{Appends, Keeps}
 use Rattle.std.specs.declared.io.ErrorKind.{ErrorKind}
 use Rattle.isa_model.specs.declared.map_defs.MapDef.{MapDef}

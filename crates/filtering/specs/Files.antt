@@ -1,8 +1,7 @@
 -- What a run on files does. No contract can say what the files hold. `old` and `new` are what was
 -- said, on standard output, or on standard error if the frames out go to standard output.
-use Rattle.std.specs.Prelude.{◌≡◌, ◌⊎◌, ℕ, List, Option, Some, None, Result, Ok, Err, codes, unwrap_or}
+use Rattle.std.specs.Prelude.{◌≡◌, ◌⊎◌, ℕ, List, Option, Result, Ok, Err, codes, unwrap_or}
 use Rattle.std.specs.declared.io.ErrorKind.{ErrorKind}
-use Rattle.isa_model.specs.{Program}
 use Rattle.isa_model.specs.Machine.States.{KeyValues}
 use Rattle.frames.specs.Sources.{Origin}
 use Rattle.host.specs.declared.traced.Counted.{Counted}

@@ -1,5 +1,5 @@
 -- What a program that is ready writes when it runs on a frame stream.
-use Rattle.std.specs.Prelude.{ℕ, List, Result}
+use Rattle.std.specs.Prelude.{List, Result}
 use Rattle.isa_model.specs.{Program}
 use Rattle.isa_model.specs.Machine.States.{KeyValues}
 use Rattle.isa_model.specs.Reporting.Reports.{checked_report_from}

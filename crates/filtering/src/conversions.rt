@@ -5,9 +5,10 @@ ghost use Rattle.converting.specs.declared.forms.FrameForm.TheVariants.{Records}
 ghost use Rattle.words.specs.FilterRequests.{convert_request_of};
 ghost use Rattle.commands.specs.Statuses.{IsMakeFailure};
 ghost use Rattle.filtering.specs.FrameKinds.{capture_kind, form_of};
-ghost use Rattle.filtering.specs.Conversions.{ConvertsBegun, ConvertsFiles, ConvertsFrom, CopiesSome, PrintsFrom, outcome_of};
+ghost use Rattle.filtering.specs.Copying.{CopiesSome};
+ghost use Rattle.filtering.specs.Conversions.{ConvertsBegun, ConvertsFiles, ConvertsFrom, PrintsFrom, outcome_of};
 
-use super::copying::{capture_to, captured, copied};
+use super::copying::{copied, copied_to_capture};
 use super::frame_kinds::{kind_of, printed_form};
 use super::losing::{Loss, ending_with};
 use super::opening::{frames_of, frames_path, open_sent, output_name};
@@ -56,8 +57,7 @@ fn outcome_of<'a>(ended: Result<StreamEnd, TaskOutcome<'a>>, form: FileForm) -> 
     }
 }
 
-// Copies the frames of a stream to an output, as a capture, of which it returns what it does not
-// say.
+// Copies the frames of a stream to an output, as a capture, and returns what it does not say.
 fn convert_to_capture<'a, S: Source + Drop, W: Write + Drop>(
     source: S,
     kind: CaptureKind,
@@ -68,12 +68,7 @@ fn convert_to_capture<'a, S: Source + Drop, W: Write + Drop>(
         record { bytes = S.remaining source; may_fail = S.may_fail } name.now result.0 }
     ensures kind { option_map (λ l. l.kind) result.1 ≡ Some kind }
 {
-    let mut sent = capture_to(output, kind, Unfollowed);
-    let ended = captured(source, name, &mut sent);
-    let loss = Loss {
-        kind,
-        counts: sent.lost(),
-    };
+    let (ended, loss) = copied_to_capture(source, kind, name, output, Unfollowed);
     (ended, Some(loss))
 }
 

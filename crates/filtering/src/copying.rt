@@ -1,13 +1,12 @@
 //! Frames that are copied to a file: as their records, as a text, or as a capture.
 
-ghost use Rattle.std.specs.Prelude.{◌≡◌, OnOk, unwrap_or};
+ghost use Rattle.std.specs.Prelude.{◌≡◌, ℕ, List, Option, IfOk, OnOk, unwrap_or};
 ghost use Rattle.std.specs.Io.KnownBytes.{Keeps};
-ghost use Rattle.exact_io.specs.Waiting.{behind, held, waiting};
-ghost use Rattle.capture_writer.specs.Reached.{reached_by};
+ghost use Rattle.exact_io.specs.Waiting.{behind, held};
 ghost use Rattle.converting.specs.declared.forms.FrameForm.TheVariants.{Records};
-ghost use Rattle.filtering.specs.Capturing.{HasCaptured};
-ghost use Rattle.filtering.specs.Copying.{Copies, DeliversCopy, all_frames};
+ghost use Rattle.filtering.specs.Copying.{CapturesAll, Copies, CopiesSome, DeliversCopy, all_frames};
 
+use super::losing::Loss;
 use super::sending::SentOutput;
 use capture_writer::{CaptureForm, CaptureKind, CaptureWriter, Followed};
 use commands::TaskOutcome;
@@ -55,36 +54,50 @@ pub fn copied<'a, S: Source + Drop, O: SentOutput>(
     delivered(name, ended, sent)
 }
 
-/// Returns a writer of a capture of all frames, also those with a reason.
-pub fn capture_to<W: Write + Drop, T: Followed>(
-    output: PromptWriter<W>,
+// Copies the frames of a stream as `copied` does. They become a capture.
+fn captured<'a, S: Source + Drop, W: Write + Drop, T: Followed>(
+    source: S,
+    name: &'a str,
+    sent: &mut CaptureWriter<W, T>,
+) -> Result<StreamEnd, TaskOutcome<'a>>
+    ensures copies { CopiesSome Records record { bytes = S.remaining source; may_fail = S.may_fail }
+        name.now result }
+    ensures captures { IfOk result (CapturesAll T.form
+        record { bytes = S.remaining source; may_fail = S.may_fail } (T.handed sent.old.trail)
+        T.origin T.before (W.contents (behind sent.new.output)) sent.new.written.lost) }
+{
+    copied(FrameForm::Records, source, name, sent)
+}
+
+/// Copies the frames of a stream to an output of this name as a capture of this kind, with all
+/// frames, also those with a reason. Returns how the stream ended, or how the task ends, and what
+/// the capture does not say.
+pub fn copied_to_capture<'a, S: Source + Drop, W: Write + Drop, T: Followed>(
+    source: S,
     kind: CaptureKind,
+    name: &'a str,
+    output: PromptWriter<W>,
     trail: T,
-) -> CaptureWriter<W, T>
+) -> (Result<StreamEnd, TaskOutcome<'a>>, Loss)
     requires form { unwrap_or T.form (all_frames kind) ≡ all_frames kind }
     requires before { Keeps T.before (held W.contents output) }
     requires origin { Keeps T.origin (T.handed trail) }
-    ensures output { result.output ≡ output }
-    ensures trail { result.trail ≡ trail }
+    ensures copies { CopiesSome Records record { bytes = S.remaining source; may_fail = S.may_fail }
+        name.now result.0 }
+    ensures kind { result.1.kind ≡ kind }
+    ensures captures { IfOk result.0 (λ end. (got : Option (List ℕ)) × CapturesAll T.form
+        record { bytes = S.remaining source; may_fail = S.may_fail } (T.handed trail)
+        T.origin T.before got result.1.counts end) }
 {
     let form = CaptureForm {
         kind,
         has_reasons: true,
     };
-    CaptureWriter::new(output, form, trail)
-}
-
-/// Copies the frames of a stream as `copied` does. They become a capture.
-pub fn captured<'a, S: Source + Drop, W: Write + Drop, T: Followed>(
-    source: S,
-    name: &'a str,
-    sent: &mut CaptureWriter<W, T>,
-) -> Result<StreamEnd, TaskOutcome<'a>>
-    ensures copies { Copies Records record { bytes = S.remaining source; may_fail = S.may_fail }
-        name.now sent.new.failure (T.handed sent.old.trail)
-        (reached_by sent.new.failure (waiting sent.new.output) (T.handed sent.new.trail)) result }
-    ensures captures { OnOk result (∥ HasCaptured T.form sent.new.written.lost T.origin
-        (T.handed sent.new.trail) T.before (W.contents (behind sent.new.output)) ∥₁) }
-{
-    copied(FrameForm::Records, source, name, sent)
+    let mut sent = CaptureWriter::new(output, form, trail);
+    let ended = captured(source, name, &mut sent);
+    let loss = Loss {
+        kind,
+        counts: sent.lost(),
+    };
+    (ended, loss)
 }

@@ -14,9 +14,10 @@ const NAME: &str = "xdpvm_filter";
 
 const ABOUT: &str = "Verifies a BPF program of type XDP, runs it on a stream of frames, and counts";
 
+// What stands below the options: the commands, as clap would list them.
 const AFTER: &str =
-    "xdpvm_filter convert IN OUT writes frames as a capture, a frame stream or a text, and \
-     xdpvm_filter show IN prints them; with --help each says more.";
+    "Commands:\n  convert  Writes frames again: as a capture, a frame stream or a text\n  \
+     show     Prints frames as a text, with their bytes in hexadecimal and as characters";
 
 const CONVERT_ABOUT: &str = "Writes frames again: as a capture, a frame stream or a text";
 

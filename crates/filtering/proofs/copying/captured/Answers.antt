@@ -1,14 +1,13 @@
 use Rattle.std.proofs.Common.{take}
-use Rattle.std.proofs.Math.Logic.{∥∥₁_map}
 use Rattle.exact_io.specs.Waiting.{behind, waiting}
-use Rattle.filtering.proofs.CapturingLaws.{captured-whole, on_ok-map}
+use Rattle.filtering.proofs.CapturingLaws.{captures-all}
 use Rattle.filtering.proofs.copying.captured.Goals as goal
 
 pub returns-clause-captures : goal.returns-clause-captures
 returns-clause-captures g c =
     let s = c.copied.new.sent in
-    on_ok-map _ _ c.copied.result (λ done.
-    ∥∥₁_map s.so_far (λ w. captured-whole g.T.Followed.form s.written.form s.failure s.written.version
-    (take s.count s.part) s.written.described s.written.lost g.T.Followed.origin
-    (g.T.Followed.handed s.trail) g.T.Followed.before (g.W.Write.contents (behind s.output))
-    (waiting s.output) s.formed done.0 done.1 w)) c.copied.ensures.whole
+    captures-all g.T.Followed.form s.written.form _ s.failure s.written.version
+    (take s.count s.part) s.written.described s.written.lost _ (g.T.Followed.handed s.trail)
+    g.T.Followed.origin g.T.Followed.before (g.W.Write.contents (behind s.output))
+    (waiting s.output) s.formed s.so_far _ c.copied.result c.copied.ensures.whole
+    c.copied.ensures.copies

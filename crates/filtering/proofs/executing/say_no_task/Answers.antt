@@ -1,4 +1,4 @@
-use Rattle.std.proofs.Common.{◌≡◌, ℕ, List, Option, None, String, ap₂, refl, subst}
+use Rattle.std.proofs.Common.{ℕ, List, Option, String, ap₂, refl, subst}
 use Rattle.std.specs.declared.alloc.Global.{Global}
 use Rattle.exact_io.specs.Waiting.{held}
 use Rattle.commands.specs.declared.endings.Ending.{Ending}

@@ -1,7 +1,7 @@
-use Rattle.std.proofs.Common.{◌≡◌, ◌∙◌, ap, codes}
+use Rattle.std.proofs.Common.{◌∙◌, ap, codes}
 use Rattle.std.proofs.lemmas.Result.{IfOk-weaker}
-use Rattle.clap.specs.Words.{App, app_of, with_rule}
-use Rattle.words.specs.FilterLine.{filter_program, filter_start, flag, with_option}
+use Rattle.clap.specs.Words.{App, with_rule}
+use Rattle.words.specs.FilterLine.{filter_program, flag, with_option}
 use Rattle.words.proofs.filter_line.filter_program.Goals as goal
 
 pub returns : goal.returns
