@@ -1,6 +1,8 @@
 -- One more turn of the loop over a stream's frames, and how the loop ends.
 use Rattle.std.proofs.Common.{◌≡◌, ◌∙◌, ℕ, ◌+◌, ◌<◌, ◌≤◌, List, [], ◌∷◌, ◌++◌, Option, Result, length, refl, sym, ap, subst, append_assoc, append-nil, length-append, arith, inl, inr}
-use Rattle.std.specs.List.{flat_map}
+use Rattle.std.specs.Prelude.{Bool, cond}
+use Rattle.std.specs.List.{count_by, flat_map}
+use Rattle.std.proofs.lemmas.List.Sums.{count_by-le-length, sum_by-append}
 use Rattle.std.specs.Io.KnownBytes.{Appends, Keeps}
 use Rattle.std.proofs.KnownBytes.{Appends-kept, Appends-trans}
 use Rattle.std.proofs.lemmas.Grind.{flat_map-append}
@@ -18,16 +20,18 @@ use Rattle.frames.specs.Readers.{Position, Fresh}
 use Rattle.frames.specs.Reading.{OpensStream, begun_at, Found, Stopped, Finds}
 use Rattle.frames.specs.Inputs.{IsBegunVersion}
 use Rattle.frames.proofs.InputsLaws.{HasBegun, HasBegun-opens, HasBegun-found, HasBegun-stopped, HasFound-begins}
+use Rattle.converting.specs.declared.forms.CopyCounts.{CopyCounts}
 use Rattle.converting.specs.declared.forms.FrameForm.{FrameForm}
 use Rattle.converting.specs.declared.forms.StreamEnd.{StreamEnd}
+use Rattle.converting.specs.Counts.{counts_after, counts_of, is_left_out, is_unreasoned, no_counts}
 use Rattle.converting.specs.Copies.{CopiesFront, CopiesWhole, frame_as, frames_as, start_as}
 
 -- these frames were found, and were written
 pub record CopiedSoFar (form : FrameForm) (v : Version) (source : Origin)
     (before : Option (List ℕ)) (frames : List PacketFrame) (known : Option (List ℕ))
-    (position : Position) (number : ℕ) (now : Option (List ℕ)) : Type 0 where
+    (position : Position) (counts : CopyCounts) (now : Option (List ℕ)) : Type 0 where
   pub begun : HasBegun v frames source known position
-  pub numbered : number ≡ length frames
+  pub counted : counts ≡ counts_of form frames
   pub wrote : Appends before now (frames_as form v frames)
 
 -- a reader that was made and then read the magic has begun
@@ -53,14 +57,28 @@ frames_as-push form v frames f =
 frames_as-none : (form : FrameForm) (v : Version) → frames_as form v [] ≡ start_as form v
 frames_as-none form v = append-nil (start_as form v)
 
+-- one more frame that is counted, or not
+count_by-push : (p : PacketFrame → Bool) (frames : List PacketFrame) (f : PacketFrame)
+    → count_by p (frames ++ f ∷ []) ≡ count_by p frames + cond (p f) 1 0
+count_by-push p frames f =
+    omega (arith, sum_by-append (λ x. cond (p x) 1 0) frames (f ∷ []))
+
+-- the counts of one more frame
+counts_of-push : (form : FrameForm) (frames : List PacketFrame) (f : PacketFrame)
+    → counts_after form (counts_of form frames) f.body f.reason ≡ counts_of form (frames ++ f ∷ [])
+counts_of-push form frames f =
+    let long = count_by-push (λ x. is_left_out form x.body x.reason) frames f in
+    let bare = count_by-push (λ x. is_unreasoned form x.body x.reason) frames f in
+    let all = length-append frames (f ∷ []) in cc
+
 module _ (form : FrameForm) (v : Version) (source : Origin) (before : Option (List ℕ)) where
   -- before the first turn of the loop
-  pub none_copied : (known now : Option (List ℕ)) (p : Position) → HasBegun v [] source known p
-      → Appends before now (start_as form v)
-      → CopiedSoFar form v source before [] known p 0 now
-  none_copied known now p begun w = record {
+  pub none_copied : (known now : Option (List ℕ)) (p : Position) (counts : CopyCounts)
+      → HasBegun v [] source known p → Appends before now (start_as form v) → counts ≡ no_counts
+      → CopiedSoFar form v source before [] known p counts now
+  none_copied known now p counts begun w is = record {
     begun = begun;
-    numbered = refl;
+    counted = is;
     wrote = subst (Appends before now) (sym (frames_as-none form v)) w;
   }
 
@@ -82,29 +100,41 @@ module _ (form : FrameForm) (v : Version) (source : Origin) (before : Option (Li
         (subst (λ (x : Version). AppendsBeginning before now (start_as form x)) u.first b);
   }
 
-  module _ (frames : List PacketFrame) (known new : Option (List ℕ)) (p q : Position) (number : ℕ)
+  module _ (frames : List PacketFrame) (known new : Option (List ℕ)) (p q : Position) (counts : CopyCounts)
       (now flushed after : Option (List ℕ))
-      (so : CopiedSoFar form v source before frames known p number now)
+      (so : CopiedSoFar form v source before frames known p counts now)
       (kept : Keeps now flushed) where
     whole_flushed : Appends before flushed (frames_as form v frames)
     whole_flushed = Appends-kept before now flushed _ so.wrote kept
 
     module _ (f : PacketFrame) (h : Finds source.may_fail p known new q (Found f)) where
-      -- there is a number for the frame, and its body fits
-      pub frame_fits : (number < max_frames) × (length f.body ≤ max_body v)
+      -- there is a number for the frame, no count is over it, and its body fits
+      pub frame_fits : (counts.frames < max_frames) × (counts.left_out ≤ counts.frames)
+          × (counts.unreasoned ≤ counts.frames) × (length f.body ≤ max_body v)
       frame_fits =
           let (found, early, fits) = HasBegun-found v frames source known new p q f so.begun h in
-          let n = so.numbered in
-          (omega (arith, early), fits.short)
+          let all = ap (λ (c : CopyCounts). c.frames) so.counted in
+          let long = ap (λ (c : CopyCounts). c.left_out) so.counted in
+          let bare = ap (λ (c : CopyCounts). c.unreasoned) so.counted in
+          let few = count_by-le-length (λ x. is_left_out form x.body x.reason) frames in
+          let fewer = count_by-le-length (λ x. is_unreasoned form x.body x.reason) frames in (
+            omega (arith, early, all),
+            omega (arith, all, long, few),
+            omega (arith, all, bare, fewer),
+            fits.short,
+          )
 
       -- one more frame was found and written
-      pub one_copied : Appends flushed after (frame_as form v f)
-          → CopiedSoFar form v source before (frames ++ f ∷ []) new q (number + 1) after
-      one_copied w =
+      pub one_copied : (next : CopyCounts) → Appends flushed after (frame_as form v f)
+          → next ≡ counts_after form counts f.body f.reason
+          → CopiedSoFar form v source before (frames ++ f ∷ []) new q next after
+      one_copied next w is =
           let (found, early, fits) = HasBegun-found v frames source known new p q f so.begun h in
           record {
             begun = inl found;
-            numbered = omega (arith, length-append frames (f ∷ []), so.numbered);
+            counted =
+                is ∙ ap (λ (c : CopyCounts). counts_after form c f.body f.reason) so.counted
+                ∙ counts_of-push form frames f;
             wrote =
                 subst (Appends before after) (sym (frames_as-push form v frames f))
                 (Appends-trans before flushed after _ (frame_as form v f) whole_flushed w);
@@ -129,12 +159,12 @@ module _ (form : FrameForm) (v : Version) (source : Origin) (before : Option (Li
     -- the stream stopped
     pub all_copied : (stop : Finish) (ended : StreamEnd)
         → Finds source.may_fail p known new q (Stopped stop)
-        → ended ≡ record { frames = number; finish = stop }
+        → ended ≡ record { counts = counts; finish = stop }
         → CopiesWhole form source before flushed ended
     all_copied stop ended h is = record {
       found = stream_with v (frames, stop);
       read = HasBegun-stopped v frames source known new p q stop so.begun h;
       wrote = whole_flushed;
-      count = ap (λ (e : StreamEnd). e.frames) is ∙ so.numbered;
+      counts = ap (λ (e : StreamEnd). e.counts) is ∙ so.counted;
       finish = ap (λ (e : StreamEnd). e.finish) is;
     }

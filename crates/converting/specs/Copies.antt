@@ -1,28 +1,34 @@
 -- What is written of the frames that a source has.
-use Rattle.std.specs.Prelude.{◌≡◌, ◌⊎◌, ℕ, List, [], ◌++◌, length, Option, Result, Ok, Err}
+use Rattle.std.specs.Prelude.{◌≡◌, ◌⊎◌, ℕ, List, [], ◌++◌, if◌then◌else◌, Option, Result, Ok, Err}
 use Rattle.std.specs.List.{flat_map}
 use Rattle.std.specs.Io.KnownBytes.{Appends}
 use Rattle.exact_io.specs.Transfers.{AppendsBeginning}
 use Rattle.isa_model.specs.declared.streams.Finish.{Finish}
 use Rattle.isa_model.specs.declared.versions.Version.{Version}
+use Rattle.isa_model.specs.declared.versions.Version.TheVariants.{One, Two}
 use Rattle.isa_model.specs.Code.Versions.{stream_magic}
 use Rattle.isa_model.specs.Reporting.Streams.{PacketFrame, Stream, record_bytes, stream_with}
 use Rattle.frames.specs.declared.writer.Unwritten.{Unwritten}
 use Rattle.frames.specs.Sources.{Origin}
 use Rattle.frames.specs.Inputs.{AreReadFrom, IsBegunBy}
 use Rattle.converting.specs.declared.forms.FrameForm.{FrameForm}
-use Rattle.converting.specs.declared.forms.FrameForm.TheVariants.{Records, Text}
+use Rattle.converting.specs.declared.forms.FrameForm.TheVariants.{Records, Plain, Reasoned, Text}
 use Rattle.converting.specs.declared.forms.StreamEnd.{StreamEnd}
+use Rattle.converting.specs.Counts.{counts_of, is_left_out}
 use Rattle.converting.specs.Texts.{frame_text}
 
 -- what stands before the frames
 abbrev pub start_as : FrameForm → Version → List ℕ
 start_as Records v = stream_magic v
+start_as Plain v = stream_magic One
+start_as Reasoned v = stream_magic Two
 start_as Text v = []
 
--- a frame
+-- a frame, or nothing of one that is left out
 abbrev pub frame_as : FrameForm → Version → PacketFrame → List ℕ
 frame_as Records v f = record_bytes v f
+frame_as Plain v f = if is_left_out Plain f.body f.reason then [] else record_bytes One f
+frame_as Reasoned v f = record_bytes Two f
 frame_as Text v f = frame_text f
 
 -- these frames
@@ -36,7 +42,7 @@ pub record CopiesWhole (form : FrameForm) (source : Origin) (before after : Opti
   pub found : Stream
   pub read : AreReadFrom source found
   pub wrote : Appends before after (frames_as form found.version found.frames)
-  pub count : ended.frames ≡ length found.frames
+  pub counts : ended.counts ≡ counts_of form found.frames
   pub finish : ended.finish ≡ found.finish
 
 -- The output failed at what stands before the frames, or at the last of these frames. The source

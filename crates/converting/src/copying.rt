@@ -3,11 +3,13 @@
 ghost use Rattle.std.specs.Prelude.{◌≡◌, ◌≤◌, length, OnOk, OnErr};
 ghost use Rattle.std.specs.Io.KnownBytes.{Appends, Keeps};
 ghost use Rattle.isa_model.specs.Code.Limits.{max_body};
+ghost use Rattle.isa_model.specs.declared.versions.Version.TheVariants.{One};
+ghost use Rattle.converting.specs.declared.forms.FrameForm.TheVariants.{Plain};
 ghost use Rattle.exact_io.specs.Transfers.{AppendsBeginning};
 ghost use Rattle.frames.specs.Inputs.{IsBegunVersion};
 ghost use Rattle.converting.specs.Copies.{CopiesFrames, frame_as, start_as};
 
-use super::forms::{FrameForm, StreamEnd};
+use super::forms::{CopyCounts, FrameForm, StreamEnd};
 use super::texts::write_text;
 use frames::{FrameReader, Next, Source, Unwritten, write_record, write_whole};
 use isa_model::{Fault, Finish, FrameHead, MAX_PACKET, Version};
@@ -33,8 +35,30 @@ fn write_start<W: Write>(out: &mut W, form: FrameForm, version: Version) -> Resu
     match (form, version) {
         (FrameForm::Records, Version::One) => write_whole(out, b"XPF1"),
         (FrameForm::Records, Version::Two) => write_whole(out, b"XPF2"),
+        (FrameForm::Plain, _) => write_whole(out, b"XPF1"),
+        (FrameForm::Reasoned, _) => write_whole(out, b"XPF2"),
         (FrameForm::Text, _) => Ok(()),
     }
+}
+
+// Writes a frame as version 1 has it, or nothing of one that it does not take.
+fn write_plain<W: Write>(
+    out: &mut W,
+    head: &FrameHead,
+    body: &[u8],
+    reason: u32,
+) -> Result<(), Unwritten>
+    ensures ok { OnOk result (Appends (W.contents out.old) (W.contents out.new)
+        (frame_as Plain One
+        (record { head = head.now; body = body.now; reason = reason }))) }
+    ensures err { OnErr result (AppendsBeginning (W.contents out.old) (W.contents out.new)
+        (frame_as Plain One
+        (record { head = head.now; body = body.now; reason = reason }))) }
+{
+    if FrameForm::Plain.is_left_out(body, reason) {
+        return Ok(());
+    }
+    write_record(out, Version::One, head, body, reason)
 }
 
 // Writes a frame.
@@ -56,6 +80,8 @@ fn write_as<W: Write>(
 {
     match form {
         FrameForm::Records => write_record(out, version, head, body, reason),
+        FrameForm::Plain => write_plain(out, head, body, reason),
+        FrameForm::Reasoned => write_record(out, Version::Two, head, body, reason),
         FrameForm::Text => write_text(out, head, body, reason),
     }
 }
@@ -73,7 +99,8 @@ fn hand_on<R: Source, W: Write>(reader: &FrameReader<R>, out: &mut W)
 }
 
 /// Writes the frames of the stream that a source returns, each of them before the next one is
-/// waited for, and returns how many there were and how the stream ended.
+/// waited for, and returns how many there were, of how many not all was written, and how the stream
+/// ended.
 pub fn copy_frames<R: Source + Drop, W: Write>(
     form: FrameForm,
     source: R,
@@ -89,25 +116,26 @@ pub fn copy_frames<R: Source + Drop, W: Write>(
         Ok(()) => {}
         Err(failed) => return Err(failed),
     }
-    let mut number = 0u32;
+    let mut counts = CopyCounts::none();
     'frames: loop {
         hand_on(&reader, out);
         match reader.next(&mut buffer) {
             Next::Frame(head, length, reason) => {
-                match write_as(out, form, version, &head, &buffer[..length], reason) {
-                    Ok(()) => number += 1,
+                let body = &buffer[..length];
+                match write_as(out, form, version, &head, body, reason) {
+                    Ok(()) => counts = counts.after(form, body, reason),
                     Err(failed) => return Err(failed),
                 }
             }
             Next::End => {
                 return Ok(StreamEnd {
-                    frames: number,
+                    counts,
                     finish: Finish::End,
                 });
             }
             Next::Fault(fault, offset) => {
                 return Ok(StreamEnd {
-                    frames: number,
+                    counts,
                     finish: Finish::Fault(fault, offset),
                 });
             }

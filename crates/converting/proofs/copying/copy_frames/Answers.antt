@@ -11,9 +11,10 @@ returns-in-Err g c =
 pub frames-init : goal.frames-init
 frames-init g c = (
   _,
-  none_copied _ _ _ _ _ _ _
+  none_copied _ _ _ _ _ _ _ _
       (begun-magic _ _ _ _ _ _ _ (search rules) (search rules) c.begin.ensures.opens
-      c.begin.ensures.begun c.version_begun-version.ensures) c.in-Ok.ensures.ok,
+      c.begin.ensures.begun c.version_begun-version.ensures) c.in-Ok.ensures.ok
+      c.none-counts.ensures,
 )
 
 pub frames-preserved : goal.frames-preserved
@@ -21,7 +22,7 @@ frames-preserved g c =
     let (frames, s) = c.frames.invariant in (
       _,
       one_copied _ _ _ _ frames _ _ _ _ _ _ _ _ s c.hand_on.ensures _ c.in-Frame.ensures.finds
-          c.in-Ok-write_as.ensures.ok,
+          _ c.in-Ok-write_as.ensures.ok c.after-counts.ensures,
     )
 
 pub returns-in-Err-write_as : goal.returns-in-Err-write_as
