@@ -87,7 +87,7 @@ module _ (known : Option CaptureForm) (form : CaptureForm) (source : Origin)
             found = w.found;
             read = w.read;
             wrote = Appends-kept old copied handed _ w.wrote (subst (Keeps copied) same kept);
-            count = w.count;
+            counts = w.counts;
             finish = w.finish;
           };
           captures = ∥∥₁_map so (λ x. captured-whole known form failure version part d l origin

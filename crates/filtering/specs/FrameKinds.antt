@@ -1,5 +1,5 @@
 -- What frames become that are written again.
-use Rattle.std.specs.Prelude.{ℕ, List, Option, Some, None, bytes_eq, codes, if◌then◌else◌, unwrap_or}
+use Rattle.std.specs.Prelude.{ℕ, Bool, true, List, Option, Some, None, bytes_eq, codes, if◌then◌else◌, option_map, unwrap_or}
 use Rattle.capture_writer.specs.declared.kinds.CaptureKind.{CaptureKind}
 use Rattle.capture_writer.specs.declared.kinds.CaptureKind.TheVariants as capture
 use Rattle.converting.specs.declared.forms.FrameForm.{FrameForm}
@@ -7,7 +7,7 @@ use Rattle.converting.specs.declared.forms.FrameForm.TheVariants as form
 use Rattle.messages.specs.declared.forms.FileForm.{FileForm}
 use Rattle.messages.specs.declared.forms.FileForm.TheVariants.{Frames}
 use Rattle.words.specs.declared.filter_tasks.FramesKind.{FramesKind}
-use Rattle.words.specs.declared.filter_tasks.FramesKind.TheVariants.{Pcap, Pcapng, Stream, Text}
+use Rattle.words.specs.declared.filter_tasks.FramesKind.TheVariants.{Pcap, Pcapng, Stream, Reasoned, Text}
 use Rattle.words.specs.FilterRequests.{ConvertRequest}
 use Rattle.filtering.specs.Opening.{has_ending}
 
@@ -32,15 +32,24 @@ kind_first (Some kind) other = Some kind
 kind_first None other = other
 
 -- what is asked for, or else what the name says, or else the form
-abbrev pub kind_of : ConvertRequest → FileForm → Option FramesKind
-kind_of request form =
+abbrev pub first_kind : ConvertRequest → FileForm → Option FramesKind
+first_kind request form =
     kind_first request.kind (kind_first (kind_by_end request.out) (kind_unnamed form))
+
+-- a frame stream has reasons, if they are asked for
+abbrev pub reasoned : Bool → FramesKind → FramesKind
+reasoned true Stream = Reasoned
+reasoned has_reasons kind = kind
+
+abbrev pub kind_of : ConvertRequest → FileForm → Option FramesKind
+kind_of request form = option_map (reasoned request.has_reasons) (first_kind request form)
 
 -- how they are written, if they become no capture
 abbrev pub plain_form : FramesKind → Option FrameForm
 plain_form Pcap = None
 plain_form Pcapng = None
-plain_form Stream = Some form.Records
+plain_form Stream = Some form.Plain
+plain_form Reasoned = Some form.Reasoned
 plain_form Text = Some form.Text
 
 -- how they are handed to the output: a capture is made of their records

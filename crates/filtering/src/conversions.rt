@@ -6,11 +6,11 @@ ghost use Rattle.words.specs.FilterRequests.{convert_request_of};
 ghost use Rattle.commands.specs.Statuses.{IsMakeFailure};
 ghost use Rattle.filtering.specs.FrameKinds.{capture_kind, form_of};
 ghost use Rattle.filtering.specs.Copying.{CopiesSome};
-ghost use Rattle.filtering.specs.Conversions.{ConvertsBegun, ConvertsFiles, ConvertsFrom, PrintsFrom, outcome_of};
+ghost use Rattle.filtering.specs.Conversions.{ConvertsBegun, ConvertsFiles, ConvertsFrom, PrintsFrom, TellsUnsaid, outcome_of};
 
 use super::copying::{copied, copied_to_capture};
 use super::frame_kinds::{kind_of, printed_form};
-use super::losing::{Loss, ending_with};
+use super::losing::{Loss, ending_counted, ending_with};
 use super::opening::{frames_of, frames_path, open_sent, output_name};
 use capture_writer::{CaptureKind, Unfollowed};
 use commands::{Ending, STANDARD_OUTPUT, TaskOutcome, begin_frames, keep_apart, open_frames};
@@ -57,6 +57,25 @@ fn outcome_of<'a>(ended: Result<StreamEnd, TaskOutcome<'a>>, form: FileForm) -> 
     }
 }
 
+// The same, with the lines of what is not said of the frames.
+fn ending_of<'a>(
+    alloc: Global,
+    ended: Result<StreamEnd, TaskOutcome<'a>>,
+    form: FileForm,
+    loss: Option<Loss>,
+) -> Ending<'a>
+    ensures outcome { result.outcome ≡ outcome_of ended.entry form }
+    ensures why { TellsUnsaid loss ended.entry result.why }
+{
+    if loss.is_some() {
+        return ending_with(alloc, outcome_of(ended, form), loss);
+    }
+    match ended {
+        Ok(end) => ending_counted(alloc, outcome_of(Ok(end), form), end.counts),
+        Err(outcome) => Ending::plain(outcome),
+    }
+}
+
 // Copies the frames of a stream to an output, as a capture, and returns what it does not say.
 fn convert_to_capture<'a, S: Source + Drop, W: Write + Drop>(
     source: S,
@@ -87,7 +106,8 @@ fn convert_to<'a, S: Source + Drop, W: Write + Drop>(
     match kind {
         FramesKind::Pcap => convert_to_capture(source, CaptureKind::Pcap, name, output),
         FramesKind::Pcapng => convert_to_capture(source, CaptureKind::Pcapng, name, output),
-        FramesKind::Stream => (copied(FrameForm::Records, source, name, &mut output), None),
+        FramesKind::Stream => (copied(FrameForm::Plain, source, name, &mut output), None),
+        FramesKind::Reasoned => (copied(FrameForm::Reasoned, source, name, &mut output), None),
         FramesKind::Text => (copied(FrameForm::Text, source, name, &mut output), None),
     }
 }
@@ -108,7 +128,7 @@ fn convert_from<'a, S: Source + Drop, W: Write + Drop>(
     match frames_of(alloc, from.source, form, from.path) {
         Ok(frames) => {
             let (ended, loss) = convert_to(frames, kind, name, output);
-            ending_with(alloc, outcome_of(ended, form), loss)
+            ending_of(alloc, ended, form, loss)
         }
         Err(outcome) => Ending::plain(outcome),
     }
@@ -128,7 +148,7 @@ fn print_from<'a, S: Source + Drop, W: Write + Drop>(
     match frames_of(alloc, from.source, form, from.path) {
         Ok(frames) => {
             let ended = copied(frame_form, frames, STANDARD_OUTPUT, out);
-            Ending::plain(outcome_of(ended, form))
+            ending_of(alloc, ended, form, None)
         }
         Err(outcome) => Ending::plain(outcome),
     }

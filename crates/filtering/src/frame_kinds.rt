@@ -2,7 +2,7 @@
 
 ghost use Rattle.std.specs.Prelude.{◌≡◌};
 ghost use Rattle.words.specs.FilterRequests.{convert_request_of};
-ghost use Rattle.filtering.specs.FrameKinds.{kind_by_end, kind_of, kind_unnamed, plain_form, printed_form};
+ghost use Rattle.filtering.specs.FrameKinds.{kind_by_end, first_kind, kind_of, kind_unnamed, plain_form, printed_form, reasoned};
 
 use super::opening::{has_ending, is_dash};
 use converting::FrameForm;
@@ -36,10 +36,9 @@ fn kind_unnamed(form: FileForm) -> Option<FramesKind>
     }
 }
 
-/// What the frames of a task become: what is asked for, or else what the name of the output says,
-/// or else the form of their file.
-pub fn kind_of(task: &ConvertTask<'_>, form: FileForm) -> Option<FramesKind>
-    ensures { result ≡ kind_of (convert_request_of task.now) form }
+// What is asked for, or else what the name of the output says, or else the form of the frames' file.
+fn first_kind(task: &ConvertTask<'_>, form: FileForm) -> Option<FramesKind>
+    ensures { result ≡ first_kind (convert_request_of task.now) form }
 {
     match task.kind {
         Some(kind) => Some(kind),
@@ -50,13 +49,41 @@ pub fn kind_of(task: &ConvertTask<'_>, form: FileForm) -> Option<FramesKind>
     }
 }
 
+// A frame stream has reasons, if they are asked for.
+fn reasoned(has_reasons: bool, kind: FramesKind) -> FramesKind
+    ensures { result ≡ reasoned has_reasons kind }
+{
+    match kind {
+        FramesKind::Stream => {
+            if has_reasons {
+                FramesKind::Reasoned
+            } else {
+                FramesKind::Stream
+            }
+        }
+        other => other,
+    }
+}
+
+/// What the frames of a task become: what is asked for, or else what the name of the output says,
+/// or else the form of their file.
+pub fn kind_of(task: &ConvertTask<'_>, form: FileForm) -> Option<FramesKind>
+    ensures { result ≡ kind_of (convert_request_of task.now) form }
+{
+    match first_kind(task, form) {
+        Some(kind) => Some(reasoned(task.has_reasons, kind)),
+        None => None,
+    }
+}
+
 // How frames are written that become no capture.
 fn plain_form(kind: FramesKind) -> Option<FrameForm>
     ensures { result ≡ plain_form kind }
 {
     match kind {
         FramesKind::Pcap | FramesKind::Pcapng => None,
-        FramesKind::Stream => Some(FrameForm::Records),
+        FramesKind::Stream => Some(FrameForm::Plain),
+        FramesKind::Reasoned => Some(FrameForm::Reasoned),
         FramesKind::Text => Some(FrameForm::Text),
     }
 }

@@ -73,14 +73,23 @@ abbrev pub convert_request_in : List Row → Option OperatorRequest
 convert_request_in rows =
     option_and_then
     (λ frames. option_and_then
-    (λ out. option_map (λ kind. Convert (record { frames = frames; out = out; kind = kind }))
-    (kind_in rows)) (first_of (codes "out") rows)) (first_of (codes "in") rows)
+    (λ out. option_map (λ kind. Convert (record {
+      frames = frames;
+      out = out;
+      kind = kind;
+      has_reasons = is_given (codes "reasons") rows;
+    })) (kind_in rows)) (first_of (codes "out") rows)) (first_of (codes "in") rows)
 
 -- frames that are written to standard output as a text
 abbrev pub show_request_in : List Row → Option OperatorRequest
 show_request_in rows =
     option_map
-    (λ frames. Convert (record { frames = frames; out = codes "-"; kind = Some Text }))
+    (λ frames. Convert (record {
+      frames = frames;
+      out = codes "-";
+      kind = Some Text;
+      has_reasons = false;
+    }))
     (first_of (codes "in") rows)
 
 -- what a command asks for with these arguments

@@ -32,7 +32,9 @@ filter_program =
 -- xdpvm_filter convert, which requires frames and an output
 unfoldable pub convert_program : App
 convert_program =
-    with_option (codes "to") (command (codes "convert") (codes "in" ∷ codes "out" ∷ []))
+    with_rule
+    (with_option (codes "to") (command (codes "convert") (codes "in" ∷ codes "out" ∷ [])))
+    (flag (codes "reasons"))
 
 -- xdpvm_filter show, which requires frames
 unfoldable pub show_program : App

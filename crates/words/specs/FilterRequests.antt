@@ -1,5 +1,5 @@
 -- The parts of a request of xdpvm_filter, and the request that a task makes.
-use Rattle.std.specs.Prelude.{ℕ, List, Option, option_map}
+use Rattle.std.specs.Prelude.{ℕ, Bool, List, Option, option_map}
 use Rattle.words.specs.declared.filter_tasks.ConvertTask.{ConvertTask}
 use Rattle.words.specs.declared.filter_tasks.FramesKind.{FramesKind}
 use Rattle.words.specs.declared.filter_tasks.OperatorTask.{OperatorTask}
@@ -26,11 +26,12 @@ pub record FilterRequest : Type 0 where
   pub report : Option (List ℕ)
 
 -- frames that are written again, by the paths of their file and of the output; `kind` is what they
--- become, if the name of the output is not asked
+-- become, if the name of the output is not asked; a frame stream that they become may have reasons
 pub record ConvertRequest : Type 0 where
   pub frames : List ℕ
   pub out : List ℕ
   pub kind : Option FramesKind
+  pub has_reasons : Bool
 
 -- what is asked for: a run, or frames that are written again
 pub data OperatorRequest : Type 0 where
@@ -56,7 +57,12 @@ filter_request_of task =
 
 abbrev pub convert_request_of : ConvertTask → ConvertRequest
 convert_request_of task =
-    record { frames = task.frames.now; out = task.out.now; kind = task.kind }
+    record {
+      frames = task.frames.now;
+      out = task.out.now;
+      kind = task.kind;
+      has_reasons = task.has_reasons;
+    }
 
 abbrev pub operator_request_of : OperatorTask → OperatorRequest
 operator_request_of (operator.Filter task) = Filter (filter_request_of task)

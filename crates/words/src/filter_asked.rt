@@ -160,7 +160,12 @@ fn convert_in<'a>(
         return Err(wrong(alloc, ""));
     };
     match kind_in(matches) {
-        Ok(kind) => Ok(OperatorTask::Convert(ConvertTask { frames, out, kind })),
+        Ok(kind) => Ok(OperatorTask::Convert(ConvertTask {
+            frames,
+            out,
+            kind,
+            has_reasons: is_given(matches, "reasons"),
+        })),
         Err(message) => Err(wrong(alloc, message)),
     }
 }
@@ -180,6 +185,7 @@ fn show_in<'a>(
         frames,
         out: "-",
         kind: Some(FramesKind::Text),
+        has_reasons: false,
     }))
 }
 

@@ -75,6 +75,10 @@ const CHECKED: &str = "checked";
 
 const CHECKED_HELP: &str = "Tests every access while the program runs, in place of verifying it";
 
+const REASONS: &str = "reasons";
+
+const REASONS_HELP: &str = "A frame stream has reasons (XPF2), and frames of up to 9216 bytes";
+
 // A command with an option that takes no value.
 fn with_flag<'a>(
     alloc: Global,
@@ -119,7 +123,8 @@ fn convert_program<'a>(alloc: Global) -> Result<Command<'a>, AllocError>
 {
     let plain = command(alloc, "convert", CONVERT_ABOUT, &[CONVERTED, WRITTEN])?;
     let named = plain.bin_name("xdpvm_filter convert")?;
-    with_choice(alloc, named, TO)
+    let with_to = with_choice(alloc, named, TO)?;
+    with_flag(alloc, with_to, REASONS, REASONS_HELP)
 }
 
 // The command that prints frames.

@@ -33,8 +33,10 @@ pub struct FilterTask<'a> {
 pub enum FramesKind {
     Pcap,
     Pcapng,
-    /// A frame stream, of the version that it has.
+    /// A frame stream of version 1.
     Stream,
+    /// A frame stream of version 2, with reasons.
+    Reasoned,
     Text,
 }
 
@@ -47,6 +49,8 @@ pub struct ConvertTask<'a> {
     pub out: &'a str,
     /// What they become, if the name of the output is not asked.
     pub kind: Option<FramesKind>,
+    /// Whether a frame stream that they become has reasons.
+    pub has_reasons: bool,
 }
 
 /// Says what xdpvm_filter is asked to do.
