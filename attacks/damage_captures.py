@@ -24,13 +24,13 @@ from dataclasses import dataclass, field
 TOP = os.path.dirname(os.path.dirname(os.path.abspath(__file__)))
 sys.path.insert(0, os.path.join(TOP, "checks"))
 sys.path.insert(0, os.path.join(TOP, "tests"))
-from captures import PASS, SEEDS, Packet, capture, packets_of_stream
+from captures import LINKS, PASS, SEEDS, Packet, capture, packets_of_stream
 from common import built, bytes_of, write
 
 MOST_CAPTURED, MOST_BLOCK, MOST_FRAME, MOST_INTERFACES = 262_144, 4_194_304, 9216, 4096
 LEAST = {0x0A0D0D0A: 28, 1: 20, 2: 32, 3: 16, 6: 32}
-LINKS = (1, 113, 276)
 PCAPS = {0xA1B2C3D4: 1000, 0xA1B23C4D: 1}
+RAW, IPV4, IPV6 = (101, 12, 228, 229), 0x0800, 0x86DD
 
 
 class Fault(Exception):
@@ -61,8 +61,21 @@ class Interface:
     snap: int
 
 
+def ethernet_type(link: int, data: bytes) -> int:
+    """The EtherType of a packet without an Ethernet head: of an IP version or an address family, or 0."""
+    if link in RAW:
+        return {4: IPV4, 6: IPV6}.get(data[0] >> 4, 0) if data else 0
+    if len(data) < 4:
+        return 0
+    high, low = int.from_bytes(data[:4], "big"), int.from_bytes(data[:4], "little")
+    family = low if link == 0 and high >= 65536 else high
+    return {2: IPV4, 10: IPV6, 24: IPV6, 28: IPV6, 30: IPV6}.get(family, 0)
+
+
 def framed(link: int, data: bytes) -> bytes:
     """The Ethernet frame that the bytes of a packet become."""
+    if link in (*RAW, 0, 108):
+        return bytes(12) + struct.pack(">H", ethernet_type(link, data)) + data[0 if link in RAW else 4 :]
     if link == 113 and len(data) >= 16:
         return bytes(6) + data[6:12] + data[14:]
     if link == 276 and len(data) >= 20:

@@ -1,5 +1,5 @@
 #!/usr/bin/env python3
-"""Captures as frames, and frames as captures: xdpvm_filter reads the packets that editcap reads, and writes them. In the gate.
+"""Captures as frames, and frames as captures: xdpvm_filter reads the packets that Wireshark reads, and writes them. In the gate.
 
 usage: python3 tests/captures.py [XDPVM_FILTER] [--store]
 
@@ -9,12 +9,17 @@ tests/captures.txt has the SHA-256 of the times and bytes of its packets as Wire
 nanoseconds; --store writes it. Where editcap is installed, each capture is tried anew against that editcap. A resolution of
 10^-10 and finer is left out: there editcap multiplies beyond 64 bits.
 
-Each capture is also written, as a pcap and as a pcapng: the packets of the pcap, and those that editcap reads of the pcapng
-where it is installed, have to be the same.
+The captures from seed 40 on have IP packets of other link types: Linux's `any` interface, raw IP, and BSD's loopback in either
+byte order; some packets are none of IP. Their rows have the SHA-256 of what Wireshark's tshark says of each: its time, addresses,
+UDP ports and payload, which are read here from the Ethernet frames.
+
+Each capture is also written, as a pcap and as a pcapng: the packets of the pcap, and those that editcap or tshark reads of the
+pcapng where it is installed, have to be the same.
 
 What differs is printed; the last line counts, and the status is 1 if anything differs.
 """
 import hashlib
+import ipaddress
 import os
 import random
 import shutil
@@ -28,11 +33,15 @@ from common import TOP, built, bytes_of, need, text_of, write
 
 STORED = os.path.join(TOP, "tests/captures.txt")
 PASS = os.path.join(TOP, "examples/pass.image")
-SEEDS = range(40)
+SEEDS = range(64)
+LINKED = 40  # the first seed of a capture with other link types
 SCALES = (None, 0, 3, 6, 7, 9, 0x80 | 10, 0x80 | 20, 0x80 | 30)  # values of if_tsresol
 OFFSETS = (None, None, 1000, -5)  # values of if_tsoffset, in seconds
 LENGTHS = (14, 15, 60, 61, 62, 63, 90, 1514)
 PCAPS = ((">", 0xA1B2C3D4), ("<", 0xA1B2C3D4), (">", 0xA1B23C4D), ("<", 0xA1B23C4D))
+LINKS = (1, 113, 276, 101, 12, 228, 229, 0, 108)
+FAMILIES = {4: (2,), 6: (24, 28, 30)}
+FIELDS = "frame.time_epoch ip.src ip.dst ipv6.src ipv6.dst udp.srcport udp.dstport udp.payload".split()
 Packet = tuple[int, bytes]  # its nanoseconds and its bytes
 
 
@@ -50,6 +59,68 @@ def units_per_second(scale: int | None) -> int:
     if scale is None:
         return 10**6
     return 1 << (scale & 127) if scale & 128 else int(10**scale)
+
+
+def datagram(chance: random.Random, version: int) -> bytes:
+    """An IP packet with a UDP datagram."""
+    data = chance.randbytes(chance.choice((1, 2, 3, 4, 100, 1400)))
+    udp = struct.pack(">4H", 40001, 40002, 8 + len(data), 0) + data
+    if version == 4:
+        return struct.pack(">BBHHHBBH", 0x45, 0, 20 + len(udp), 1, 0, 64, 17, 0) + chance.randbytes(8) + udp
+    return struct.pack(">IHBB", 6 << 28, len(udp), 17, 64) + chance.randbytes(32) + udp
+
+
+def linked(chance: random.Random, link: int) -> bytes:
+    """The bytes of a packet of a link type, as https://www.tcpdump.org/linktypes.html describes it: one of IP, or none."""
+    version = {228: 4, 229: 6}.get(link) or chance.choice((4, 6))
+    packet, kind = datagram(chance, version), struct.pack(">H", {4: 0x0800, 6: 0x86DD}[version])
+    order, family = (">" if link == 108 else chance.choice("<>")), chance.choice(FAMILIES[version])
+    if chance.randrange(8) == 0:
+        packet, kind, family = bytes([0x50]) + packet[1:], b"\x88\xb5", 7
+    if chance.randrange(16) == 0 and link not in (1, 113, 276):
+        return bytes(chance.randrange(4) if link in (0, 108) else 0)
+    heads = {
+        1: chance.randbytes(12) + kind,
+        113: struct.pack(">3H8s", 0, 1, 6, chance.randbytes(6)) + kind,
+        276: kind + struct.pack(">HIHBB8s", 0, chance.randrange(9), 1, 0, 6, chance.randbytes(6)),
+        0: struct.pack(order + "I", family),
+        108: struct.pack(order + "I", family),
+    }
+    return heads.get(link, b"") + packet
+
+
+def linked_section(chance: random.Random, order: str) -> bytes:
+    """A section with interfaces of several link types."""
+    made = block(order, 0x0A0D0D0A, struct.pack(order + "IHHq", 0x1A2B3C4D, 1, 0, -1))
+    links = [chance.choice(LINKS) for _ in range(chance.randint(1, 5))]
+    for link in links:
+        made += block(order, 1, struct.pack(order + "HHI", link, 0, 0))
+    for _ in range(chance.randint(0, 40)):
+        number = chance.randrange(len(links))
+        data = linked(chance, links[number])
+        head = (1, chance.randrange(2**32), len(data), len(data))
+        match chance.choice((6, 6, 2, 3)):
+            case 6:
+                made += block(order, 6, struct.pack(order + "5I", number, *head) + data)
+            case 2:
+                made += block(order, 2, struct.pack(order + "HH4I", number, 0, *head) + data)
+            case _:
+                data = linked(chance, links[0])
+                made += block(order, 3, struct.pack(order + "I", len(data)) + data)
+    return made
+
+
+def linked_capture(seed: int) -> bytes:
+    """A capture with IP packets: a pcap of each link type, or a pcapng of several."""
+    chance, which = random.Random(seed), seed - LINKED
+    if which >= len(LINKS):
+        return b"".join(linked_section(chance, order) for order in chance.sample("<><>", chance.randint(1, 4)))
+    order, magic = PCAPS[seed % 4]
+    made = struct.pack(order + "IHHiIII", magic, 2, 4, 0, 0, 262144, LINKS[which])
+    for at in range(50):
+        data = linked(chance, LINKS[which])
+        made += struct.pack(order + "4I", 1_700_000_000 + at, chance.randrange(10**6), len(data), len(data)) + data
+    return made
 
 
 def section(chance: random.Random, order: str) -> bytes:
@@ -83,6 +154,8 @@ def section(chance: random.Random, order: str) -> bytes:
 
 
 def capture(seed: int) -> bytes:
+    if seed >= LINKED:
+        return linked_capture(seed)
     chance = random.Random(seed)
     if seed % 4 == 0:
         order, magic = PCAPS[seed // 4 % 4]
@@ -119,31 +192,62 @@ def summed(packets: list[Packet]) -> str:
     return f"{len(packets)} {hashlib.sha256(spelled).hexdigest()}"
 
 
-def copied(folder: str, path: str) -> str | None:
-    """What editcap makes of a capture, or None where it is not installed."""
-    if not shutil.which("editcap"):
+def lines_summed(lines: list[str]) -> str:
+    return f"{len(lines)} {hashlib.sha256(chr(10).join(lines).encode()).hexdigest()}"
+
+
+def told(time: int, data: bytes) -> str:
+    """The fields of an Ethernet frame, in the words of tshark."""
+    sizes = {0x0800: (12, 4), 0x86DD: (8, 16)}
+    kind = int.from_bytes(data[12:14], "big")
+    seen = [f"{time // 10**9}.{time % 10**9:09}"] + [""] * 7
+    if kind in sizes:
+        (start, size), at = sizes[kind], 14
+        for which in range(2):
+            address = data[at + start + which * size : at + start + (which + 1) * size]
+            seen[(1 if size == 4 else 3) + which] = str(ipaddress.ip_address(address))
+        at += start + 2 * size
+        seen[5:] = [*map(str, struct.unpack_from(">2H", data, at)), data[at + 8 :].hex()]
+    return ",".join(seen)
+
+
+def summed_of(seed: int, packets: list[Packet]) -> str:
+    """What the row of a capture has to say, where it has these packets."""
+    return lines_summed([told(*it) for it in packets]) if seed >= LINKED else summed(packets)
+
+
+def from_outside(seed: int, folder: str, path: str) -> str | None:
+    """What editcap or tshark reads of a capture, or None where it is not installed."""
+    if not shutil.which("editcap") or not shutil.which("tshark"):
         return None
+    if seed >= LINKED:
+        fields = [it for name in FIELDS for it in ("-e", name)]
+        ran = subprocess.run(
+            ["tshark", "-n", "-r", path, "-T", "fields", "-E", "separator=,", *fields], capture_output=True, text=True, check=True
+        )
+        # a simple packet has no time there, and 0 here
+        return lines_summed(["0.000000000" + it if it.startswith(",") else it for it in ran.stdout.splitlines()])
     out = os.path.join(folder, "copied.pcap")
     subprocess.run(["editcap", "-F", "nsecpcap", path, out], check=True, stderr=subprocess.DEVNULL)
     return summed(packets_of_pcap(bytes_of(out)))
 
 
-def read(program: str, folder: str, path: str) -> str:
+def read(program: str, folder: str, path: str, seed: int) -> str:
     """What xdpvm_filter reads of a capture."""
     out = os.path.join(folder, "read.frames")
     ran = subprocess.run([program, PASS, path, out], capture_output=True, check=False)
-    return summed(packets_of_stream(bytes_of(out))) if ran.returncode == 0 else ran.stderr.decode(errors="replace")
+    return summed_of(seed, packets_of_stream(bytes_of(out))) if ran.returncode == 0 else ran.stderr.decode(errors="replace")
 
 
-def wrote(program: str, folder: str, path: str, kept: str) -> list[str]:
+def wrote(program: str, folder: str, path: str, seed: int, kept: str) -> list[str]:
     """What differs in the captures that xdpvm_filter writes of a capture."""
     wrong = []
     for ending in ("pcap", "pcapng"):
         out = os.path.join(folder, f"written.{ending}")
         subprocess.run([program, PASS, path, out], capture_output=True, check=False)
-        ours = summed(packets_of_pcap(bytes_of(out))) if ending == "pcap" else copied(folder, out)
-        if ours not in (None, kept):
-            wrong.append(f"written as a {ending}: {ours}")
+        seen = [from_outside(seed, folder, out)]
+        seen += [summed_of(seed, packets_of_pcap(bytes_of(out)))] if ending == "pcap" else []
+        wrong += [f"written as a {ending}: {it}" for it in seen if it not in (None, kept)]
     return wrong
 
 
@@ -154,18 +258,18 @@ def main(words: list[str]) -> int:
     with tempfile.TemporaryDirectory() as folder:
         path = os.path.join(folder, "a.capture")
         if "--store" in words:
-            rows = [copied(folder, write(path, capture(seed))) for seed in SEEDS]
+            rows = [from_outside(seed, folder, write(path, capture(seed))) for seed in SEEDS]
             write(STORED, "\n".join(it or "" for it in rows) + "\n")
             return 0
         stored, wrong, packets = text_of(STORED).splitlines(), 0, 0
         for seed, kept in zip(SEEDS, stored, strict=True):
             write(path, capture(seed))
-            ours, now = read(program, folder, path), copied(folder, path)
+            ours, now = read(program, folder, path, seed), from_outside(seed, folder, path)
             packets += int(kept.split()[0])
             if ours != kept or now not in (None, kept):
-                print(f"seed {seed}: {ours}, stored {kept}, editcap {now}")
+                print(f"seed {seed}: {ours}, stored {kept}, Wireshark {now}")
                 wrong += 1
-            for it in wrote(program, folder, path, kept):
+            for it in wrote(program, folder, path, seed, kept):
                 print(f"seed {seed}: stored {kept}, {it}")
                 wrong += 1
     print(f"{len(stored)} captures of {packets} packets, {wrong} differ")

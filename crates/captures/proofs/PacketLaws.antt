@@ -1,37 +1,16 @@
 -- Laws of a packet whose Ethernet frame is made in a block.
-use Rattle.std.proofs.Common.{◌≡◌, ℕ, ◌+◌, ◌-◌, ◌*◌, ◌<◌, ◌≤◌, List, ◌++◌, length, take, drop, slice_range, Some, Ok, Err, sym, ap, ◌∙◌, refl, arith, le-ltb, lt-ltb, length-drop}
-use Rattle.std.proofs.lemmas.List.{drop_at, take_at, length-take-le, drop-drop, drop-append-le, drop-take}
-use borrow.Rule.Slice.PartMut.{put_mid, post_of}
+use Rattle.std.proofs.Common.{◌≡◌, ℕ, ◌+◌, ◌-◌, ◌*◌, ◌<◌, ◌≤◌, List, length, take, drop, slice_range, Some, Ok, Err, sym, ap, ◌∙◌, refl, arith, le-ltb, lt-ltb}
+use Rattle.std.proofs.lemmas.List.{drop-take}
 use Rattle.captures.specs.declared.forms.NumberOrder.{NumberOrder}
 use Rattle.captures.specs.declared.forms.LinkType.{LinkType}
 use Rattle.captures.specs.declared.forms.PcapForm.{PcapForm}
 use Rattle.captures.specs.declared.interfaces.Interface.{Interface}
 use Rattle.captures.specs.declared.interfaces.TimeScale.{TimeScale}
 use Rattle.captures.specs.declared.packets.PacketFault.TheVariants.{BadBlock}
-use Rattle.captures.specs.Pcap.{field, link_of, nanoseconds, interface_of, ethernet_frame, captured_length, packet_size, packet_bytes, packet_of}
+use Rattle.captures.specs.Links.{link_of, interface_of, ethernet_frame}
+use Rattle.captures.specs.Pcap.{field, nanoseconds, captured_length, packet_size, packet_bytes, packet_of}
 use Rattle.captures.specs.Pcapng.{short_field, option_value, interface_options, interface_in, scale_by, offset_by, packet_by}
 use Rattle.captures.specs.Packets.{packet_with}
-
-pub length-range : (start end : ℕ) (block : List ℕ) → start ≤ end → end ≤ length block
-    → length (slice_range block start end) ≡ end - start
-length-range start end block head room =
-    length-take-le (end - start) (drop start block) (omega (arith, length-drop start block))
-
--- the frame, after the packet's bytes in a block were written over
-pub frame_settled : (start end from : ℕ) (block packet : List ℕ) → start ≤ end
-    → end ≤ length block → length packet ≡ end - start → from ≤ length packet
-    → slice_range (put_mid start (end - start) block packet) (start + from) end
-    ≡ drop from packet
-frame_settled start end from block packet head room whole inside =
-    let after = put_mid start (end - start) block packet in
-    let rest = post_of start (end - start) block in
-    let long = length-take-le start block (omega arith) in
-    ap (take (end - (start + from)))
-    (sym (drop-drop from start after)
-    ∙ ap (drop from) (drop_at (take start block) (packet ++ rest) start long)
-    ∙ drop-append-le from packet rest inside)
-    ∙ take_at (drop from packet) rest (end - (start + from))
-    (omega (arith, length-drop from packet))
 
 -- ---- pcap
 

@@ -9,7 +9,8 @@ use Rattle.captures.specs.declared.forms.NumberOrder.TheVariants.{HighFirst, Low
 use Rattle.captures.specs.declared.forms.TimeUnit.{TimeUnit}
 use Rattle.captures.specs.declared.forms.LinkType.{LinkType}
 use Rattle.captures.specs.declared.forms.CaptureRefusal.TheVariants.{TruncatedFileHead, NoCapture, UnknownLink}
-use Rattle.captures.specs.Pcap.{field, pcap_start, link_of, with_link, with_start, opened}
+use Rattle.captures.specs.Links.{link_of}
+use Rattle.captures.specs.Pcap.{field, pcap_start, with_link, with_start, opened}
 
 -- ---- the file head
 

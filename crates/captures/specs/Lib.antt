@@ -1,3 +1,4 @@
+pub mod Links
 pub mod Pcap
 pub mod Pcapng
 pub mod Captured

@@ -4,7 +4,7 @@
 -- reserved, u32 snap length, u32 link type, whose upper 16 bits say other things. A record's head
 -- is: u32 seconds, u32 microseconds or nanoseconds, u32 captured packet length, u32 original packet
 -- length. The magic number says in which order the bytes of all numbers are.
-use Rattle.std.specs.Prelude.{ℕ, ◌+◌, ◌*◌, ◌^◌, ◌%◌, ◌==◌, List, ◌++◌, length, take, drop, replicate, nat_lt, if◌then◌else◌, Option, Some, None, Result, Ok, Err}
+use Rattle.std.specs.Prelude.{ℕ, ◌+◌, ◌*◌, ◌^◌, ◌%◌, ◌==◌, List, length, take, drop, nat_lt, if◌then◌else◌, Option, Some, None, Result, Ok, Err}
 use Rattle.byteorder.specs.Endian.{big_number, little_number}
 use Rattle.isa_model.specs.declared.frames.FrameHead.{FrameHead}
 use Rattle.captures.specs.declared.forms.NumberOrder.{NumberOrder}
@@ -12,10 +12,10 @@ use Rattle.captures.specs.declared.forms.NumberOrder.TheVariants.{HighFirst, Low
 use Rattle.captures.specs.declared.forms.TimeUnit.{TimeUnit}
 use Rattle.captures.specs.declared.forms.TimeUnit.TheVariants.{Microseconds, Nanoseconds}
 use Rattle.captures.specs.declared.forms.LinkType.{LinkType}
-use Rattle.captures.specs.declared.forms.LinkType.TheVariants.{Ethernet, Cooked, Cooked2}
 use Rattle.captures.specs.declared.forms.PcapForm.{PcapForm}
 use Rattle.captures.specs.declared.forms.CaptureRefusal.{CaptureRefusal}
 use Rattle.captures.specs.declared.forms.CaptureRefusal.TheVariants.{TruncatedFileHead, NoCapture, UnknownLink}
+use Rattle.captures.specs.Links.{link_of, ethernet_frame, interface_of}
 
 -- ---- numbers
 
@@ -39,14 +39,6 @@ pcap_start bytes =
     else if little_number 4 bytes == 0xa1b23c4d then Some (LowFirst, Nanoseconds)
     else None
 
--- the link types that are read
-abbrev pub link_of : ℕ → Option LinkType
-link_of number =
-    if number == 1 then Some Ethernet
-    else if number == 113 then Some Cooked
-    else if number == 276 then Some Cooked2
-    else None
-
 -- a form with this link type, or why it is not read
 abbrev pub with_link : NumberOrder → TimeUnit → ℕ → Option LinkType → Result PcapForm CaptureRefusal
 with_link order unit number (Some link) = Ok (record { order = order; unit = unit; link = link })
@@ -63,26 +55,6 @@ unfoldable pub opened : List ℕ → Result PcapForm CaptureRefusal
 opened bytes =
     if nat_lt (length bytes) 24 then Err TruncatedFileHead
     else with_start bytes (pcap_start bytes)
-
--- ---- link types
-
--- the Ethernet frame that the bytes of a packet become. Of Linux's `any` interface the destination
--- is not known: it is zero.
-abbrev pub ethernet_frame : LinkType → List ℕ → List ℕ
-ethernet_frame Ethernet bytes = bytes
-ethernet_frame Cooked bytes =
-    if nat_lt (length bytes) 16 then bytes
-    else replicate 6 0 ++ (take 6 (drop 6 bytes) ++ drop 14 bytes)
-ethernet_frame Cooked2 bytes =
-    if nat_lt (length bytes) 20 then bytes
-    else replicate 6 0 ++ (take 6 (drop 12 bytes) ++ (take 2 bytes ++ drop 20 bytes))
-
--- the interface that a packet came in by, another one where its link type does not say it
-abbrev pub interface_of : LinkType → ℕ → List ℕ → ℕ
-interface_of Ethernet other bytes = other
-interface_of Cooked other bytes = other
-interface_of Cooked2 other bytes =
-    if nat_lt (length bytes) 20 then other else field HighFirst 4 bytes
 
 -- ---- packet records
 

@@ -19,7 +19,8 @@ use Rattle.captures.specs.declared.interfaces.TimeScale.TheVariants.{PowerOf10, 
 use Rattle.captures.specs.declared.interfaces.Interface.{Interface}
 use Rattle.captures.specs.declared.packets.PacketFault.{PacketFault}
 use Rattle.captures.specs.declared.packets.PacketFault.TheVariants.{TooLong, BadBlock, UnknownInterface, UnknownInterfaceLink, TooManyInterfaces}
-use Rattle.captures.specs.Pcap.{field, link_of, ethernet_frame, interface_of, CapturedPacket}
+use Rattle.captures.specs.Links.{link_of, ethernet_frame, interface_of}
+use Rattle.captures.specs.Pcap.{field, CapturedPacket}
 
 -- ---- numbers
 

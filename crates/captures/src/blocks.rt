@@ -1,7 +1,7 @@
 //! The blocks of a pcapng file: how long one is, and what it says.
 
 ghost use Rattle.std.specs.Prelude.{◌≡◌, ◌≤◌, ◌<◌, ◌^◌, Ok, length, slice_get};
-ghost use Rattle.captures.specs.Pcap.{link_of};
+ghost use Rattle.captures.specs.Links.{link_of};
 ghost use Rattle.captures.specs.Pcapng.{block_order, block_said, block_size, least_size, packet_by, said_in, section_order, simple_length, simple_packet, timed_packet};
 ghost use Rattle.captures.specs.Captured.{said_of_block};
 ghost use Rattle.captures.specs.Packets.{IsFrameIn, IsFramed, block_with, packet_framed, taken_by};
@@ -118,6 +118,7 @@ fn packet_by(
     block: &mut [u8],
 ) -> Result<FramedPacket, PacketFault>
     requires start { place.start ≤ 28 }
+    requires room { 12 ≤ place.start }
     requires captured { place.captured < 2 ^ 32 }
     ensures packet { packet_framed block.new result
         ≡ packet_by interface.now number time place.start place.captured place.original block.old
@@ -131,20 +132,19 @@ fn packet_by(
     if block.len() < end + 4 {
         return Err(PacketFault::BadBlock);
     }
-    let packet = &mut block[place.start..end];
     let head = FrameHead {
         time,
-        interface: interface_of(link, number, packet),
+        interface: interface_of(link, number, &block[place.start..end]),
         queue: 0,
     };
-    let from = place.start + settle(link, packet);
+    let (from, to) = settle(link, block, place.start, end);
     Ok(FramedPacket {
         head: CapturedHead {
             head,
             original: place.original,
         },
         from,
-        to: end,
+        to,
     })
 }
 

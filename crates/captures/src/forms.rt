@@ -3,7 +3,8 @@
 
 ghost use Rattle.std.specs.Prelude.{◌≡◌, ◌+◌, ◌≤◌, length};
 ghost use Rattle.captures.specs.Captured.{begun, head_size, max_record};
-ghost use Rattle.captures.specs.Pcap.{field, link_of, nanoseconds, opened, pcap_start};
+ghost use Rattle.captures.specs.Links.{link_of};
+ghost use Rattle.captures.specs.Pcap.{field, nanoseconds, opened, pcap_start};
 ghost use Rattle.captures.specs.Pcapng.{is_section, long_field, short_field};
 
 use byteorder::{BigEndian, ByteOrder, LittleEndian};
@@ -44,6 +45,12 @@ pub enum LinkType {
     Cooked,
     /// Its 20 bytes, with the interface. LINKTYPE_LINUX_SLL2.
     Cooked2,
+    /// An IP packet. LINKTYPE_RAW, LINKTYPE_IPV4 or LINKTYPE_IPV6.
+    Raw,
+    /// The address family, in the byte order of the machine that captured. LINKTYPE_NULL.
+    Null,
+    /// The address family, the high byte first. LINKTYPE_LOOP.
+    Loop,
 }
 
 /// Says how the packets of a pcap file are written, by its head.
@@ -157,6 +164,9 @@ impl LinkType {
             1 => Some(LinkType::Ethernet),
             113 => Some(LinkType::Cooked),
             276 => Some(LinkType::Cooked2),
+            101 | 12 | 228 | 229 => Some(LinkType::Raw),
+            0 => Some(LinkType::Null),
+            108 => Some(LinkType::Loop),
             _ => None,
         }
     }

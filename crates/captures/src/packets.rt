@@ -65,16 +65,15 @@ pub fn take_packet(form: PcapForm, bytes: &mut [u8]) -> FramedPacket
     let seconds = number_at(form.order, bytes, 0) as u64;
     let fraction = number_at(form.order, bytes, 4) as u64;
     let original = number_at(form.order, bytes, 12);
-    let to = bytes.len();
-    let packet = &mut bytes[16..to];
-    let interface = interface_of(form.link, 0, packet);
+    let end = bytes.len();
+    let interface = interface_of(form.link, 0, &bytes[16..end]);
     let time = seconds * 1_000_000_000 + fraction * form.unit.nanoseconds();
     let head = FrameHead {
         time,
         interface,
         queue: 0,
     };
-    let from = 16 + settle(form.link, packet);
+    let (from, to) = settle(form.link, bytes, 16, end);
     FramedPacket {
         head: CapturedHead { head, original },
         from,

@@ -86,11 +86,7 @@ pub fn left_text(alloc: Global, counts: CopyCounts) -> Result<String, AllocError
 
 /// How a task ended after frames were copied to a stream, with the lines of what it does not say of
 /// them, if there is memory for these.
-pub fn ending_counted<'a>(
-    alloc: Global,
-    outcome: TaskOutcome<'a>,
-    counts: CopyCounts,
-) -> Ending<'a>
+pub fn ending_counted<'a>(alloc: Global, outcome: TaskOutcome<'a>, counts: CopyCounts) -> Ending<'a>
     ensures outcome { result.outcome ≡ outcome.entry }
     ensures why { TellsCounts counts result.why }
 {

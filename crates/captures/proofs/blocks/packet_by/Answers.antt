@@ -1,6 +1,6 @@
 use Rattle.std.proofs.Common.{◌≡◌, ◌+◌, ◌-◌, take, drop, slice_range, sym, ap, ◌∙◌, arith}
-use Rattle.captures.specs.Pcap.{link_of, interface_of, ethernet_frame}
-use Rattle.captures.proofs.PacketLaws.{length-range, frame_settled, packet_by-parts}
+use Rattle.captures.specs.Links.{link_of, interface_of, ethernet_frame}
+use Rattle.captures.proofs.PacketLaws.{packet_by-parts}
 use Rattle.captures.proofs.blocks.packet_by.Goals as goal
 
 pub returns-clause-packet : goal.returns-clause-packet
@@ -15,9 +15,4 @@ returns-clause-packet c =
     c.args.place.original block c.in-Some.link
     (ap link_of (sym c.from.ensures) ∙ sym c.of.ensures ∙ c.in-Some.is) _ _ (omega arith)
     (c.interface_of.ensures ∙ ap (interface_of c.in-Some.link c.args.number) bytes)
-    (frame_settled start (start + captured) c.settle.result block c.settle.new.packet (omega arith)
-    (omega arith)
-    (c.settle.auto.packet
-    ∙ length-range start (start + captured) block (omega arith) (omega arith))
-    c.settle.ensures.inside
-    ∙ c.settle.ensures.frame ∙ ap (ethernet_frame c.in-Some.link) bytes)
+    (c.settle-from.ensures.frame ∙ ap (ethernet_frame c.in-Some.link) bytes)

@@ -5,5 +5,5 @@ use Rattle.captures.proofs.links.settle_cooked.Goals as goal
 pub returns-clause-frame : goal.returns-clause-frame
 returns-clause-frame c =
     cooked_settled c.args.packet.now c.copy_from_slice-2.new.self c.copy_from_slice-3.new.self
-    c.requires (c.copy_from_slice-2.ensures.after ∙ c.copy_from_slice.ensures.after)
+    c.if-packet-lt16.false (c.copy_from_slice-2.ensures.after ∙ c.copy_from_slice.ensures.after)
     c.copy_from_slice-3.ensures.after

@@ -1,6 +1,6 @@
-use Rattle.std.proofs.Common.{length, sym, ap, ◌∙◌, le_refl}
-use Rattle.captures.specs.Pcap.{interface_of, ethernet_frame}
-use Rattle.captures.proofs.PacketLaws.{length-range, frame_settled, packet_bytes-whole, packet_of-parts}
+use Rattle.std.proofs.Common.{sym, ap, ◌∙◌}
+use Rattle.captures.specs.Links.{interface_of, ethernet_frame}
+use Rattle.captures.proofs.PacketLaws.{packet_bytes-whole, packet_of-parts}
 use Rattle.captures.proofs.packets.take_packet.Goals as goal
 
 pub returns-clause-packet : goal.returns-clause-packet
@@ -12,9 +12,4 @@ returns-clause-packet c =
     c.nanoseconds.ensures.count
     (c.interface_of-interface.ensures ∙ ap (interface_of form.link 0) (sym bytes))
     c.number_at-original.ensures
-    (frame_settled 16 (length all) c.settle-from.result all c.settle-from.new.packet
-    c.requires.head (le_refl (length all))
-    (c.settle-from.auto.packet
-    ∙ length-range 16 (length all) all c.requires.head (le_refl (length all)))
-    c.settle-from.ensures.inside
-    ∙ c.settle-from.ensures.frame ∙ ap (ethernet_frame form.link) (sym bytes))
+    (c.settle-from.ensures.frame ∙ ap (ethernet_frame form.link) (sym bytes))
