@@ -3,7 +3,8 @@
 
 usage: python3 checks/hygiene.py [--each KIND]
 
-unnamed    lemmas of proofs/ whose names are nowhere else in crates/ and not in docs/PROOFS.md, so that nothing uses them
+unnamed    lemmas of proofs/ that no other proof, no README of a crate and not docs/PROOFS.md names, so that nothing uses them;
+           files of computed examples (NAMEExamples.antt) aside
 twice      statements that stand word for word in two files of proofs/, besides those of hand proofs
 answers    functions with more than 150 lines of answers
 arguments  statements of proofs/ with more than 20 arguments and premises
@@ -20,14 +21,14 @@ from typing import NamedTuple
 
 from common import TOP, command_line
 
-LIMITS = {"unnamed": 39, "twice": 40, "answers": 10, "arguments": 10, "blanks": 192}
+LIMITS = {"unnamed": 2, "twice": 40, "answers": 10, "arguments": 10, "blanks": 192}
 MOST_LINES, MOST_ARGUMENTS = 150, 20
 CRATES = Path(TOP, "crates")
 WORD = re.compile(r"[^\s(){},;:\"\[\].|]+")
 HEAD = re.compile(r"(?:pub )?([^\W\d][^\s:(){}.]*) :(?: |$)")
 BINDER = re.compile(r"[({]([^():{}]+) :")
 BLANKS = re.compile(r"(?:(?<![^\s(])_\s+){4,}_(?![^\s)])")
-SKIPPED = ("--", "//", "use ", "pub use ", "mod ", "pub mod ", "ghost use ")
+NO_LEMMA = re.compile(r"Examples\.antt:|/The[A-Z]\w*/")  # computed examples, and what a trait asks for
 
 
 class Lemma(NamedTuple):
@@ -80,8 +81,9 @@ def unnamed(every: list[Lemma]) -> list[str]:
     own: collections.Counter[str] = collections.Counter()
     for it in every:
         own[it.name] += sum(WORD.findall(line).count(it.name) for line in it.lines if not line.lstrip().startswith("--"))
-    seen.update(WORD.findall(Path(TOP, "docs/PROOFS.md").read_text(encoding="utf-8").replace("`", " ")))
-    return [f"{it.place}: {it.name}" for it in every if seen[it.name] <= own[it.name]]
+    for page in [Path(TOP, "docs/PROOFS.md"), *CRATES.glob("*/README.md")]:
+        seen.update(WORD.findall(page.read_text(encoding="utf-8").replace("`", " ")))
+    return [f"{it.place}: {it.name}" for it in every if seen[it.name] <= own[it.name] and not NO_LEMMA.search(it.place)]
 
 
 def counted() -> dict[str, list[str]]:
