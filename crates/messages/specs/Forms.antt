@@ -2,7 +2,7 @@
 use Rattle.std.specs.Prelude.{◌≡◌, ◌⊎◌, ℕ, ◌==◌, min, nat_le, nat_lt, Bool, ◌&&◌, ◌||◌, not, List, [], ◌∷◌, length, take, bytes_eq, codes, if◌then◌else◌}
 use Rattle.std.specs.List.{list_all}
 use Rattle.messages.specs.declared.forms.FileForm.{FileForm}
-use Rattle.messages.specs.declared.forms.FileForm.TheVariants.{Unknown, Short, Elf, Gzip, Pcap, Pcapng, Image, Frames, Table, Text}
+use Rattle.messages.specs.declared.forms.FileForm.TheVariants.{Unknown, Short, Elf, Gzip, Zstd, Pcap, Pcapng, Image, Frames, Table, Text}
 
 -- the first four bytes, or fewer
 abbrev pub front_of : List ℕ → List ℕ
@@ -13,7 +13,7 @@ abbrev pub is_text_byte : ℕ → Bool
 is_text_byte b = (b == 10) || (b == 9) || (nat_le 32 b && nat_lt b 127)
 
 -- fewer than four bytes, ELF, pcap in two byte orders with microseconds and with nanoseconds,
--- pcapng, images, frame streams, proof tables, gzip without and with a name, text
+-- pcapng, images, frame streams, proof tables, gzip without and with a name, zstd, text
 abbrev pub file_form_by : List ℕ → FileForm
 file_form_by front =
     if nat_lt (length front) 4 then Short
@@ -28,6 +28,7 @@ file_form_by front =
     else if bytes_eq front (codes "XPT1") then Table
     else if bytes_eq front (31 ∷ 139 ∷ 8 ∷ 0 ∷ []) || bytes_eq front (31 ∷ 139 ∷ 8 ∷ 8 ∷ [])
     then Gzip
+    else if bytes_eq front (40 ∷ 181 ∷ 47 ∷ 253 ∷ []) then Zstd
     else if list_all is_text_byte front && not (bytes_eq front (codes "XBP3")) then Text
     else Unknown
 
@@ -45,6 +46,7 @@ file_line Unknown = codes "an image is made of a text by xdpvm asm, of an ELF ob
 file_line Short = codes "it has fewer than 4 bytes\n"
 file_line Elf = codes "it is an ELF object: image.py makes an image of it\n"
 file_line Gzip = codes "it is packed by gzip: gunzip unpacks it\n"
+file_line Zstd = codes "it is packed by zstd: unzstd unpacks it\n"
 file_line Pcap = codes "it is a capture (pcap): frames.py makes a frame stream of it\n"
 file_line Pcapng = codes "it is a capture (pcapng): frames.py makes a frame stream of it\n"
 file_line Image = codes "it is an image\n"
@@ -60,6 +62,7 @@ stream_line Short = codes "\nit has fewer than 4 bytes\n"
 stream_line Elf = codes "\nit is an ELF object: image.py makes an image of it, not frames\n"
 stream_line Gzip =
     codes "\nit is packed by gzip: frames.py makes a frame stream of a packed capture\n"
+stream_line Zstd = codes "\nit is packed by zstd: unzstd unpacks it\n"
 stream_line Pcap = codes "\nit is a capture (pcap): frames.py makes a frame stream of it\n"
 stream_line Pcapng = codes "\nit is a capture (pcapng): frames.py makes a frame stream of it\n"
 stream_line Image = codes "\nit is an image: it stands before the frames, as in xdpvm run\n"

@@ -3,13 +3,38 @@
 ghost use Rattle.std.specs.Prelude.{◌≡◌, OnOk, OnErr};
 ghost use Rattle.std.specs.Io.KnownBytes.{Appends};
 ghost use Rattle.exact_io.specs.Transfers.{AppendsBeginning};
-ghost use Rattle.messages.specs.Faults.{fault_hint, fault_rest, fault_lines};
+ghost use Rattle.messages.specs.Faults.{fault_sentence, long_hint, fault_hint, fault_rest, fault_lines};
 
 use crate::forms::FileForm;
 use crate::texts::write_texts;
 use isa_model::Fault;
 use std::io;
 use std::io::Write;
+
+// Why a frame stream, or a capture with this file form, ended early.
+fn fault_sentence(fault: Fault, form: FileForm) -> &'static str
+    ensures { result.now ≡ fault_sentence fault form }
+{
+    match (fault, form) {
+        (Fault::TooLong, FileForm::Pcap) =>
+            "the capture is damaged: a packet has more than 262144 bytes",
+        (Fault::TooLong, FileForm::Pcapng) =>
+            "the capture is damaged: the lengths of a block do not agree or are over 4194304, or \
+             the interface of a packet is not described or has another link type",
+        (fault, _) => fault.sentence(),
+    }
+}
+
+// The end of the line, and then a line with a hint, where a frame is too long.
+fn long_hint(form: FileForm) -> &'static str
+    ensures { result.now ≡ long_hint form }
+{
+    match form {
+        FileForm::Pcap | FileForm::Pcapng =>
+            "\nthe packets before it were read: make the capture again\n",
+        _ => "\nshorten the frame, or make a stream of XPF2 by frames.py --reasons\n",
+    }
+}
 
 // The end of the line with the sentence, and then a line with a hint; for a file with another
 // magic, a line that says what the file is.
@@ -19,7 +44,7 @@ fn fault_hint(fault: Fault, form: FileForm) -> &'static str
     match fault {
         Fault::BadMagic => form.stream_line(),
         Fault::TruncatedHead | Fault::TruncatedBody => "\nthe file was cut: make it again\n",
-        Fault::TooLong => "\nshorten the frame, or make a stream of XPF2 by frames.py --reasons\n",
+        Fault::TooLong => long_hint(form),
         Fault::ReadFailed => "\nsee that it is a file, and that the disk is sound\n",
         Fault::TooManyRecords => "\nsplit the stream\n",
     }
@@ -45,7 +70,7 @@ pub fn say_fault<W: Write>(err: &mut W, fault: Fault, form: FileForm) -> io::Res
 {
     write_texts(
         err,
-        fault.sentence(),
+        fault_sentence(fault, form),
         fault_hint(fault, form),
         fault_rest(fault),
     )

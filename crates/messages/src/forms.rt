@@ -13,6 +13,7 @@ pub enum FileForm {
     /// An ELF object, as a compiler makes it.
     Elf,
     Gzip,
+    Zstd,
     Pcap,
     Pcapng,
     Image,
@@ -71,6 +72,8 @@ fn file_form_by(front: &[u8]) -> FileForm
         FileForm::Table
     } else if is_same(front, b"\x1f\x8b\x08\x00") || is_same(front, b"\x1f\x8b\x08\x08") {
         FileForm::Gzip
+    } else if is_same(front, b"\x28\xb5\x2f\xfd") {
+        FileForm::Zstd
     } else if is_text(front) && !is_same(front, b"XBP3") {
         FileForm::Text
     } else {
@@ -97,6 +100,7 @@ impl FileForm {
             FileForm::Short => "it has fewer than 4 bytes\n",
             FileForm::Elf => "it is an ELF object: image.py makes an image of it\n",
             FileForm::Gzip => "it is packed by gzip: gunzip unpacks it\n",
+            FileForm::Zstd => "it is packed by zstd: unzstd unpacks it\n",
             FileForm::Pcap => "it is a capture (pcap): frames.py makes a frame stream of it\n",
             FileForm::Pcapng => "it is a capture (pcapng): frames.py makes a frame stream of it\n",
             FileForm::Image => "it is an image\n",
@@ -122,6 +126,7 @@ impl FileForm {
             FileForm::Elf => "\nit is an ELF object: image.py makes an image of it, not frames\n",
             FileForm::Gzip =>
                 "\nit is packed by gzip: frames.py makes a frame stream of a packed capture\n",
+            FileForm::Zstd => "\nit is packed by zstd: unzstd unpacks it\n",
             FileForm::Pcap => "\nit is a capture (pcap): frames.py makes a frame stream of it\n",
             FileForm::Pcapng => {
                 "\nit is a capture (pcapng): frames.py makes a frame stream of it\n"

@@ -31,7 +31,11 @@ pub fn entry(code: &str) -> Option<&'static str>
              e803000000000000 01000000\n",
         "F3" => "F3, a frame longer than 4,096 bytes, in `XPF2` than 9,216. Shorten it,\n\
              split the stream there, or convert it to `XPF2` (`frames.py \
-             --reasons`).\n\
+             --reasons`). Of a\n\
+             capture that `xdpvm_filter` reads: a packet or a block that is none\n\
+             (docs/FORMATS.md#captures). The packets before it were read: make the \
+             capture\n\
+             again.\n\
              \n    \
              # fault F3 at 4\n    \
              # the frame is longer than 4096 bytes, or than 9216 in XPF2\n    \
