@@ -2,7 +2,7 @@
 use Rattle.std.specs.Prelude.{◌≡◌, ◌⊎◌, ℕ, ◌==◌, min, nat_le, nat_lt, Bool, ◌&&◌, ◌||◌, not, List, [], ◌∷◌, length, take, bytes_eq, codes, if◌then◌else◌}
 use Rattle.std.specs.List.{list_all}
 use Rattle.messages.specs.declared.forms.FileForm.{FileForm}
-use Rattle.messages.specs.declared.forms.FileForm.TheVariants.{Unknown, Short, Elf, Gzip, Zstd, Pcap, Pcapng, Image, Frames, Table, Text}
+use Rattle.messages.specs.declared.forms.FileForm.TheVariants.{Unknown, Short, Elf, Gzip, Zstd, Pcap, Pcapng, UnreadCapture, Image, Frames, Table, Text}
 
 -- the first four bytes, or fewer
 abbrev pub front_of : List ℕ → List ℕ
@@ -49,6 +49,7 @@ file_line Gzip = codes "it is packed by gzip: gunzip unpacks it\n"
 file_line Zstd = codes "it is packed by zstd: unzstd unpacks it\n"
 file_line Pcap = codes "it is a capture (pcap): frames.py makes a frame stream of it\n"
 file_line Pcapng = codes "it is a capture (pcapng): frames.py makes a frame stream of it\n"
+file_line UnreadCapture = codes "it is a capture\n"
 file_line Image = codes "it is an image\n"
 file_line Frames = codes "it is a frame stream: the image stands before it, as in xdpvm run\n"
 file_line Table = codes "it is a proof table: the image stands before it, as in xdpvm recheck\n"
@@ -65,6 +66,8 @@ stream_line Gzip =
 stream_line Zstd = codes "\nit is packed by zstd: unzstd unpacks it\n"
 stream_line Pcap = codes "\nit is a capture (pcap): frames.py makes a frame stream of it\n"
 stream_line Pcapng = codes "\nit is a capture (pcapng): frames.py makes a frame stream of it\n"
+stream_line UnreadCapture =
+    codes "\nit is a capture that is cut in its head, or of another link type than Ethernet (1), Linux cooked (113, 276), raw IP (101) and loopback (0, 108): capinfos names it\n"
 stream_line Image = codes "\nit is an image: it stands before the frames, as in xdpvm run\n"
 stream_line Frames = codes "\nframes.py makes a stream of a capture (pcap, pcapng)\n"
 stream_line Table = codes "\nit is a proof table: it stands after --table, as in xdpvm run\n"

@@ -16,6 +16,8 @@ pub enum FileForm {
     Zstd,
     Pcap,
     Pcapng,
+    /// A capture that does not become a frame stream.
+    UnreadCapture,
     Image,
     /// A frame stream.
     Frames,
@@ -103,6 +105,7 @@ impl FileForm {
             FileForm::Zstd => "it is packed by zstd: unzstd unpacks it\n",
             FileForm::Pcap => "it is a capture (pcap): frames.py makes a frame stream of it\n",
             FileForm::Pcapng => "it is a capture (pcapng): frames.py makes a frame stream of it\n",
+            FileForm::UnreadCapture => "it is a capture\n",
             FileForm::Image => "it is an image\n",
             FileForm::Frames => {
                 "it is a frame stream: the image stands before it, as in xdpvm run\n"
@@ -130,6 +133,10 @@ impl FileForm {
             FileForm::Pcap => "\nit is a capture (pcap): frames.py makes a frame stream of it\n",
             FileForm::Pcapng => {
                 "\nit is a capture (pcapng): frames.py makes a frame stream of it\n"
+            }
+            FileForm::UnreadCapture => {
+                "\nit is a capture that is cut in its head, or of another link type than Ethernet (1), \
+                 Linux cooked (113, 276), raw IP (101) and loopback (0, 108): capinfos names it\n"
             }
             FileForm::Image => "\nit is an image: it stands before the frames, as in xdpvm run\n",
             FileForm::Table => "\nit is a proof table: it stands after --table, as in xdpvm run\n",
