@@ -23,7 +23,7 @@ use Rattle.filtering.specs.declared.losing.Loss.{Loss}
 use Rattle.filtering.specs.Copying.{Copies, CopiesSome}
 use Rattle.filtering.specs.FrameKinds.{capture_kind, form_of, kind_of, printed_form}
 use Rattle.filtering.specs.Losing.{TellsCounts, TellsLoss}
-use Rattle.filtering.specs.Opening.{frames_path, is_capture, output_name}
+use Rattle.filtering.specs.Opening.{IsToldForm, frames_path, is_capture, output_name}
 
 -- ---- how the task ends
 
@@ -74,13 +74,16 @@ OnFrames path known form P result =
 abbrev pub ConvertsFrom : List ℕ → Option (List ℕ) → FileForm → FramesKind → List ℕ → Ending
     → Type 0
 ConvertsFrom path known form kind name result =
-    OnFrames path known form (λ source. ConvertsSome source form kind name result) result
+    OnFrames path known form
+    (λ source. (told : FileForm) × IsToldForm form told
+    × ConvertsSome source told kind name result) result
 
 abbrev pub PrintsFrom : {W : Type 0} → (W → Option (List ℕ)) → List ℕ → Option (List ℕ)
     → FileForm → FrameForm → PromptWriter W → PromptWriter W → Ending → Type 0
 PrintsFrom contents path known form frame_form old new result =
-    OnFrames path known form (λ source. Prints contents source form frame_form old new result)
-    result
+    OnFrames path known form
+    (λ source. (told : FileForm) × IsToldForm form told
+    × Prints contents source told frame_form old new result) result
 
 -- by how they are printed, if they are
 abbrev pub ConvertsBy : {W : Type 0} → Option FrameForm → (W → Option (List ℕ)) → List ℕ

@@ -1,11 +1,13 @@
 -- The names of a run's files, and how a task ends if one cannot be opened.
-use Rattle.std.specs.Prelude.{ℕ, ◌⊎◌, Bool, true, false, List, Option, Some, None, bytes_eq, codes, nat_eq, if◌then◌else◌}
+use Rattle.std.specs.Prelude.{◌≡◌, ◌⊎◌, ℕ, Bool, true, false, List, Option, Some, None, bytes_eq, codes, nat_eq, if◌then◌else◌}
 use Rattle.std.specs.List.{ends_with}
 use Rattle.capture_writer.specs.declared.kinds.CaptureKind.{CaptureKind}
 use Rattle.capture_writer.specs.declared.kinds.CaptureKind.TheVariants as kind
 use Rattle.words.specs.FilterRequests.{FilterRequest}
 use Rattle.messages.specs.declared.forms.FileForm.{FileForm}
-use Rattle.messages.specs.declared.forms.FileForm.TheVariants.{Pcap, Pcapng}
+use Rattle.messages.specs.declared.forms.FileForm.TheVariants.{Pcap, Pcapng, UnreadCapture}
+use Rattle.captures.specs.declared.choices.FramesOf.{FramesOf}
+use Rattle.captures.specs.declared.choices.FramesOf.TheVariants as frames
 use Rattle.commands.specs.declared.outcomes.TaskOutcome.{TaskOutcome}
 use Rattle.commands.specs.Statuses.{IsMakeFailure, IsReadFailure}
 
@@ -26,6 +28,15 @@ is_capture form = false
 -- whether a name has this ending
 abbrev pub has_ending : List ℕ → List ℕ → Bool
 has_ending name ending = ends_with nat_eq name ending
+
+-- the form of a file by what became of it: one of its own for a capture that is not read
+abbrev pub told_form : {S : Type 0} → FramesOf S → FileForm → FileForm
+told_form frames.Refused form = UnreadCapture
+told_form other form = form
+
+-- a file of this form is told as this
+abbrev pub IsToldForm : FileForm → FileForm → Type 0
+IsToldForm form told = (told ≡ form) ⊎ (told ≡ UnreadCapture)
 
 -- the format that the end of a name says: of a capture, or else that of a frame stream
 abbrev pub kind_by_name : List ℕ → Option (Option CaptureKind)

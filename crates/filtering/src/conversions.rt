@@ -11,7 +11,7 @@ ghost use Rattle.filtering.specs.Conversions.{ConvertsBegun, ConvertsFiles, Conv
 use super::copying::{copied, copied_to_capture};
 use super::frame_kinds::{kind_of, printed_form};
 use super::losing::{Loss, ending_counted, ending_with};
-use super::opening::{frames_of, frames_path, open_sent, output_name};
+use super::opening::{frames_of, frames_path, open_sent, output_name, told_form};
 use capture_writer::{CaptureKind, Unfollowed};
 use commands::{Ending, STANDARD_OUTPUT, TaskOutcome, begin_frames, keep_apart, open_frames};
 use converting::{FrameForm, StreamEnd};
@@ -127,6 +127,7 @@ fn convert_from<'a, S: Source + Drop, W: Write + Drop>(
     let form = from.form;
     match frames_of(alloc, from.source, form, from.path) {
         Ok(frames) => {
+            let form = told_form(&frames, form);
             let (ended, loss) = convert_to(frames, kind, name, output);
             ending_of(alloc, ended, form, loss)
         }
@@ -147,6 +148,7 @@ fn print_from<'a, S: Source + Drop, W: Write + Drop>(
     let form = from.form;
     match frames_of(alloc, from.source, form, from.path) {
         Ok(frames) => {
+            let form = told_form(&frames, form);
             let ended = copied(frame_form, frames, STANDARD_OUTPUT, out);
             ending_of(alloc, ended, form, None)
         }

@@ -4,7 +4,7 @@ ghost use Rattle.std.specs.Prelude.{◌≡◌, IfErr, IfOk, bytes_eq, codes, opt
 ghost use Rattle.captures.specs.Choices.{IsFramesOf, frames_left};
 ghost use Rattle.commands.specs.Statuses.{IsMakeFailure, IsReadFailure};
 ghost use Rattle.words.specs.FilterRequests.{filter_request_of};
-ghost use Rattle.filtering.specs.Opening.{IsOpenFailure, IsOutputConflict, has_ending, is_capture, kind_by_form, kind_by_name, kind_of_out, MakesNot, frames_path, output_name};
+ghost use Rattle.filtering.specs.Opening.{IsOpenFailure, IsOutputConflict, IsToldForm, told_form, has_ending, is_capture, kind_by_form, kind_by_name, kind_of_out, MakesNot, frames_path, output_name};
 
 use capture_writer::CaptureKind;
 use captures::{FramesOf, OpenFailure};
@@ -201,6 +201,17 @@ pub fn frames_of<'a, S: Source + Drop>(
     }
 }
 
+/// The form of a file by what became of it: one of its own for a capture that is not read.
+pub fn told_form<S>(frames: &FramesOf<S>, form: FileForm) -> FileForm
+    ensures told { result ≡ told_form frames.now form }
+    ensures is_told { IsToldForm form result }
+{
+    match frames {
+        FramesOf::Refused => FileForm::UnreadCapture,
+        FramesOf::Stream(_) | FramesOf::Capture(_) => form,
+    }
+}
+
 /// Opens the frames, and then makes the outputs: the frames out, the report, and what the maps hold
 /// at the end. At the end the first bytes of the frames are read ahead, of a capture its head.
 pub fn open_all<'a, 'b, R: Files + Clock>(
@@ -230,6 +241,7 @@ pub fn open_all<'a, 'b, R: Files + Clock>(
     let maps_out = open_wanted(rt, alloc, task.maps_out, &read, &written)?;
     let (source, form) = begin_frames(rt, frames, source);
     let source = frames_of(alloc, source, form, frames)?;
+    let form = told_form(&source, form);
     Ok(Opened {
         source,
         form,
