@@ -223,6 +223,7 @@ timed-by_fields : (f : PacketFrame) (bytes : List ℕ) (number : ℕ) → f.head
     ≡ Ok (record {
       head = record { time = f.head.time; interface = number; queue = 0 };
       body = f.body;
+      captured = length f.body;
       original = length f.body;
     })
 timed-by_fields f bytes number fits high low captured original room body =

@@ -18,12 +18,14 @@ read_back Pcap f = record {
         queue = 0;
       };
   body = f.body;
+  captured = length f.body;
   original = length f.body;
 }
 read_back Pcapng f = record {
   head =
       record { time = f.head.time; interface = named_interface f.head.interface; queue = 0 };
   body = f.body;
+  captured = length f.body;
   original = length f.body;
 }
 

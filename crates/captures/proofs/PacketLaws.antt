@@ -24,11 +24,11 @@ packet_bytes-whole form bytes is =
 
 -- a packet has its parts
 pub packet_of-parts : (form : PcapForm) (bytes frame : List ℕ)
-    (seconds fraction scale interface original : ℕ)
+    (seconds fraction scale interface captured original : ℕ)
     → seconds ≡ field form.order 0 bytes → fraction ≡ field form.order 4 bytes
     → scale ≡ nanoseconds form.unit
     → interface ≡ interface_of form.link 0 (packet_bytes form bytes)
-    → original ≡ field form.order 12 bytes
+    → captured ≡ captured_length form bytes → original ≡ field form.order 12 bytes
     → frame ≡ ethernet_frame form.link (packet_bytes form bytes)
     → packet_with (record {
       head =
@@ -37,10 +37,11 @@ pub packet_of-parts : (form : PcapForm) (bytes frame : List ℕ)
             interface = interface;
             queue = 0;
           };
+      captured = captured;
       original = original;
     }) frame ≡ packet_of form bytes
-packet_of-parts form bytes frame seconds fraction scale interface original a b c d e f =
-    rw (a, b, c, d, e, f) refl
+packet_of-parts form bytes frame seconds fraction scale interface captured original a b c d e f g =
+    rw (a, b, c, d, e, f, g) refl
 
 -- ---- pcapng
 
@@ -74,6 +75,7 @@ module _ (interface : Interface) (number time start captured original : ℕ) (bl
       → frame ≡ ethernet_frame link (take captured (drop start block))
       → Ok (packet_with (record {
         head = record { time = time; interface = at; queue = 0 };
+        captured = captured;
         original = original;
       }) frame)
       ≡ packet_by interface number time start captured original block (link_of interface.link)

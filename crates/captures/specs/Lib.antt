@@ -7,5 +7,6 @@ pub mod Collecting
 pub mod Reading
 pub mod Steps
 pub mod FrameBytes
+pub mod Counts
 pub mod Streams
 pub mod Choices

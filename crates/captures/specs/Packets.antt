@@ -13,8 +13,12 @@ use Rattle.captures.specs.Pcap.{CapturedPacket}
 use Rattle.captures.specs.Captured.{SaidRecord}
 
 abbrev pub packet_with : CapturedHead → List ℕ → CapturedPacket
-packet_with head body =
-    record { head = head.head; body = body; original = head.original }
+packet_with head body = record {
+  head = head.head;
+  body = body;
+  captured = head.captured;
+  original = head.original;
+}
 
 -- the packet whose frame is in a block
 abbrev pub framed_packet : List ℕ → FramedPacket → CapturedPacket

@@ -58,10 +58,12 @@ opened bytes =
 
 -- ---- packet records
 
--- a packet: its time and interface, its Ethernet frame, and how many bytes it had on the wire
+-- a packet: its time and interface, its Ethernet frame, how many bytes of it were captured, and how
+-- many it had on the wire
 pub record CapturedPacket : Type 0 where
   pub head : FrameHead
   pub body : List ℕ
+  pub captured : ℕ
   pub original : ℕ
 
 -- the most bytes of a packet. libpcap, MAXIMUM_SNAPLEN
@@ -96,5 +98,6 @@ packet_of form bytes = record {
         queue = 0;
       };
   body = ethernet_frame form.link (packet_bytes form bytes);
+  captured = captured_length form bytes;
   original = field form.order 12 bytes;
 }

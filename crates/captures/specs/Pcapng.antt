@@ -152,6 +152,7 @@ packet_by interface number time start captured original block (Some link) =
             queue = 0;
           };
       body = ethernet_frame link (take captured (drop start block));
+      captured = captured;
       original = original;
     })
 

@@ -1,11 +1,13 @@
--- The bytes that a capture's frame stream has left.
-use Rattle.std.specs.Prelude.{◌≡◌, ℕ, List, slice_range, Option, Some, None, Result, Ok, Err, option_map}
+-- The bytes that a capture's frame stream has left, and its counts.
+use Rattle.std.specs.Prelude.{◌≡◌, ℕ, List, slice_range, Option, Some, None, Result, Ok, Err, IfOk, option_map}
 use Rattle.std.specs.Io.KnownBytes.{prepend_known}
 use Rattle.captures.specs.declared.reader.OpenFailure.{OpenFailure}
 use Rattle.captures.specs.declared.reader.OpenFailure.TheVariants as failure
 use Rattle.captures.specs.declared.streams.CaptureStream.{CaptureStream}
 use Rattle.captures.specs.Captured.{captured}
+use Rattle.captures.specs.declared.counts.CaptureCounts.{CaptureCounts}
 use Rattle.captures.specs.Reading.{bytes_left}
+use Rattle.captures.specs.Counts.{counts_rest, none_counted}
 use Rattle.captures.specs.FrameBytes.{stream_of_capture, stream_rest}
 
 -- those that are spelled already, and then those of the packets that the reader has left
@@ -25,3 +27,15 @@ OpensStreamOf remaining (Some bytes) (Err (failure.Refused refusal)) =
     captured bytes ≡ Err refusal
 OpensStreamOf remaining (Some bytes) (Err failure.Unread) = Unit {0}
 OpensStreamOf remaining (Some bytes) (Err failure.NoMemory) = Unit {0}
+
+-- ---- counts
+
+-- nothing is counted when a stream is opened
+abbrev pub BeginsCounts : {R : Type 0} → Result (CaptureStream R) OpenFailure → Type 0
+BeginsCounts result = IfOk result (λ s. s.counts ≡ none_counted)
+
+-- the counts of a stream once it has found all packets that are left
+abbrev pub counts_left : {R : Type 0} → (R → Option (List ℕ)) → CaptureStream R
+    → Option CaptureCounts
+counts_left remaining s =
+    option_map (counts_rest s.counts s.ended s.reader.position) (bytes_left remaining s.reader)

@@ -141,6 +141,7 @@ fn packet_by(
     Ok(FramedPacket {
         head: CapturedHead {
             head,
+            captured: place.captured as u32,
             original: place.original,
         },
         from,

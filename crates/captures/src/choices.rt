@@ -1,7 +1,11 @@
 //! A source that is a frame stream, or a capture that becomes one.
 
-ghost use Rattle.std.specs.Prelude.{true};
+ghost use Rattle.std.specs.Prelude.{◌≡◌, true, IfOk};
+ghost use Rattle.std.specs.Io.{ReadsAtMost};
+ghost use Rattle.std.specs.Io.KnownBytes.{ReadConsumes};
+ghost use Rattle.captures.specs.Counts.{KeepsCounts, none_counted};
 
+use super::counts::CaptureCounts;
 use super::reader::OpenFailure;
 use super::streams::CaptureStream;
 use frames::Source;
@@ -18,14 +22,15 @@ pub enum FramesOf<R> {
 }
 
 impl<R: Source> FramesOf<R> {
-    ghost use Rattle.captures.specs.Choices.{OpensFrames};
+    ghost use Rattle.captures.specs.Choices.{OpensFrames, frames_counts};
 
     /// The frame stream of a source: of a capture that which it becomes, for which the head is read
     /// and memory is taken.
     pub fn open(alloc: Global, source: R, is_capture: bool) -> Result<Self, OpenFailure>
     where
         R: Drop,
-        ensures { OpensFrames R.remaining (R.remaining source) is_capture result }
+        ensures frames { OpensFrames R.remaining (R.remaining source) is_capture result }
+        ensures counts { IfOk result (λ f. frames_counts f ≡ none_counted) }
     {
         if !is_capture {
             return Ok(FramesOf::Stream(source));
@@ -38,15 +43,35 @@ impl<R: Source> FramesOf<R> {
     }
 }
 
+impl<R> FramesOf<R> {
+    ghost use Rattle.captures.specs.Choices.{frames_counts};
+
+    /// Returns how many of the packets that were found so far the stream does not say whole.
+    pub fn counts(&self) -> CaptureCounts
+        ensures { result ≡ frames_counts self.now }
+    {
+        match self {
+            FramesOf::Stream(_) | FramesOf::Refused => CaptureCounts::none(),
+            FramesOf::Capture(stream) => stream.counts(),
+        }
+    }
+}
+
 impl<R: Source> Source for FramesOf<R> {
-    ghost use Rattle.captures.specs.Choices.{frames_left};
+    ghost use Rattle.captures.specs.Choices.{frames_counts_left, frames_left};
 
     ghost remaining = { frames_left R.remaining };
 
     ghost may_fail = { true };
 
     #[inline(always)]
-    fn read_some(&mut self, buffer: &mut [u8]) -> io::Result<usize> {
+    fn read_some(&mut self, buffer: &mut [u8]) -> io::Result<usize>
+        ensures bound { ReadsAtMost result buffer.new }
+        ensures bytes { ReadConsumes (frames_left R.remaining self.old)
+            (frames_left R.remaining self.new) result buffer.new }
+        ensures counts { KeepsCounts (frames_counts_left R.remaining self.old)
+            (frames_counts_left R.remaining self.new) }
+    {
         match self {
             FramesOf::Stream(source) => source.read_some(buffer),
             FramesOf::Capture(stream) => stream.read_some(buffer),

@@ -9,6 +9,7 @@
 mod blocks;
 mod choices;
 mod collecting;
+mod counts;
 mod forms;
 mod gathering;
 mod interfaces;
@@ -21,6 +22,7 @@ mod spelling;
 mod streams;
 
 pub use choices::FramesOf;
+pub use counts::CaptureCounts;
 pub use forms::{
     CaptureFormat, CaptureRefusal, LinkType, MAX_BLOCK, MAX_CAPTURED, NumberOrder, PcapForm,
     TimeUnit, capture_format,

@@ -13,7 +13,9 @@ use isa_model::FrameHead;
 pub struct CapturedHead {
     /// Its time and interface.
     pub head: FrameHead,
-    /// How many bytes the packet had on the wire.
+    /// How many bytes of the packet were captured.
+    pub captured: u32,
+    /// How many bytes it had on the wire.
     pub original: u32,
 }
 
@@ -64,6 +66,7 @@ pub fn take_packet(form: PcapForm, bytes: &mut [u8]) -> FramedPacket
 {
     let seconds = number_at(form.order, bytes, 0) as u64;
     let fraction = number_at(form.order, bytes, 4) as u64;
+    let captured = number_at(form.order, bytes, 8);
     let original = number_at(form.order, bytes, 12);
     let end = bytes.len();
     let interface = interface_of(form.link, 0, &bytes[16..end]);
@@ -75,7 +78,11 @@ pub fn take_packet(form: PcapForm, bytes: &mut [u8]) -> FramedPacket
     };
     let (from, to) = settle(form.link, bytes, 16, end);
     FramedPacket {
-        head: CapturedHead { head, original },
+        head: CapturedHead {
+            head,
+            captured,
+            original,
+        },
         from,
         to,
     }

@@ -4,7 +4,9 @@ ghost use Rattle.std.specs.Prelude.{◌≡◌, ◌≤◌, ◌+◌, true, false, 
 ghost use Rattle.std.specs.Io.{ReadsAtMost};
 ghost use Rattle.std.specs.Io.KnownBytes.{Keeps, ReadConsumes};
 ghost use Rattle.isa_model.specs.Code.Limits.{max_packet};
+ghost use Rattle.captures.specs.Counts.{KeepsCounts};
 
+use super::counts::CaptureCounts;
 use super::reader::{CaptureReader, Captured, OpenFailure};
 use super::spelling::{RECORD, put_end, put_magic, put_record};
 use frames::Source;
@@ -21,18 +23,20 @@ pub struct CaptureStream<R> {
     count: usize,
     // Whether what stands where the packets end was spelled.
     ended: bool,
+    counts: CaptureCounts,
     ghost ordered: { given ≤ count },
     ghost inside: { count ≤ 24 + max_packet },
 }
 
 impl<R: Source> CaptureStream<R> {
-    ghost use Rattle.captures.specs.Streams.{OpensStreamOf, stream_left};
+    ghost use Rattle.captures.specs.Streams.{BeginsCounts, OpensStreamOf, counts_left, stream_left};
 
     /// Reads the head of a capture, and takes memory for the longest packet.
     pub fn open(alloc: Global, source: R) -> Result<Self, OpenFailure>
     where
         R: Drop,
-        ensures { OpensStreamOf R.remaining (R.remaining source) result }
+        ensures opens { OpensStreamOf R.remaining (R.remaining source) result }
+        ensures counts { BeginsCounts result }
     {
         match CaptureReader::open(alloc, source) {
             Ok(reader) => {
@@ -44,6 +48,7 @@ impl<R: Source> CaptureStream<R> {
                     given: 0,
                     count,
                     ended: false,
+                    counts: CaptureCounts::none(),
                 })
             }
             Err(failure) => Err(failure),
@@ -56,10 +61,13 @@ impl<R: Source> CaptureStream<R> {
         requires spent { self.old.given ≡ self.old.count }
         requires going { self.old.ended ≡ false }
         ensures bytes { Keeps (stream_left R.remaining self.old) (stream_left R.remaining self.new) }
+        ensures counts { KeepsCounts (counts_left R.remaining self.old)
+            (counts_left R.remaining self.new) }
         ensures some { OnOk result (self.new.given ≡ self.new.count → self.new.ended ≡ true) }
     {
         match self.reader.next() {
             Captured::Packet(head) => {
+                self.counts = self.counts.after(&head, self.reader.frame());
                 let count = put_record(&mut self.held, &head, self.reader.frame());
                 self.given = 0;
                 self.count = count;
@@ -80,6 +88,7 @@ impl<R: Source> CaptureStream<R> {
     #[inline(always)]
     fn give(&mut self, buffer: &mut [u8]) -> io::Result<usize>
         requires { self.old.given ≡ self.old.count → self.old.ended ≡ true }
+        ensures counts { counts_left R.remaining self.new ≡ counts_left R.remaining self.old }
         ensures bound { ReadsAtMost result buffer.new }
         ensures bytes { ReadConsumes (stream_left R.remaining self.old)
             (stream_left R.remaining self.new) result buffer.new }
@@ -91,15 +100,30 @@ impl<R: Source> CaptureStream<R> {
     }
 }
 
+impl<R> CaptureStream<R> {
+    /// Returns how many of the packets that were found so far the stream does not say whole.
+    pub fn counts(&self) -> CaptureCounts
+        ensures { result ≡ self.now.counts }
+    {
+        self.counts
+    }
+}
+
 impl<R: Source> Source for CaptureStream<R> {
-    ghost use Rattle.captures.specs.Streams.{stream_left};
+    ghost use Rattle.captures.specs.Streams.{counts_left, stream_left};
 
     ghost remaining = { stream_left R.remaining };
 
     ghost may_fail = { true };
 
     #[inline(always)]
-    fn read_some(&mut self, buffer: &mut [u8]) -> io::Result<usize> {
+    fn read_some(&mut self, buffer: &mut [u8]) -> io::Result<usize>
+        ensures bound { ReadsAtMost result buffer.new }
+        ensures bytes { ReadConsumes (stream_left R.remaining self.old)
+            (stream_left R.remaining self.new) result buffer.new }
+        ensures counts { KeepsCounts (counts_left R.remaining self.old)
+            (counts_left R.remaining self.new) }
+    {
         if self.given == self.count && !self.ended {
             self.advance()?;
         }

@@ -8,8 +8,8 @@ returns-clause-packet c =
     let form = c.args.form in
     let all = c.args.bytes.now in
     let bytes = packet_bytes-whole form all c.requires.size in
-    packet_of-parts form all _ _ _ _ _ _ c.number_at-seconds.ensures c.number_at-fraction.ensures
+    packet_of-parts form all _ _ _ _ _ _ _ c.number_at-seconds.ensures c.number_at-fraction.ensures
     c.nanoseconds.ensures.count
     (c.interface_of-interface.ensures ∙ ap (interface_of form.link 0) (sym bytes))
-    c.number_at-original.ensures
+    c.number_at-captured.ensures c.number_at-original.ensures
     (c.settle-from.ensures.frame ∙ ap (ethernet_frame form.link) (sym bytes))
