@@ -13,6 +13,7 @@ mod counts;
 mod forms;
 mod gathering;
 mod interfaces;
+mod lending;
 mod links;
 mod options;
 mod packets;
@@ -27,6 +28,7 @@ pub use forms::{
     CaptureFormat, CaptureRefusal, LinkType, MAX_BLOCK, MAX_CAPTURED, NumberOrder, PcapForm,
     TimeUnit, capture_format,
 };
+pub use lending::Lent;
 pub use packets::{CapturedHead, PacketEnd, PacketFault};
 pub use reader::{CaptureReader, Captured, OpenFailure};
 pub use streams::CaptureStream;
