@@ -24,7 +24,7 @@ use Rattle.filtering.specs.declared.ready.Ready.TheVariants.{Bounded as Bound, T
 use Rattle.filtering.specs.Filling.{BeginsNot, BeginsWith}
 use Rattle.filtering.specs.Files.{EndsRun, FiltersBy, FiltersOn, FiltersSome}
 use Rattle.filtering.specs.Finishing.{WritesEnd}
-use Rattle.filtering.specs.Losing.{WithLoss}
+use Rattle.filtering.specs.Losing.{WithUnsaid}
 use Rattle.filtering.specs.Opening.{IsOpenFailure, output_name}
 use Rattle.filtering.specs.Running.{program_of}
 
@@ -61,7 +61,7 @@ verified_refused request p old mid new r e fits h known =
 pub verified_run : (request : FilterRequest) (p : Program) (v : Bounded)
     (old mid more new : Option (List ℕ)) (r : Ending) → mid ≡ old → more ≡ mid
     → IsImage p → v.program ≡ p → IsBoundOf v.program v.bound
-    → WithLoss (FiltersOn (Bound v) request more new) r
+    → WithUnsaid (FiltersOn (Bound v) request more new) r
     → FiltersBy Verified request old new r
 verified_run request p v old mid more new r e f fits is bound h =
     let here : FiltersOn (Bound v) request old new r.outcome =
@@ -71,7 +71,7 @@ verified_run request p v old mid more new r e f fits is bound h =
 -- a table shows the bound
 pub shown_run : (request : FilterRequest) (table : List ℕ) (v : Bounded)
     (old mid new : Option (List ℕ)) (r : Ending) → mid ≡ old → IsShown v
-    → WithLoss (FiltersOn (Bound v) request mid new) r
+    → WithUnsaid (FiltersOn (Bound v) request mid new) r
     → FiltersBy (Shown table) request old new r
 shown_run request table v old mid new r e shown h =
     let here : FiltersOn (Bound v) request old new r.outcome =
@@ -81,7 +81,7 @@ shown_run request table v old mid new r e shown h =
 -- every access is tested while the program runs
 pub checked_run : (request : FilterRequest) (p : Program) (limit : StepLimit)
     (old mid new : Option (List ℕ)) (r : Ending) → mid ≡ old → IsImage p
-    → WithLoss (FiltersOn (Tested p limit) request mid new) r
+    → WithUnsaid (FiltersOn (Tested p limit) request mid new) r
     → FiltersBy (Checked limit.steps) request old new r
 checked_run request p limit old mid new r e fits h =
     let here : FiltersOn (Tested p limit) request old new r.outcome =

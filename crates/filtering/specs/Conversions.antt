@@ -1,11 +1,11 @@
 -- What is done with frames that are written again. No contract can say what the files hold.
-use Rattle.std.specs.Prelude.{◌≡◌, ◌⊎◌, ℕ, List, Option, Some, None, Result, Ok, Err, String, codes, option_map}
-use Rattle.std.specs.declared.alloc.Global.{Global}
+use Rattle.std.specs.Prelude.{◌≡◌, ◌⊎◌, ℕ, List, Option, Some, None, Result, Ok, Err, codes, option_map}
 use Rattle.isa_model.specs.declared.streams.Finish.{Finish}
 use Rattle.isa_model.specs.declared.streams.Finish.TheVariants as finish
 use Rattle.exact_io.specs.declared.buffering.PromptWriter.{PromptWriter}
 use Rattle.exact_io.specs.Waiting.{behind, failure_of, held}
 use Rattle.frames.specs.Sources.{Origin, read_from}
+use Rattle.captures.specs.declared.counts.CaptureCounts.{CaptureCounts}
 use Rattle.captures.specs.Choices.{IsFramesOf}
 use Rattle.converting.specs.declared.forms.FrameForm.{FrameForm}
 use Rattle.converting.specs.declared.forms.StreamEnd.{StreamEnd}
@@ -22,7 +22,9 @@ use Rattle.filtering.specs.declared.conversions.Conversion.TheVariants.{Ended, U
 use Rattle.filtering.specs.declared.losing.Loss.{Loss}
 use Rattle.filtering.specs.Copying.{Copies, CopiesSome}
 use Rattle.filtering.specs.FrameKinds.{capture_kind, form_of, kind_of, printed_form}
-use Rattle.filtering.specs.Losing.{TellsCounts, TellsLoss}
+use Rattle.filtering.specs.declared.losing.Lost.{Lost}
+use Rattle.filtering.specs.declared.losing.Lost.TheVariants.{Nothing, Capture, Stream}
+use Rattle.filtering.specs.Losing.{TellsUnsaid}
 use Rattle.filtering.specs.Opening.{IsToldForm, frames_path, is_capture, output_name}
 
 -- ---- how the task ends
@@ -36,15 +38,14 @@ abbrev pub outcome_of : Result StreamEnd TaskOutcome → FileForm → TaskOutcom
 outcome_of (Ok end) form = outcome_by end.finish form
 outcome_of (Err o) form = o
 
--- the message has at its end what a capture does not say of the frames, or what a stream does not
-abbrev pub TellsUnsaid : Option Loss → Result StreamEnd TaskOutcome → Option (String Global)
-    → Type 0
-TellsUnsaid (Some loss) ended why = TellsLoss (Some loss) why
-TellsUnsaid None (Ok end) why = TellsCounts end.counts why
-TellsUnsaid None (Err o) why = why ≡ None
+-- what the output does not say: a capture that was written, or else a stream that was copied
+abbrev pub lost_by : Option Loss → Result StreamEnd TaskOutcome → Lost
+lost_by (Some loss) ended = Capture loss
+lost_by None (Ok end) = Stream end.counts
+lost_by None (Err o) = Nothing
 
 -- The frames of a stream are copied to an output of this name, as this kind. The message has at its
--- end what is not said of them.
+-- end what is not kept of them.
 pub record ConvertsSome (source : Origin) (form : FileForm) (kind : FramesKind) (name : List ℕ)
     (result : Ending) : Type 0 where
   pub ended : Result StreamEnd TaskOutcome
@@ -52,7 +53,8 @@ pub record ConvertsSome (source : Origin) (form : FileForm) (kind : FramesKind) 
   pub copies : CopiesSome (form_of kind) source name ended
   pub captures : option_map (λ l. l.kind) loss ≡ capture_kind kind
   pub outcome : result.outcome ≡ outcome_of ended form
-  pub tells : TellsUnsaid loss ended result.why
+  pub captured : CaptureCounts
+  pub tells : TellsUnsaid (record { captured = captured; lost = lost_by loss ended }) result.why
 
 -- the frames are copied to standard output, which is `old` before and `new` afterwards
 pub record Prints {W : Type 0} (contents : W → Option (List ℕ)) (source : Origin)
@@ -62,7 +64,8 @@ pub record Prints {W : Type 0} (contents : W → Option (List ℕ)) (source : Or
   pub copies : Copies frame_form source (codes "standard output") (failure_of new)
       (held contents old) (contents (behind new)) ended
   pub outcome : result.outcome ≡ outcome_of ended form
-  pub tells : TellsUnsaid None ended result.why
+  pub captured : CaptureCounts
+  pub tells : TellsUnsaid (record { captured = captured; lost = lost_by None ended }) result.why
 
 -- P holds of a stream with the frames of a file with this path, these bytes and this form: its own
 -- stream, or that which a capture becomes; or memory ran out before

@@ -21,7 +21,7 @@ use Rattle.filtering.specs.declared.ready.Ready.TheVariants.{Bounded, Tested}
 use Rattle.filtering.specs.Delivering.{Filters}
 use Rattle.filtering.specs.Filling.{BeginsNot, BeginsWith}
 use Rattle.filtering.specs.Finishing.{WritesEnd}
-use Rattle.filtering.specs.Losing.{WithLoss}
+use Rattle.filtering.specs.Losing.{WithUnsaid}
 use Rattle.filtering.specs.Opening.{IsOpenFailure, output_name}
 use Rattle.filtering.specs.Running.{program_of}
 
@@ -76,15 +76,15 @@ FiltersBy Verified request old new result =
     Plainly (LoadsNone request.files.image old new) result
     ⊎ (ReadsImage (λ p. RefusesProgram p old new result.outcome × IsKnownOfProgram p result)
     ⊎ ReadsImage (λ p. (bound : ℕ) × IsBoundOf p bound
-    × WithLoss (FiltersOn (Bounded (record { program = p; bound = bound })) request old new)
+    × WithUnsaid (FiltersOn (Bounded (record { program = p; bound = bound })) request old new)
     result))
 FiltersBy (Shown table) request old new result =
     ShowsNone (record { image = request.files.image; table = table }) old new result
-    ⊎ ShowsSome (λ v. WithLoss (FiltersOn (Bounded v) request old new) result)
+    ⊎ ShowsSome (λ v. WithUnsaid (FiltersOn (Bounded v) request old new) result)
 FiltersBy (Checked steps) request old new result =
     Plainly (LoadsNone request.files.image old new) result
     ⊎ ReadsImage (λ p. (limit : StepLimit) × (limit.steps ≡ steps)
-    × WithLoss (FiltersOn (Tested p limit) request old new) result)
+    × WithUnsaid (FiltersOn (Tested p limit) request old new) result)
 
 -- what a request does
 abbrev pub FiltersFiles : FilterRequest → Option (List ℕ) → Option (List ℕ) → Ending → Type 0

@@ -1,10 +1,14 @@
--- The lines that say what a capture or a stream does not say of the frames that were written to it.
+-- The lines that say what is not kept of the frames that are read or written.
 use Rattle.std.specs.Prelude.{◌≡◌, ℕ, ◌==◌, List, [], ◌++◌, Option, Some, None, String, IfSome, codes, decimal, if◌then◌else◌}
 use Rattle.std.specs.declared.alloc.Global.{Global}
 use Rattle.std.specs.String.{string_bytes}
 use Rattle.commands.specs.declared.outcomes.TaskOutcome.{TaskOutcome}
 use Rattle.commands.specs.declared.endings.Ending.{Ending}
 use Rattle.filtering.specs.declared.losing.Loss.{Loss}
+use Rattle.filtering.specs.declared.losing.Lost.{Lost}
+use Rattle.filtering.specs.declared.losing.Lost.TheVariants.{Nothing, Capture, Stream}
+use Rattle.filtering.specs.declared.losing.Unsaid.{Unsaid}
+use Rattle.captures.specs.declared.counts.CaptureCounts.{CaptureCounts}
 use Rattle.capture_writer.specs.declared.kinds.CaptureKind.{CaptureKind}
 use Rattle.capture_writer.specs.declared.kinds.CaptureKind.TheVariants.{Pcap, Pcapng}
 use Rattle.capture_writer.specs.declared.kinds.LostCounts.{LostCounts}
@@ -20,7 +24,7 @@ abbrev pub interface_words : CaptureKind → List ℕ
 interface_words Pcap = codes "their interface, which a pcap has not, and a pcapng has"
 interface_words Pcapng = codes "their interface, since it is 4,096 or more"
 
--- the counts that are not 0
+-- what a capture that was written does not say of its frames
 abbrev pub lost_text : CaptureKind → LostCounts → List ℕ
 lost_text kind lost =
     lost_line (interface_words kind) lost.interfaces
@@ -28,29 +32,41 @@ lost_text kind lost =
     ++ (lost_line (codes "their reason, which a pcap has not, and a pcapng has") lost.reasons
     ++ lost_line (codes "their time, which a pcap has up to 2106") lost.times))
 
--- a line with the count of frames that are left out, unless it is 0
-abbrev pub left_line : ℕ → List ℕ
-left_line count =
-    if count == 0 then []
-    else codes "frames left out, since XPF1 takes up to 4,096 bytes, and XPF2 (--reasons) up to 9,216: "
-    ++ (decimal count ++ codes "\n")
+-- a line with a count, unless it is 0
+abbrev pub count_line : List ℕ → ℕ → List ℕ
+count_line words count =
+    if count == 0 then [] else words ++ (codes ": " ++ (decimal count ++ codes "\n"))
 
--- what a stream does not say of the frames that were copied
+-- what the stream that a capture becomes does not say
+abbrev pub captured_text : CaptureCounts → List ℕ
+captured_text counts =
+    count_line (codes "frames that were cut when they were captured") counts.cut
+    ++ count_line (codes "frames of over 9,216 bytes, which no stream takes") counts.long
+
+-- what a stream does not say of the frames that were copied to it
 abbrev pub left_text : CopyCounts → List ℕ
 left_text counts =
-    left_line counts.left_out
+    count_line
+    (codes "frames left out, since XPF1 takes up to 4,096 bytes, and XPF2 (--reasons) up to 9,216")
+    counts.left_out
     ++ lost_line (codes "their reason, which XPF1 has not, and XPF2 (--reasons) has")
     counts.unreasoned
 
-abbrev pub TellsCounts : CopyCounts → Option (String Global) → Type 0
-TellsCounts counts why = IfSome why (λ text. string_bytes text ≡ left_text counts)
+-- what the output does not say of the frames
+abbrev pub lost_of : Lost → List ℕ
+lost_of Nothing = []
+lost_of (Capture loss) = lost_text loss.kind loss.counts
+lost_of (Stream counts) = left_text counts
 
--- the lines at the end of the message after a run: what its capture has lost, if there is one
-abbrev pub TellsLoss : Option Loss → Option (String Global) → Type 0
-TellsLoss None why = why ≡ None
-TellsLoss (Some loss) why =
-    IfSome why (λ text. string_bytes text ≡ lost_text loss.kind loss.counts)
+-- what is not kept of the frames
+abbrev pub unsaid_text : Unsaid → List ℕ
+unsaid_text unsaid = captured_text unsaid.captured ++ lost_of unsaid.lost
 
--- the property holds of the task's outcome, and its message has at its end what was lost
-abbrev pub WithLoss : (TaskOutcome → Type 0) → Ending → Type 0
-WithLoss P ending = P ending.outcome × ((loss : Option Loss) × TellsLoss loss ending.why)
+-- the lines at the end of the message, if there was memory for them
+abbrev pub TellsUnsaid : Unsaid → Option (String Global) → Type 0
+TellsUnsaid unsaid why = IfSome why (λ text. string_bytes text ≡ unsaid_text unsaid)
+
+-- the property holds of the task's outcome, and its message has at its end what is not kept of the
+-- frames
+abbrev pub WithUnsaid : (TaskOutcome → Type 0) → Ending → Type 0
+WithUnsaid P ending = P ending.outcome × ((unsaid : Unsaid) × TellsUnsaid unsaid ending.why)

@@ -6,13 +6,16 @@ ghost use Rattle.words.specs.FilterRequests.{convert_request_of};
 ghost use Rattle.commands.specs.Statuses.{IsMakeFailure};
 ghost use Rattle.filtering.specs.FrameKinds.{capture_kind, form_of};
 ghost use Rattle.filtering.specs.Copying.{CopiesSome};
-ghost use Rattle.filtering.specs.Conversions.{ConvertsBegun, ConvertsFiles, ConvertsFrom, PrintsFrom, TellsUnsaid, outcome_of};
+ghost use Rattle.filtering.specs.Conversions.{ConvertsBegun, ConvertsFiles, ConvertsFrom, PrintsFrom, lost_by, outcome_of};
+ghost use Rattle.captures.specs.Choices.{frames_left};
+ghost use Rattle.filtering.specs.Losing.{TellsUnsaid};
 
 use super::copying::{copied, copied_to_capture};
 use super::frame_kinds::{kind_of, printed_form};
-use super::losing::{Loss, ending_counted, ending_with};
+use super::losing::{Loss, Lost, Unsaid, ending_with};
 use super::opening::{frames_of, frames_path, open_sent, output_name, told_form};
 use capture_writer::{CaptureKind, Unfollowed};
+use captures::Lent;
 use commands::{Ending, STANDARD_OUTPUT, TaskOutcome, begin_frames, keep_apart, open_frames};
 use converting::{FrameForm, StreamEnd};
 use exact_io::PromptWriter;
@@ -57,22 +60,14 @@ fn outcome_of<'a>(ended: Result<StreamEnd, TaskOutcome<'a>>, form: FileForm) -> 
     }
 }
 
-// The same, with the lines of what is not said of the frames.
-fn ending_of<'a>(
-    alloc: Global,
-    ended: Result<StreamEnd, TaskOutcome<'a>>,
-    form: FileForm,
-    loss: Option<Loss>,
-) -> Ending<'a>
-    ensures outcome { result.outcome ≡ outcome_of ended.entry form }
-    ensures why { TellsUnsaid loss ended.entry result.why }
+// What the output does not say: a capture that was written, or else a stream that was copied.
+fn lost_by(loss: Option<Loss>, ended: &Result<StreamEnd, TaskOutcome<'_>>) -> Lost
+    ensures { result ≡ lost_by loss ended.now }
 {
-    if loss.is_some() {
-        return ending_with(alloc, outcome_of(ended, form), loss);
-    }
-    match ended {
-        Ok(end) => ending_counted(alloc, outcome_of(Ok(end), form), end.counts),
-        Err(outcome) => Ending::plain(outcome),
+    match (loss, ended) {
+        (Some(loss), _) => Lost::Capture(loss),
+        (None, Ok(end)) => Lost::Stream(end.counts),
+        (None, Err(_)) => Lost::Nothing,
     }
 }
 
@@ -126,10 +121,17 @@ fn convert_from<'a, S: Source + Drop, W: Write + Drop>(
 {
     let form = from.form;
     match frames_of(alloc, from.source, form, from.path) {
-        Ok(frames) => {
+        Ok(mut frames) => {
             let form = told_form(&frames, form);
-            let (ended, loss) = convert_to(frames, kind, name, output);
-            ending_of(alloc, ended, form, loss)
+            let lent = Lent {
+                source: &mut frames,
+            };
+            let (ended, loss) = convert_to(lent, kind, name, output);
+            let unsaid = Unsaid {
+                captured: frames.counts(),
+                lost: lost_by(loss, &ended),
+            };
+            ending_with(alloc, outcome_of(ended, form), unsaid)
         }
         Err(outcome) => Ending::plain(outcome),
     }
@@ -147,10 +149,17 @@ fn print_from<'a, S: Source + Drop, W: Write + Drop>(
 {
     let form = from.form;
     match frames_of(alloc, from.source, form, from.path) {
-        Ok(frames) => {
+        Ok(mut frames) => {
             let form = told_form(&frames, form);
-            let ended = copied(frame_form, frames, STANDARD_OUTPUT, out);
-            ending_of(alloc, ended, form, None)
+            let lent = Lent {
+                source: &mut frames,
+            };
+            let ended = copied(frame_form, lent, STANDARD_OUTPUT, out);
+            let unsaid = Unsaid {
+                captured: frames.counts(),
+                lost: lost_by(None, &ended),
+            };
+            ending_with(alloc, outcome_of(ended, form), unsaid)
         }
         Err(outcome) => Ending::plain(outcome),
     }

@@ -1,23 +1,25 @@
 //! What is done with the files of a run.
 
-ghost use Rattle.std.specs.Prelude.{◌≡◌, OnOk, option_map};
+ghost use Rattle.std.specs.Prelude.{◌≡◌, true, OnOk, option_map};
 ghost use Rattle.exact_io.specs.Waiting.{behind};
+ghost use Rattle.captures.specs.Choices.{frames_left};
 ghost use Rattle.maps.specs.Maps.{contents_of, rows_of};
 ghost use Rattle.words.specs.FilterRequests as judging;
 ghost use Rattle.words.specs.FilterRequests.{filter_request_of};
 ghost use Rattle.filtering.specs.Running.{program_of};
 ghost use Rattle.filtering.specs.Capturing.{HasCaptured};
 ghost use Rattle.filtering.specs.Files.{FiltersBy, FiltersFiles, FiltersOn, FiltersSome, RunsWanted};
-ghost use Rattle.filtering.specs.Losing.{WithLoss};
+ghost use Rattle.filtering.specs.Losing.{WithUnsaid};
 
 use super::delivering::{Names, run_reported, run_unreported};
 use super::filling::maps_begun;
 use super::finishing::finish;
-use super::losing::{Loss, ending_with};
+use super::losing::{Loss, Lost, Unsaid, ending_with};
 use super::opening::{Named, Opened, open_all, output_name};
 use super::ready::Ready;
 use super::sending::SentOutput;
 use capture_writer::{CaptureForm, CaptureKind, CaptureWriter, Followed, Unfollowed};
+use captures::{FramesOf, Lent};
 use commands::{Ending, TaskOutcome, judge, load_image, load_shown};
 use frames::Source;
 use host::Counted;
@@ -75,7 +77,7 @@ fn run_captured<'a, S: Source + Drop, W1: Write + Drop, W2: Write + Drop, T: Fol
     run_wanted(alloc, ready, maps, source, report, name, sent)
 }
 
-// Runs a program, with a capture of the frames that pass. `loss` gets what it does not say.
+// Runs a program, with a capture of the frames that pass. `lost` gets what it does not say.
 fn filter_to_capture<'a, S: Source + Drop, W1: Write + Drop, W2: Write>(
     alloc: Global,
     ready: Ready,
@@ -84,7 +86,7 @@ fn filter_to_capture<'a, S: Source + Drop, W1: Write + Drop, W2: Write>(
     kind: CaptureKind,
     name: &'a str,
     lines: &mut W2,
-    loss: &mut Option<Loss>,
+    lost: &mut Lost,
 ) -> TaskOutcome<'a>
     requires { rows_of maps ≡ (program_of ready).maps }
     ensures { FiltersSome ready (contents_of maps)
@@ -107,7 +109,7 @@ fn filter_to_capture<'a, S: Source + Drop, W1: Write + Drop, W2: Write>(
     };
     let mut sent = CaptureWriter::new(sent, passing, Unfollowed);
     let ended = run_captured(alloc, ready, maps, source, report, name, &mut sent);
-    *loss = Some(Loss {
+    *lost = Lost::Capture(Loss {
         kind,
         counts: sent.lost(),
     });
@@ -148,7 +150,7 @@ fn filter_to_stream<'a, S: Source + Drop, W1: Write + Drop, W2: Write>(
 }
 
 /// Runs a program on the frames of a stream, from these maps on, and writes all that is wanted to
-/// its outputs. The frames out go to an output of this name; `loss` gets what their capture does
+/// its outputs. The frames out go to an output of this name; `lost` gets what their capture does
 /// not say.
 pub fn filter_opened<'a, S: Source + Drop, W1: Write + Drop, W2: Write>(
     alloc: Global,
@@ -157,7 +159,7 @@ pub fn filter_opened<'a, S: Source + Drop, W1: Write + Drop, W2: Write>(
     opened: Opened<'a, S, W1>,
     name: &'a str,
     lines: &mut W2,
-    loss: &mut Option<Loss>,
+    lost: &mut Lost,
 ) -> TaskOutcome<'a>
     requires { rows_of maps ≡ (program_of ready).maps }
     ensures { FiltersSome ready (contents_of maps)
@@ -167,9 +169,49 @@ pub fn filter_opened<'a, S: Source + Drop, W1: Write + Drop, W2: Write>(
         (W2.contents lines.old) (W2.contents lines.new) result }
 {
     match opened.kind {
-        Some(kind) => filter_to_capture(alloc, ready, maps, opened, kind, name, lines, loss),
+        Some(kind) => filter_to_capture(alloc, ready, maps, opened, kind, name, lines, lost),
         None => filter_to_stream(alloc, ready, maps, opened, name, lines),
     }
+}
+
+// Runs a program as `filter_opened` does, and notes what is not kept of the frames.
+fn filter_counted<'a, S: Source + Drop, W1: Write + Drop, W2: Write>(
+    alloc: Global,
+    ready: Ready,
+    maps: Maps,
+    opened: Opened<'a, FramesOf<S>, W1>,
+    name: &'a str,
+    lines: &mut W2,
+    unsaid: &mut Unsaid,
+) -> TaskOutcome<'a>
+    requires { rows_of maps ≡ (program_of ready).maps }
+    ensures { FiltersSome ready (contents_of maps)
+        record { bytes = frames_left S.remaining opened.entry.source; may_fail = true }
+        opened.entry.form (option_map (λ output. output.path.now) opened.entry.report) name.now
+        (option_map (λ output. output.path.now) opened.entry.maps_out)
+        (W2.contents lines.old) (W2.contents lines.new) result }
+{
+    let Opened {
+        mut source,
+        form,
+        sent,
+        kind,
+        report,
+        maps_out,
+    } = opened;
+    let lent = Opened {
+        source: Lent {
+            source: &mut source,
+        },
+        form,
+        sent,
+        kind,
+        report,
+        maps_out,
+    };
+    let outcome = filter_opened(alloc, ready, maps, lent, name, lines, &mut unsaid.lost);
+    unsaid.captured = source.counts();
+    outcome
 }
 
 // Runs a program that is ready: its maps are filled, then the frames are opened, and then the
@@ -180,7 +222,7 @@ fn filter_on<'a, R: Files + Clock, W: Write>(
     ready: Ready,
     task: FilterTask<'a>,
     lines: &mut W,
-    loss: &mut Option<Loss>,
+    unsaid: &mut Unsaid,
 ) -> TaskOutcome<'a>
     ensures { FiltersOn ready (filter_request_of task.entry) (W.contents lines.old)
         (W.contents lines.new) result }
@@ -192,13 +234,13 @@ fn filter_on<'a, R: Files + Clock, W: Write>(
     match open_all(rt, alloc, task) {
         Ok(opened) => {
             let name = output_name(task.paths.out);
-            filter_opened(alloc, ready, maps, opened, name, lines, loss)
+            filter_counted(alloc, ready, maps, opened, name, lines, unsaid)
         }
         Err(outcome) => outcome,
     }
 }
 
-// Runs a program that is ready, and says at the end what its capture does not say.
+// Runs a program that is ready, and says at the end what is not kept of the frames.
 fn run_and_tell<'a, R: Files + Clock, W: Write>(
     rt: &R,
     alloc: Global,
@@ -206,12 +248,12 @@ fn run_and_tell<'a, R: Files + Clock, W: Write>(
     task: FilterTask<'a>,
     lines: &mut W,
 ) -> Ending<'a>
-    ensures { WithLoss (FiltersOn ready (filter_request_of task.entry) (W.contents lines.old)
+    ensures { WithUnsaid (FiltersOn ready (filter_request_of task.entry) (W.contents lines.old)
         (W.contents lines.new)) result }
 {
-    let mut loss = None;
-    let outcome = filter_on(rt, alloc, ready, task, lines, &mut loss);
-    ending_with(alloc, outcome, loss)
+    let mut unsaid = Unsaid::nothing();
+    let outcome = filter_on(rt, alloc, ready, task, lines, &mut unsaid);
+    ending_with(alloc, outcome, unsaid)
 }
 
 // Verifies a program and runs it.

@@ -1,10 +1,11 @@
-//! The lines that say what a capture or a stream does not say of the frames that were written to it.
+//! The lines that say what is not kept of the frames that are read or written.
 
 ghost use Rattle.std.specs.Prelude.{◌≡◌, IfOk};
 ghost use Rattle.std.specs.String.{string_bytes};
-ghost use Rattle.filtering.specs.Losing.{TellsCounts, TellsLoss, interface_words, left_line, left_text, lost_line, lost_text};
+ghost use Rattle.filtering.specs.Losing.{TellsUnsaid, captured_text, count_line, interface_words, left_text, lost_line, lost_of, lost_text, unsaid_text};
 
 use capture_writer::{CaptureKind, LostCounts};
+use captures::CaptureCounts;
 use commands::{Ending, TaskOutcome};
 use converting::CopyCounts;
 use std::alloc::{AllocError, Global};
@@ -29,8 +30,8 @@ fn interface_words(kind: CaptureKind) -> &'static str
     }
 }
 
-/// The lines of all counts that are not 0.
-pub fn lost_text(alloc: Global, kind: CaptureKind, lost: LostCounts) -> Result<String, AllocError>
+// The lines of what a capture does not say.
+fn lost_text(alloc: Global, kind: CaptureKind, lost: LostCounts) -> Result<String, AllocError>
     ensures { IfOk result (λ text. string_bytes text ≡ lost_text kind lost) }
 {
     let interfaces = lost_line(alloc, interface_words(kind), lost.interfaces)?;
@@ -41,57 +42,101 @@ pub fn lost_text(alloc: Global, kind: CaptureKind, lost: LostCounts) -> Result<S
     format!(in alloc; "{interfaces}{queues}{reasons}{times}")
 }
 
-/// What the capture of the frames out does not say.
+/// What a capture that was written does not say.
 #[derive(Clone, Copy)]
 pub struct Loss {
     pub kind: CaptureKind,
     pub counts: LostCounts,
 }
 
-/// How a task ended after a run, with the lines of what its capture has lost, if it has lost
-/// anything and there is memory for them.
-pub fn ending_with<'a>(alloc: Global, outcome: TaskOutcome<'a>, loss: Option<Loss>) -> Ending<'a>
-    ensures outcome { result.outcome ≡ outcome.entry }
-    ensures why { TellsLoss loss result.why }
-{
-    let Some(Loss { kind, counts }) = loss else {
-        return Ending::plain(outcome);
-    };
-    Ending {
-        outcome,
-        why: lost_text(alloc, kind, counts).ok(),
-    }
-}
-
-// A line with the count of frames that are left out, unless it is 0.
-fn left_line(alloc: Global, count: u32) -> Result<String, AllocError>
-    ensures { IfOk result (λ line. string_bytes line ≡ left_line count) }
+// A line with a count, unless it is 0.
+fn count_line(alloc: Global, words: &str, count: u64) -> Result<String, AllocError>
+    ensures { IfOk result (λ line. string_bytes line ≡ count_line words.now count) }
 {
     if count == 0 {
         return Ok(String::new(alloc));
     }
-    let why = "since XPF1 takes up to 4,096 bytes, and XPF2 (--reasons) up to 9,216";
-    format!(in alloc; "frames left out, {why}: {count}\n")
+    format!(in alloc; "{words}: {count}\n")
 }
 
-/// The lines of what a stream does not say.
-pub fn left_text(alloc: Global, counts: CopyCounts) -> Result<String, AllocError>
+// The lines of what the stream that a capture becomes does not say.
+fn captured_text(alloc: Global, counts: CaptureCounts) -> Result<String, AllocError>
+    ensures { IfOk result (λ text. string_bytes text ≡ captured_text counts) }
+{
+    let cut = count_line(
+        alloc,
+        "frames that were cut when they were captured",
+        counts.cut,
+    )?;
+    let words = "frames of over 9,216 bytes, which no stream takes";
+    let long = count_line(alloc, words, counts.long)?;
+    format!(in alloc; "{cut}{long}")
+}
+
+// The lines of what a stream does not say.
+fn left_text(alloc: Global, counts: CopyCounts) -> Result<String, AllocError>
     ensures { IfOk result (λ text. string_bytes text ≡ left_text counts) }
 {
-    let left_out = left_line(alloc, counts.left_out)?;
+    let words =
+        "frames left out, since XPF1 takes up to 4,096 bytes, and XPF2 (--reasons) up to 9,216";
+    let left_out = count_line(alloc, words, counts.left_out as u64)?;
     let reasons = "their reason, which XPF1 has not, and XPF2 (--reasons) has";
     let reasons = lost_line(alloc, reasons, counts.unreasoned as u64)?;
     format!(in alloc; "{left_out}{reasons}")
 }
 
-/// How a task ended after frames were copied to a stream, with the lines of what it does not say of
-/// them, if there is memory for these.
-pub fn ending_counted<'a>(alloc: Global, outcome: TaskOutcome<'a>, counts: CopyCounts) -> Ending<'a>
+/// What the output does not say of the frames.
+#[derive(Clone, Copy)]
+pub enum Lost {
+    Nothing,
+    Capture(Loss),
+    Stream(CopyCounts),
+}
+
+// The lines of what the output does not say.
+fn lost_of(alloc: Global, lost: Lost) -> Result<String, AllocError>
+    ensures { IfOk result (λ text. string_bytes text ≡ lost_of lost) }
+{
+    match lost {
+        Lost::Nothing => Ok(String::new(alloc)),
+        Lost::Capture(Loss { kind, counts }) => lost_text(alloc, kind, counts),
+        Lost::Stream(counts) => left_text(alloc, counts),
+    }
+}
+
+/// What is not kept of the frames.
+#[derive(Clone, Copy)]
+pub struct Unsaid {
+    pub captured: CaptureCounts,
+    pub lost: Lost,
+}
+
+impl Unsaid {
+    /// All is kept, as far as is known.
+    pub fn nothing() -> Unsaid {
+        Unsaid {
+            captured: CaptureCounts::none(),
+            lost: Lost::Nothing,
+        }
+    }
+}
+
+// The lines of what is not kept.
+fn unsaid_text(alloc: Global, unsaid: Unsaid) -> Result<String, AllocError>
+    ensures { IfOk result (λ text. string_bytes text ≡ unsaid_text unsaid) }
+{
+    let captured = captured_text(alloc, unsaid.captured)?;
+    let lost = lost_of(alloc, unsaid.lost)?;
+    format!(in alloc; "{captured}{lost}")
+}
+
+/// How a task ended, with the lines of what is not kept of the frames, if there is memory for them.
+pub fn ending_with<'a>(alloc: Global, outcome: TaskOutcome<'a>, unsaid: Unsaid) -> Ending<'a>
     ensures outcome { result.outcome ≡ outcome.entry }
-    ensures why { TellsCounts counts result.why }
+    ensures why { TellsUnsaid unsaid result.why }
 {
     Ending {
         outcome,
-        why: left_text(alloc, counts).ok(),
+        why: unsaid_text(alloc, unsaid).ok(),
     }
 }

@@ -5,8 +5,8 @@ use Rattle.words.specs.FilterRequests.{filter_request_of}
 use Rattle.filtering.proofs.FilesLaws.{filters_opened, filters_unbegun, filters_unopened}
 use Rattle.filtering.proofs.files.filter_on.Goals as goal
 
-pub filter_opened-requires : goal.filter_opened-requires
-filter_opened-requires g c =
+pub filter_counted-requires : goal.filter_counted-requires
+filter_counted-requires g c =
     c.in-Ok.ensures.rows ∙ ap (λ (p : Program). p.maps) c.image.ensures
 
 pub returns-in-Err : goal.returns-in-Err
@@ -19,7 +19,7 @@ returns-in-Ok-open_all g c =
     filters_opened c.args.ready (filter_request_of c.args.task) _ (contents_of c.in-Ok.maps) _ _ _
     _ _ _ _ _ _ c.image.ensures c.in-Ok.ensures.begins c.in-Ok.ensures.ok
     c.in-Ok-open_all.ensures.report c.in-Ok-open_all.ensures.maps_out c.output_name-name.ensures
-    c.filter_opened.ensures
+    c.filter_counted.ensures
 
 pub returns : goal.returns
 returns g c =

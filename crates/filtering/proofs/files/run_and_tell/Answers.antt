@@ -9,5 +9,5 @@ returns g c = (
   subst (λ (o : TaskOutcome). FiltersOn c.args.ready (filter_request_of c.args.task)
       (g.W.Write.contents c.args.lines.now) (g.W.Write.contents c.filter_on-outcome.new.lines) o)
       (sym c.ending_with.ensures.outcome) c.filter_on-outcome.ensures,
-  (c.filter_on-outcome.new.loss, c.ending_with.ensures.why),
+  (c.filter_on-outcome.new.unsaid, c.ending_with.ensures.why),
 )
