@@ -109,9 +109,29 @@ class Frames(unittest.TestCase):
         found, why = frames_in(data)
         self.assertEqual((found, why), ([frames.Frame(10**9 + 2000, 7, 0, bytes(6) + b"\2\0\0\0\0\1\x08\0abc")], None))
 
+    def test_packets_without_an_ethernet_head(self) -> None:
+        rows = (
+            (101, b"\x45abc", b"\x08\0\x45abc"),
+            (12, b"\x60abc", b"\x86\xdd\x60abc"),
+            (229, b"\x50", b"\0\0\x50"),
+            (228, b"", b"\0\0"),
+            (0, b"\0\0\0\2abc", b"\x08\0abc"),
+            (0, b"\x1e\0\0\0abc", b"\x86\xddabc"),
+            (108, b"\0\0\0\x18abc", b"\x86\xddabc"),
+            (108, b"\2\0\0\0abc", b"\0\0abc"),
+            (0, b"\2\0\0", b"\0\0"),
+        )
+        for link, packet, wanted in rows:
+            size = len(packet)
+            data = struct.pack("<IHHiIIIIIII", 0xA1B2C3D4, 2, 4, 0, 0, 65535, link, 0, 0, size, size) + packet
+            self.assertEqual(frames_in(data), ([frames.Frame(0, 0, 0, bytes(12) + wanted)], None))
+
     def test_a_link_type_that_is_not_read(self) -> None:
         data = struct.pack("<IHHiIII", 0xA1B2C3D4, 2, 4, 0, 0, 65535, 105)
-        self.assertEqual(str(frames_in(data)[1]), "its link type is 105; Ethernet (1), SLL (113) and SLL2 (276) are read")
+        self.assertEqual(
+            str(frames_in(data)[1]),
+            "its link type is 105; Ethernet (1), SLL (113), SLL2 (276), raw IP (12, 101, 228, 229) and loopback (0, 108) are read",
+        )
 
 
 def elf(code: bytes, functions: list[str], called: str, kind: int, imm: int) -> bytes:

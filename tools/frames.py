@@ -21,7 +21,8 @@ reason as a comment of its packet, `reason 7`, in and out.
 A capture that ends in the middle of a frame, for example because it is still being written, leads
 to its whole frames and a warning; with --strict the status is then 1. Times are kept to the
 nanosecond. Captures are of Ethernet, or of Linux's `any` interface (SLL and SLL2), whose frames get
-an Ethernet head with the destination zero. The frames of a pcap come from interface 0 and queue 0,
+an Ethernet head with the destination zero, or of raw IP or BSD's loopback, where both addresses are
+zero. The frames of a pcap come from interface 0 and queue 0,
 those of a pcapng or of SLL2 from the interface that the capture names; --interface and --queue give
 all frames another one. A pcap has neither, nor reasons, and a pcapng no queue, so a message says
 what is lost.
@@ -94,7 +95,8 @@ class Met:
 Put = Callable[[bytes], object]
 Write = Callable[[Iterable[Frame], Put], None]
 FORMS = {b"XPF1": Form("<QIII", 4096), b"XPF2": Form("<QIIII", 9216)}  # time, interface, queue, length, reason
-ETHERNET, SLL, SLL2 = 1, 113, 276  # link types
+ETHERNET, SLL, SLL2, NULL, LOOP, RAW = 1, 113, 276, 0, 108, (101, 12, 228, 229)  # link types
+IPV4, IPV6 = 0x0800, 0x86DD  # EtherTypes
 SECOND = 10**9
 TOO_LONG = 2**32 - 1  # the reason of a frame that a stream cannot hold
 PIECE = 1 << 24  # no frame and no block of a capture is longer
@@ -216,8 +218,22 @@ FORMATS = {b"XPF1": write_first_form, b"XPF2": write_second_form}
 # ---- link types
 
 
+def ethernet_type(link: int, body: bytes) -> int:
+    """The EtherType of a packet without an Ethernet head: of its IP version or its address family, or 0."""
+    if link in RAW:
+        return {4: IPV4, 6: IPV6}.get(body[0] >> 4, 0) if body else 0
+    if len(body) < 4:
+        return 0
+    family = int.from_bytes(body[:4], "big")
+    if link == NULL and family >= 1 << 16:
+        family = int.from_bytes(body[:4], "little")
+    return {2: IPV4, 10: IPV6, 24: IPV6, 28: IPV6, 30: IPV6}.get(family, 0)
+
+
 def ethernet(link: int, body: bytes, interface: int) -> tuple[bytes, int]:
     """The Ethernet frame that a captured one is, and its interface."""
+    if link in (NULL, LOOP, *RAW):
+        return bytes(12) + struct.pack(">H", ethernet_type(link, body)) + body[0 if link in RAW else 4 :], interface
     if link == SLL and len(body) >= 16:
         return bytes(6) + body[6:12] + body[14:], interface
     if link == SLL2 and len(body) >= 20:
@@ -226,8 +242,9 @@ def ethernet(link: int, body: bytes, interface: int) -> tuple[bytes, int]:
 
 
 def known(link: int, what: str) -> int:
-    if link not in (ETHERNET, SLL, SLL2):
-        raise Damaged(f"{what} link type is {link}; Ethernet (1), SLL (113) and SLL2 (276) are read")
+    if link not in (ETHERNET, SLL, SLL2, NULL, LOOP, *RAW):
+        read = "Ethernet (1), SLL (113), SLL2 (276), raw IP (12, 101, 228, 229) and loopback (0, 108)"
+        raise Damaged(f"{what} link type is {link}; {read} are read")
     return link
 
 
