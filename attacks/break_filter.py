@@ -9,7 +9,8 @@ If a read fails, its file is named, with status 4, and no output is made; or it 
 counts, report, frames out and maps are those of a stream that fails there (F5). If a write fails or takes no byte, the output
 is named, with status 4, and each output has a beginning of what belongs there, or standard error got less; what failed is not
 written to again. Where the frames out go to standard output, standard error has the counts: a failure of it is told there, as
-one of standard output. A read or a write that moves one byte changes nothing. It needs a C compiler (CC). The last line is
+one of standard output. Of frames that are written again (convert, show) the output has what was read before a read failed, and a
+beginning where a write did. A read or a write that moves one byte changes nothing. It needs a C compiler (CC). The last line is
 'N tried, M wrong'. In the gate.
 """
 from __future__ import annotations
@@ -43,7 +44,16 @@ RUNS = (
     ["examples/damaged.image", "examples/two.frames", "-"],
     ["examples/pass.image", "lost", "made"],
     ["examples/pass.image"],
+    ["convert", "examples/allow.frames", "made", "--to", "pcapng"],
+    ["convert", "examples/reasons.frames", "made", "--to", "pcap"],
+    ["convert", "examples/allow.pcapng", "made"],
+    ["convert", "examples/cut.frames", "-", "--to", "frames"],
+    ["convert", "examples/allow.pcapng", "-", "--to", "pcap"],
+    ["show", "examples/reasons.frames"],
+    ["convert", "examples/two.frames", "made"],
+    ["convert", "lost", "made"],
     ["--help"],
+    ["convert", "--help"],
 )
 
 
@@ -58,13 +68,24 @@ def lacks_reason(answer: Answer, whole: Answer) -> bool:
     return known and whole.err.startswith(answer.err.split(b"\n")[0])
 
 
-def of_memory(_: list[str], answer: Answer, whole: Answer) -> str | None:
+def is_conversion(words: list[str]) -> bool:
+    return words[0] in ("convert", "show")
+
+
+def lacks_losses(answer: Answer, whole: Answer) -> bool:
+    """Whether all is as it was, except that standard error does not say what a capture has lost."""
+    return answer.has_outputs_of(whole) and b"frames without " in whole.err and whole.err.startswith(answer.err)
+
+
+def of_memory(words: list[str], answer: Answer, whole: Answer) -> str | None:
     if answer.status == 5 and answer.err == b"out of memory\n":
         if answer.is_quiet():
             return "status 5, nothing written"
         return "status 5, all but the counts" if has_all_but_counts(answer, whole) else None
     if answer.is_as(whole):
         return "unchanged"
+    if is_conversion(words) and lacks_losses(answer, whole):
+        return "unchanged, what is lost left away"
     return "unchanged, what is known left away" if lacks_reason(answer, whole) else None
 
 
@@ -83,7 +104,17 @@ def is_cut_off(words: list[str], answer: Answer, whole: Answer) -> bool:
     return right and b"the stream cannot be read\n" in answer.err
 
 
+def of_conversion_read(words: list[str], answer: Answer, whole: Answer) -> str | None:
+    """The file of frames is named, or what was read before is there: of nothing, the magic of the first form."""
+    if answer.status == 4 and answer.err.startswith(f"cannot read {words[1]}\n".encode()):
+        return "status 4" if answer.is_quiet() else None
+    right = answer.begins(whole) or b"XPF1" in (answer.out, answer.files[0])
+    return "status 3, F5" if answer.status == 3 and right and b"the stream cannot be read\n" in answer.err else None
+
+
 def of_read(words: list[str], answer: Answer, whole: Answer) -> str | None:
+    if is_conversion(words):
+        return of_conversion_read(words, answer, whole)
     named = [words[0], *(word for word in words if word in ("list", "wrong", "examples/pass.table"))]
     if answer.status == 4 and answer.err.split(b"\n")[0].decode() in [f"cannot read {name}" for name in named]:
         return "status 4" if not any(it is not None for it in answer.files) and not answer.out else None

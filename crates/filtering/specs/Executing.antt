@@ -72,21 +72,23 @@ unnamed =
 
 -- Frames were written again, or not, and standard error got the messages; or nothing says what they
 -- are to become, and standard error got that and how the arguments are written.
-abbrev pub ConvertsWhole : {W : Type 0} → (W → Option (List ℕ)) → ConvertRequest
-    → PromptWriter W → PromptWriter W → Option (List ℕ) → Option (List ℕ) → ℕ → Type 0
-ConvertsWhole contents request old new before after status =
-    ((ended : Ending) × ConvertsTo contents request old new ended
+abbrev pub ConvertsWhole : {W F : Type 0} → (W → Option (List ℕ)) → (F → Option (List ℕ))
+    → ConvertRequest → PromptWriter W → PromptWriter W → Option (List ℕ) → Option (List ℕ) → ℕ
+    → Type 0
+ConvertsWhole contents files request old new before after status =
+    ((ended : Ending) × ConvertsTo contents files request old new ended
     × (status ≡ status_of ended.outcome) × AppendsPart before after (told_of ended))
     ⊎ ((form : FileForm) × (kind_of request form ≡ None) × (new ≡ old) × (status ≡ 1)
     × AppendsPart before after (unnamed ++ usage))
 
 -- what is asked for is done
-abbrev pub ServesRequest : {W : Type 0} → (W → Option (List ℕ)) → OperatorRequest
-    → PromptWriter W → PromptWriter W → Option (List ℕ) → Option (List ℕ) → ℕ → Type 0
-ServesRequest contents (Filter request) old new before after status =
+abbrev pub ServesRequest : {W F : Type 0} → (W → Option (List ℕ)) → (F → Option (List ℕ))
+    → OperatorRequest → PromptWriter W → PromptWriter W → Option (List ℕ) → Option (List ℕ) → ℕ
+    → Type 0
+ServesRequest contents files (Filter request) old new before after status =
     FiltersWhole contents request old new before after status
-ServesRequest contents (Convert request) old new before after status =
-    ConvertsWhole contents request old new before after status
+ServesRequest contents files (Convert request) old new before after status =
+    ConvertsWhole contents files request old new before after status
 
 -- ---- nothing is asked for
 
@@ -127,21 +129,23 @@ SaysNoTask contents error.Memory old new before after status =
 
 -- what is done for a request, or where the arguments make none: only those that may ask for the
 -- help or the version get a text
-abbrev pub Answers : {W : Type 0} → (W → Option (List ℕ)) → Option OperatorRequest
-    → List (List ℕ) → PromptWriter W → PromptWriter W → Option (List ℕ) → Option (List ℕ) → ℕ
-    → Type 0
-Answers contents (Some request) words old new before after status =
-    ServesRequest contents request old new before after status
-Answers contents None words old new before after status =
+abbrev pub Answers : {W F : Type 0} → (W → Option (List ℕ)) → (F → Option (List ℕ))
+    → Option OperatorRequest → List (List ℕ) → PromptWriter W → PromptWriter W → Option (List ℕ)
+    → Option (List ℕ) → ℕ → Type 0
+Answers contents files (Some request) words old new before after status =
+    ServesRequest contents files request old new before after status
+Answers contents files None words old new before after status =
     ((text : List ℕ) × TellsWrong text old new before after status)
     ⊎ ((text : List ℕ) × AsksForText words × SaysText contents text old new before after status)
 
--- the program does what the arguments ask for; or memory ran out before that was known
-abbrev pub FiltersWords : {W : Type 0} → (W → Option (List ℕ)) → List (List ℕ) → PromptWriter W
-    → PromptWriter W → Option (List ℕ) → Option (List ℕ) → ℕ → Type 0
-FiltersWords contents words old new before after status =
+-- the program does what the arguments ask for; or memory ran out before that was known. `contents`
+-- has the bytes of standard output, and `files` those of files, where they are known
+abbrev pub FiltersWords : {W F : Type 0} → (W → Option (List ℕ)) → (F → Option (List ℕ))
+    → List (List ℕ) → PromptWriter W → PromptWriter W → Option (List ℕ) → Option (List ℕ) → ℕ
+    → Type 0
+FiltersWords contents files words old new before after status =
     TellsMemory old new before after status
-    ⊎ Answers contents (filter_asked words) words old new before after status
+    ⊎ Answers contents files (filter_asked words) words old new before after status
 
 -- the arguments could not be read, and nothing is done: standard error got why
 abbrev pub TellsUnread : WordsError → Option (List ℕ) → Option (List ℕ) → ℕ → Type 0

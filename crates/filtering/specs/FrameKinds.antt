@@ -1,14 +1,14 @@
 -- What frames become that are written again.
-use Rattle.std.specs.Prelude.{ℕ, Bool, true, List, Option, Some, None, bytes_eq, codes, if◌then◌else◌, option_map, unwrap_or}
-use Rattle.capture_writer.specs.declared.kinds.CaptureKind.{CaptureKind}
+use Rattle.std.specs.Prelude.{ℕ, List, Option, Some, None, codes, if◌then◌else◌, Bool, true, option_map}
 use Rattle.capture_writer.specs.declared.kinds.CaptureKind.TheVariants as capture
-use Rattle.converting.specs.declared.forms.FrameForm.{FrameForm}
 use Rattle.converting.specs.declared.forms.FrameForm.TheVariants as form
 use Rattle.messages.specs.declared.forms.FileForm.{FileForm}
 use Rattle.messages.specs.declared.forms.FileForm.TheVariants.{Frames}
 use Rattle.words.specs.declared.filter_tasks.FramesKind.{FramesKind}
 use Rattle.words.specs.declared.filter_tasks.FramesKind.TheVariants.{Pcap, Pcapng, Stream, Reasoned, Text}
 use Rattle.words.specs.FilterRequests.{ConvertRequest}
+use Rattle.filtering.specs.declared.frame_kinds.WrittenForm.{WrittenForm}
+use Rattle.filtering.specs.declared.frame_kinds.WrittenForm.TheVariants.{Plain, Capture}
 use Rattle.filtering.specs.Opening.{has_ending}
 
 -- by the end of the output's name
@@ -44,24 +44,10 @@ reasoned has_reasons kind = kind
 abbrev pub kind_of : ConvertRequest → FileForm → Option FramesKind
 kind_of request form = option_map (reasoned request.has_reasons) (first_kind request form)
 
--- how they are written, if they become no capture
-abbrev pub plain_form : FramesKind → Option FrameForm
-plain_form Pcap = None
-plain_form Pcapng = None
-plain_form Stream = Some form.Plain
-plain_form Reasoned = Some form.Reasoned
-plain_form Text = Some form.Text
-
--- how they are handed to the output: a capture is made of their records
-abbrev pub form_of : FramesKind → FrameForm
-form_of kind = unwrap_or (plain_form kind) form.Records
-
--- the format of the capture that they become, if they become one
-abbrev pub capture_kind : FramesKind → Option CaptureKind
-capture_kind Pcap = Some capture.Pcap
-capture_kind Pcapng = Some capture.Pcapng
-capture_kind kind = None
-
--- how they are written to standard output, if they go there and become no capture
-abbrev pub printed_form : List ℕ → FramesKind → Option FrameForm
-printed_form out kind = if bytes_eq out (codes "-") then plain_form kind else None
+-- how they are written
+abbrev pub written_as : FramesKind → WrittenForm
+written_as Pcap = Capture capture.Pcap
+written_as Pcapng = Capture capture.Pcapng
+written_as Stream = Plain form.Plain
+written_as Reasoned = Plain form.Reasoned
+written_as Text = Plain form.Text

@@ -1,19 +1,15 @@
 //! Frames that are written again: as a capture, a frame stream or a text.
 
-ghost use Rattle.std.specs.Prelude.{◌≡◌, Some, IfErr, codes, option_map};
-ghost use Rattle.converting.specs.declared.forms.FrameForm.TheVariants.{Records};
+ghost use Rattle.std.specs.Prelude.{◌≡◌, IfErr, bytes_eq, codes};
 ghost use Rattle.words.specs.FilterRequests.{convert_request_of};
 ghost use Rattle.commands.specs.Statuses.{IsMakeFailure};
-ghost use Rattle.filtering.specs.FrameKinds.{capture_kind, form_of};
-ghost use Rattle.filtering.specs.Copying.{CopiesSome};
-ghost use Rattle.filtering.specs.Conversions.{ConvertsBegun, ConvertsFiles, ConvertsFrom, PrintsFrom, lost_by, outcome_of};
-ghost use Rattle.captures.specs.Choices.{frames_left};
-ghost use Rattle.filtering.specs.Losing.{TellsUnsaid};
+ghost use Rattle.filtering.specs.FrameKinds.{written_as};
+ghost use Rattle.filtering.specs.Conversions.{CapturesBegun, CapturesFrom, ConvertsBegun, ConvertsFiles, CopiesBegun, CopiesFrom, PrintsBegun, WritesBegun, copied_by, outcome_of};
 
 use super::copying::{copied, copied_to_capture};
-use super::frame_kinds::{kind_of, printed_form};
-use super::losing::{Loss, Lost, Unsaid, ending_with};
-use super::opening::{frames_of, frames_path, open_sent, output_name, told_form};
+use super::frame_kinds::{WrittenForm, kind_of, written_as};
+use super::losing::{Lost, Unsaid, ending_with};
+use super::opening::{frames_of, frames_path, is_dash, open_sent, output_name, told_form};
 use capture_writer::{CaptureKind, Unfollowed};
 use captures::Lent;
 use commands::{Ending, STANDARD_OUTPUT, TaskOutcome, begin_frames, keep_apart, open_frames};
@@ -60,63 +56,56 @@ fn outcome_of<'a>(ended: Result<StreamEnd, TaskOutcome<'a>>, form: FileForm) -> 
     }
 }
 
-// What the output does not say: a capture that was written, or else a stream that was copied.
-fn lost_by(loss: Option<Loss>, ended: &Result<StreamEnd, TaskOutcome<'_>>) -> Lost
-    ensures { result ≡ lost_by loss ended.now }
+// What a stream or a text does not say of the frames that were copied to it.
+fn copied_by(ended: &Result<StreamEnd, TaskOutcome<'_>>) -> Lost
+    ensures { result ≡ copied_by ended.now }
 {
-    match (loss, ended) {
-        (Some(loss), _) => Lost::Capture(loss),
-        (None, Ok(end)) => Lost::Stream(end.counts),
-        (None, Err(_)) => Lost::Nothing,
+    match ended {
+        Ok(end) => Lost::Stream(end.counts),
+        Err(_) => Lost::Nothing,
     }
 }
 
-// Copies the frames of a stream to an output, as a capture, and returns what it does not say.
-fn convert_to_capture<'a, S: Source + Drop, W: Write + Drop>(
-    source: S,
+// Copies the frames of a file to an output of this name, written in this form. At the end of the
+// message is what is not kept of them.
+fn copy_from<'a, S: Source + Drop, W: Write + Drop>(
+    alloc: Global,
+    from: Begun<'a, S>,
+    frame_form: FrameForm,
+    name: &'a str,
+    output: &mut PromptWriter<W>,
+) -> Ending<'a>
+    ensures { CopiesFrom W.contents from.entry.path.now (S.remaining from.entry.source)
+        from.entry.form frame_form name.now output.old output.new result }
+{
+    let form = from.form;
+    match frames_of(alloc, from.source, form, from.path) {
+        Ok(mut frames) => {
+            let form = told_form(&frames, form);
+            let lent = Lent {
+                source: &mut frames,
+            };
+            let ended = copied(frame_form, lent, name, output);
+            let unsaid = Unsaid {
+                captured: frames.counts(),
+                lost: copied_by(&ended),
+            };
+            ending_with(alloc, outcome_of(ended, form), unsaid)
+        }
+        Err(outcome) => Ending::plain(outcome),
+    }
+}
+
+// Copies the frames of a file to an output of this name, as a capture. At the end of the message is
+// what is not kept of them.
+fn capture_from<'a, S: Source + Drop, W: Write + Drop>(
+    alloc: Global,
+    from: Begun<'a, S>,
     kind: CaptureKind,
     name: &'a str,
     output: PromptWriter<W>,
-) -> (Result<StreamEnd, TaskOutcome<'a>>, Option<Loss>)
-    ensures copies { CopiesSome Records
-        record { bytes = S.remaining source; may_fail = S.may_fail } name.now result.0 }
-    ensures kind { option_map (λ l. l.kind) result.1 ≡ Some kind }
-{
-    let (ended, loss) = copied_to_capture(source, kind, name, output, Unfollowed);
-    (ended, Some(loss))
-}
-
-// Copies the frames of a stream to an output, as this kind, and returns what a capture does not
-// say of them.
-fn convert_to<'a, S: Source + Drop, W: Write + Drop>(
-    source: S,
-    kind: FramesKind,
-    name: &'a str,
-    mut output: PromptWriter<W>,
-) -> (Result<StreamEnd, TaskOutcome<'a>>, Option<Loss>)
-    ensures copies { CopiesSome (form_of kind)
-        record { bytes = S.remaining source; may_fail = S.may_fail } name.now result.0 }
-    ensures kind { option_map (λ l. l.kind) result.1 ≡ capture_kind kind }
-{
-    match kind {
-        FramesKind::Pcap => convert_to_capture(source, CaptureKind::Pcap, name, output),
-        FramesKind::Pcapng => convert_to_capture(source, CaptureKind::Pcapng, name, output),
-        FramesKind::Stream => (copied(FrameForm::Plain, source, name, &mut output), None),
-        FramesKind::Reasoned => (copied(FrameForm::Reasoned, source, name, &mut output), None),
-        FramesKind::Text => (copied(FrameForm::Text, source, name, &mut output), None),
-    }
-}
-
-// Writes the frames of a file again, which was opened by this path, and of which these are the
-// bytes and the form.
-fn convert_from<'a, S: Source + Drop, W: Write + Drop>(
-    alloc: Global,
-    from: Begun<'a, S>,
-    kind: FramesKind,
-    name: &'a str,
-    output: PromptWriter<W>,
 ) -> Ending<'a>
-    ensures { ConvertsFrom from.entry.path.now (S.remaining from.entry.source) from.entry.form kind
+    ensures { CapturesFrom from.entry.path.now (S.remaining from.entry.source) from.entry.form kind
         name.now result }
 {
     let form = from.form;
@@ -126,38 +115,10 @@ fn convert_from<'a, S: Source + Drop, W: Write + Drop>(
             let lent = Lent {
                 source: &mut frames,
             };
-            let (ended, loss) = convert_to(lent, kind, name, output);
+            let (ended, loss) = copied_to_capture(lent, kind, name, output, Unfollowed);
             let unsaid = Unsaid {
                 captured: frames.counts(),
-                lost: lost_by(loss, &ended),
-            };
-            ending_with(alloc, outcome_of(ended, form), unsaid)
-        }
-        Err(outcome) => Ending::plain(outcome),
-    }
-}
-
-// Writes the frames of a file again, as `convert_from` does, to standard output.
-fn print_from<'a, S: Source + Drop, W: Write + Drop>(
-    alloc: Global,
-    from: Begun<'a, S>,
-    frame_form: FrameForm,
-    out: &mut PromptWriter<W>,
-) -> Ending<'a>
-    ensures { PrintsFrom W.contents from.entry.path.now (S.remaining from.entry.source)
-        from.entry.form frame_form out.old out.new result }
-{
-    let form = from.form;
-    match frames_of(alloc, from.source, form, from.path) {
-        Ok(mut frames) => {
-            let form = told_form(&frames, form);
-            let lent = Lent {
-                source: &mut frames,
-            };
-            let ended = copied(frame_form, lent, STANDARD_OUTPUT, out);
-            let unsaid = Unsaid {
-                captured: frames.counts(),
-                lost: lost_by(None, &ended),
+                lost: Lost::Capture(loss),
             };
             ending_with(alloc, outcome_of(ended, form), unsaid)
         }
@@ -178,6 +139,78 @@ fn keep_printed<R: Files>(rt: &R, path: &str) -> Result<(), TaskOutcome<'static>
     }
 }
 
+// Copies the frames of a file to standard output, which has this name, written in this form.
+fn print_begun<'a, R: Files, S: Source + Drop, W: Write + Drop>(
+    rt: &R,
+    alloc: Global,
+    from: Begun<'a, S>,
+    frame_form: FrameForm,
+    name: &'a str,
+    out: &mut PromptWriter<W>,
+) -> Ending<'a>
+    ensures { PrintsBegun W.contents from.entry.path.now (S.remaining from.entry.source)
+        from.entry.form frame_form name.now out.old out.new result }
+{
+    match keep_printed(rt, from.path) {
+        Ok(()) => copy_from(alloc, from, frame_form, name, out),
+        Err(outcome) => Ending::plain(outcome),
+    }
+}
+
+// Makes the output, and copies the frames of a file to it, written in this form.
+fn copy_begun<'a, R: Files, S: Source + Drop>(
+    rt: &R,
+    alloc: Global,
+    from: Begun<'a, S>,
+    frame_form: FrameForm,
+    output: &'a str,
+) -> Ending<'a>
+    ensures { CopiesBegun R.File.contents from.entry.path.now (S.remaining from.entry.source)
+        from.entry.form frame_form output.now result }
+{
+    match open_sent(rt, alloc, output, &[from.path]) {
+        Ok(mut file) => copy_from(alloc, from, frame_form, output_name(output), &mut file),
+        Err(outcome) => Ending::plain(outcome),
+    }
+}
+
+// Copies the frames of a file to standard output or to another file, written in this form.
+fn write_begun<'a, R: Files, S: Source + Drop, W: Write + Drop>(
+    rt: &R,
+    alloc: Global,
+    from: Begun<'a, S>,
+    frame_form: FrameForm,
+    output: &'a str,
+    out: &mut PromptWriter<W>,
+) -> Ending<'a>
+    ensures { WritesBegun (bytes_eq output.now (codes "-")) W.contents R.File.contents
+        from.entry.path.now (S.remaining from.entry.source) from.entry.form frame_form output.now
+        out.old out.new result }
+{
+    if is_dash(output) {
+        print_begun(rt, alloc, from, frame_form, output_name(output), out)
+    } else {
+        copy_begun(rt, alloc, from, frame_form, output)
+    }
+}
+
+// Makes the output, and copies the frames of a file to it, as a capture.
+fn capture_begun<'a, R: Files, S: Source + Drop>(
+    rt: &R,
+    alloc: Global,
+    from: Begun<'a, S>,
+    kind: CaptureKind,
+    output: &'a str,
+) -> Ending<'a>
+    ensures { CapturesBegun from.entry.path.now (S.remaining from.entry.source) from.entry.form
+        kind output.now result }
+{
+    match open_sent(rt, alloc, output, &[from.path]) {
+        Ok(file) => capture_from(alloc, from, kind, output_name(output), file),
+        Err(outcome) => Ending::plain(outcome),
+    }
+}
+
 // Makes the output, and writes the frames of a file to it again, as this kind.
 fn convert_begun<'a, R: Files, S: Source + Drop, W: Write + Drop>(
     rt: &R,
@@ -187,18 +220,13 @@ fn convert_begun<'a, R: Files, S: Source + Drop, W: Write + Drop>(
     output: &'a str,
     out: &mut PromptWriter<W>,
 ) -> Ending<'a>
-    ensures { ConvertsBegun W.contents from.entry.path.now (S.remaining from.entry.source)
-        from.entry.form kind output.now out.old out.new result }
+    ensures { ConvertsBegun W.contents R.File.contents from.entry.path.now
+        (S.remaining from.entry.source) from.entry.form (written_as kind) output.now out.old
+        out.new result }
 {
-    match printed_form(output, kind) {
-        Some(frame_form) => match keep_printed(rt, from.path) {
-            Ok(()) => print_from(alloc, from, frame_form, out),
-            Err(outcome) => Ending::plain(outcome),
-        },
-        None => match open_sent(rt, alloc, output, &[from.path]) {
-            Ok(file) => convert_from(alloc, from, kind, output_name(output), file),
-            Err(outcome) => Ending::plain(outcome),
-        },
+    match written_as(kind) {
+        WrittenForm::Plain(form) => write_begun(rt, alloc, from, form, output, out),
+        WrittenForm::Capture(kind) => capture_begun(rt, alloc, from, kind, output),
     }
 }
 
@@ -210,7 +238,8 @@ pub fn convert_files<'a, R: Files + Clock, W: Write + Drop>(
     task: ConvertTask<'a>,
     out: &mut PromptWriter<W>,
 ) -> Conversion<'a>
-    ensures { ConvertsFiles W.contents (convert_request_of task.entry) out.old out.new result }
+    ensures { ConvertsFiles W.contents R.File.contents (convert_request_of task.entry) out.old
+        out.new result }
 {
     let path = frames_path(task.frames);
     let source = match open_frames(rt, alloc, path) {

@@ -69,8 +69,8 @@ fn serve_conversion<R: Files + Clock, W1: Write + Drop, W2: Write>(
     out: &mut PromptWriter<W1>,
     err: &mut W2,
 ) -> u8
-    ensures { ConvertsWhole W1.contents (convert_request_of task.entry) out.old out.new
-        (W2.contents err.old) (W2.contents err.new) result }
+    ensures { ConvertsWhole W1.contents R.File.contents (convert_request_of task.entry) out.old
+        out.new (W2.contents err.old) (W2.contents err.new) result }
 {
     match convert_files(rt, alloc, task, out) {
         Conversion::Ended(ending) => ending.tell(err),
@@ -89,8 +89,8 @@ fn serve<R: Files + Clock, W1: Write + Drop, W2: Write>(
     out: &mut PromptWriter<W1>,
     err: &mut W2,
 ) -> u8
-    ensures { ServesRequest W1.contents (operator_request_of task.entry) out.old out.new
-        (W2.contents err.old) (W2.contents err.new) result }
+    ensures { ServesRequest W1.contents R.File.contents (operator_request_of task.entry) out.old
+        out.new (W2.contents err.old) (W2.contents err.new) result }
 {
     match task {
         OperatorTask::Filter(task) => serve_filter(rt, alloc, task, out, err),
@@ -153,8 +153,8 @@ pub fn execute<R: Files + Clock + AllocGlobal, W1: Write + Drop, W2: Write>(
     out: &mut PromptWriter<W1>,
     err: &mut W2,
 ) -> u8
-    ensures executes { FiltersWords W1.contents (map string_bytes words.now) out.old out.new
-        (W2.contents err.old) (W2.contents err.new) result }
+    ensures executes { FiltersWords W1.contents R.File.contents (map string_bytes words.now)
+        out.old out.new (W2.contents err.old) (W2.contents err.new) result }
     ensures statuses { result ≤ 5 }
 {
     let alloc = rt.alloc();
@@ -173,8 +173,8 @@ pub fn execute_given<R: Files + Clock + AllocGlobal, W1: Write + Drop, W2: Write
     err: &mut W2,
 ) -> u8
     ensures { MatchResult given
-        (λ words. FiltersWords W1.contents (map string_bytes words.items) out.old out.new
-        (W2.contents err.old) (W2.contents err.new) result)
+        (λ words. FiltersWords W1.contents R.File.contents (map string_bytes words.items) out.old
+        out.new (W2.contents err.old) (W2.contents err.new) result)
         (λ error. (out.new ≡ out.old)
         × TellsUnread error (W2.contents err.old) (W2.contents err.new) result) }
 {

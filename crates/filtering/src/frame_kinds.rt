@@ -2,12 +2,21 @@
 
 ghost use Rattle.std.specs.Prelude.{◌≡◌};
 ghost use Rattle.words.specs.FilterRequests.{convert_request_of};
-ghost use Rattle.filtering.specs.FrameKinds.{kind_by_end, first_kind, kind_of, kind_unnamed, plain_form, printed_form, reasoned};
+ghost use Rattle.filtering.specs.FrameKinds.{first_kind, kind_by_end, kind_of, kind_unnamed, reasoned, written_as};
 
-use super::opening::{has_ending, is_dash};
+use super::opening::has_ending;
+use capture_writer::CaptureKind;
 use converting::FrameForm;
 use messages::FileForm;
 use words::{ConvertTask, FramesKind};
+
+/// Says how frames are written again.
+#[derive(Clone, Copy)]
+pub enum WrittenForm {
+    /// As their records, or as a text.
+    Plain(FrameForm),
+    Capture(CaptureKind),
+}
 
 // What frames become by the end of their output's name.
 fn kind_by_end(name: &str) -> Option<FramesKind>
@@ -36,7 +45,7 @@ fn kind_unnamed(form: FileForm) -> Option<FramesKind>
     }
 }
 
-// What is asked for, or else what the name of the output says, or else the form of the frames' file.
+// What is asked for, or else what the name of the output says, or else the form of the file.
 fn first_kind(task: &ConvertTask<'_>, form: FileForm) -> Option<FramesKind>
     ensures { result ≡ first_kind (convert_request_of task.now) form }
 {
@@ -76,21 +85,15 @@ pub fn kind_of(task: &ConvertTask<'_>, form: FileForm) -> Option<FramesKind>
     }
 }
 
-// How frames are written that become no capture.
-fn plain_form(kind: FramesKind) -> Option<FrameForm>
-    ensures { result ≡ plain_form kind }
+/// How frames of a kind are written.
+pub fn written_as(kind: FramesKind) -> WrittenForm
+    ensures { result ≡ written_as kind }
 {
     match kind {
-        FramesKind::Pcap | FramesKind::Pcapng => None,
-        FramesKind::Stream => Some(FrameForm::Plain),
-        FramesKind::Reasoned => Some(FrameForm::Reasoned),
-        FramesKind::Text => Some(FrameForm::Text),
+        FramesKind::Pcap => WrittenForm::Capture(CaptureKind::Pcap),
+        FramesKind::Pcapng => WrittenForm::Capture(CaptureKind::Pcapng),
+        FramesKind::Stream => WrittenForm::Plain(FrameForm::Plain),
+        FramesKind::Reasoned => WrittenForm::Plain(FrameForm::Reasoned),
+        FramesKind::Text => WrittenForm::Plain(FrameForm::Text),
     }
-}
-
-/// How frames are written to standard output, if they go there and become no capture.
-pub fn printed_form(out: &str, kind: FramesKind) -> Option<FrameForm>
-    ensures { result ≡ printed_form out.now kind }
-{
-    if is_dash(out) { plain_form(kind) } else { None }
 }
