@@ -144,6 +144,13 @@ def is_plain_output() -> bool:
         return False
 
 
+def copy_whole(path: str, source: str, read: Iterable[str | None]) -> None:
+    """Writes a file with the bytes of another one; it is none of those that are read."""
+    with Output(path, read) as out, open(source, "rb") as file:
+        while data := file.read(1 << 20):
+            out.put(data)
+
+
 def write_whole(path: str, data: bytes, read: Iterable[str | None]) -> None:
     """Writes a file of these bytes; it is none of those that are read."""
     with Output(path, read) as out:

@@ -1,5 +1,5 @@
 """A run of an image on frames, by `xdpvm run` or `trace`, or by `xdpvm_filter` where maps are filled or kept, and the
-programs that convert the frames before and after it."""
+programs that convert the frames before and after it: `xdpvm_filter convert`, or frames.py."""
 
 import contextlib
 import os
@@ -11,11 +11,15 @@ from collections.abc import Callable, Iterator
 from typing import IO, BinaryIO
 
 from map_files import Filling
-from outputs import write_whole
+from outputs import is_plain, write_whole
 from sources import HERE, Failed
 
 FRAMES = os.path.join(HERE, "frames.py")
+STREAMS = (b"XPF1", b"XPF2")
+PCAP = (b"\xd4\xc3\xb2\xa1", b"\xa1\xb2\xc3\xd4", b"\x4d\x3c\xb2\xa1", b"\xa1\xb2\x3c\x4d")
+PCAPNG = b"\x0a\x0d\x0d\x0a"
 SENT = "what is sent on"
+CUT_OFF = "the file was cut"  # what xdpvm_filter says of a capture that ends within a frame, with status 3
 ENDED = (0, 3)  # the statuses of a run to the end of its frames, or to a fault of theirs
 
 
@@ -130,15 +134,37 @@ class Run:
         return ""
 
 
-def converted(source: str, made: str, name: str, *words: str) -> str:
-    """Converts frames; the result is what is said of them. `name` is what messages call the source if that is a
-    temporary file."""
-    command = [sys.executable, FRAMES, *words, source, made]
-    ran = subprocess.run(command, stderr=subprocess.PIPE, text=True, errors="replace", check=False)
-    sys.stderr.write(ran.stderr.replace(source, name))
-    if ran.returncode:
-        raise Failed(f"{name} cannot be converted")
-    return ran.stderr
+@dataclass
+class Conversion:
+    """How frames are converted: what they become, with reasons or without, and the program that does it where it reads
+    them. frames.py does it for texts, packed captures and the reasons in the comments of a pcapng, and where there is no
+    program."""
+
+    program: str
+    kind: str
+    reasons: list[str]
+
+    def words(self, begin: bytes, source: str, made: str, named: str = "") -> list[str]:
+        """The command for frames that begin so. `named` is what messages of frames.py call the source."""
+        if self.program and (begin in (*STREAMS, *PCAP) or begin == PCAPNG and not self.reasons):
+            kind = "text" if self.kind == "txt" else self.kind
+            return [self.program, "convert", "--to", kind, *self.reasons, source, made]
+        told = ["--named", named] if named else []
+        return [sys.executable, FRAMES, "--to", self.kind, *told, *self.reasons, source, made]
+
+    def made(self, begin: bytes, source: str, made: str, name: str) -> str:
+        """Converts a file; the result is what is said of its frames. `name` is what messages call the file if that is a
+        temporary one."""
+        ran = subprocess.run(self.words(begin, source, made), stderr=subprocess.PIPE, text=True, errors="replace", check=False)
+        sys.stderr.write(ran.stderr.replace(source, name))
+        if ran.returncode and not is_cut(ran.returncode, ran.stderr):
+            raise Failed(f"{name} cannot be converted")
+        return ran.stderr
+
+
+def is_cut(status: int, said: str) -> bool:
+    """Whether the frames end within one, of which those before it were converted."""
+    return status == 3 and CUT_OFF in said
 
 
 def handed_on(begin: bytes, source: BinaryIO, sink: IO[bytes]) -> None:
@@ -168,6 +194,7 @@ class Ends:
     out: str | None
     kind: str
     reasons: list[str]
+    program: str
 
 
 class Live:
@@ -176,6 +203,7 @@ class Live:
     def __init__(self, wanted: Wanted, ends: Ends) -> None:
         self.ends, self.chain = ends, Chain()
         self.sent = "/dev/null"
+        self.said = wanted.path("converted")  # what is said of the capture
         self.run = Run(wanted, self.chain, keeps_errors=True)
         self.start(sys.stdin.buffer if ends.capture == "-" else open(ends.capture, "rb"))
 
@@ -184,20 +212,34 @@ class Live:
         ends, begin = self.ends, looked_at(capture)
         source: object = subprocess.PIPE
         if begin[:3] != b"XPF":
-            words = [sys.executable, FRAMES, "--to", "frames", *ends.reasons, "-", "-"]
-            source = self.chain.start(ends.capture, words, stdin=subprocess.PIPE, stdout=subprocess.PIPE).stdout
+            words = Conversion(ends.program, "frames", ends.reasons).words(begin, "-", "-")
+            with open(self.said, "wb") as said:
+                how = {"stdin": subprocess.PIPE, "stdout": subprocess.PIPE, "stderr": said}
+                source = self.chain.start(ends.capture, words, **how).stdout
         read_end, write_end = os.pipe()
         if ends.out:
             self.sent = f"/dev/fd/{write_end}"
         self.run.start("/dev/stdin", self.sent, (write_end,), stdin=source)
         os.close(write_end)
         if ends.out:
-            words = [sys.executable, FRAMES, "--to", ends.kind, "--named", SENT, *ends.reasons, "-", ends.out]
+            program = "" if is_plain(ends.out) else ends.program  # which writes over an old file at once
+            words = Conversion(program, ends.kind, ends.reasons).words(STREAMS[0], "-", ends.out, SENT)
             self.chain.start(SENT, words, stdin=read_end)
         os.close(read_end)
         sink = self.chain.running[0][1].stdin
         assert sink is not None
         threading.Thread(target=handed_on, args=(begin, capture, sink), daemon=True).start()
+
+    def told(self) -> str:
+        """What is said of the capture."""
+        with contextlib.suppress(FileNotFoundError):
+            with open(self.said, encoding="utf-8", errors="replace") as file:
+                return file.read().replace("/dev/stdin", self.ends.capture)
+        return ""
+
+    def is_cut(self, name: str) -> bool:
+        """Whether the program of this name read a capture that ends within a frame."""
+        return name == self.ends.capture and is_cut(self.chain.running[0][1].wait(), self.told())
 
     def finish(self, tell: Callable[[str], None]) -> tuple[int, str]:
         """Waits for all programs, and tells the errors of the run, which name what the user named; its status, and its
@@ -205,8 +247,9 @@ class Live:
         status, said = self.run.finish()
         if status not in ENDED:
             self.chain.stop()
+        failed = [name for name in self.chain.failed() if name != "xdpvm" and not self.is_cut(name)]
+        sys.stderr.write(self.told())
         tell(self.run.errors().replace(self.sent, SENT).replace("/dev/stdin", self.ends.capture))
-        failed = [name for name in self.chain.failed() if name != "xdpvm"]
         if failed and status in ENDED:
             raise Failed(f"{failed[0]} cannot be converted")
         return status, said

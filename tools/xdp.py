@@ -59,17 +59,25 @@ from hits import counted, files_of, write_lcov
 from hits_page import write_page
 from inputs import named
 from map_files import filling
-from outputs import IsRead, end_by_signal, is_plain, refuse_inputs
+from outputs import IsRead, copy_whole, end_by_signal, is_plain, refuse_inputs
 from reports import TOLD, tell_errors, tell_maps_refused, tell_place, tell_refusal, tell_report, traced
-from runs import ENDED, SENT, Chain, Ends, Live, Run, Wanted, converted
+from runs import ENDED, SENT, STREAMS, Chain, Conversion, Ends, Live, Run, Wanted
 from sources import Choice, Failed, Source, TextRefused, begin_of, image_of, the_filter, the_survey, the_xdpvm
 
 KINDS = ("pcap", "pcapng", "frames", "txt")
-CUT = "cut when they were captured"  # what frames.py says where there are such frames
+CUT = "cut when they were captured"  # what is said where there are such frames
 OF_LENGTH = "the expression asks for the length: tcpdump takes that on the wire, and here it is that of the bytes"
 
 
 # ---- the frames
+
+
+def converter(xdpvm: str) -> str:
+    """The program that converts frames, if it is there."""
+    try:
+        return the_filter(xdpvm)
+    except Failed:
+        return ""
 
 
 def kind_of(out: str, to: str | None) -> str:
@@ -91,7 +99,7 @@ def told_of(given: argparse.Namespace, its: Run, source: Source) -> None:
 
 def run_live(given: argparse.Namespace, wanted: Wanted, source: Source) -> tuple[int, str]:
     """Runs the image on frames as they come; the status, and the refusal of what fills the maps."""
-    live = Live(wanted, Ends(given.capture, given.out, given.kind, ["--reasons"] * given.reasons))
+    live = Live(wanted, Ends(given.capture, given.out, given.kind, ["--reasons"] * given.reasons, converter(given.xdpvm)))
     try:
         told_of(given, live.run, source)
         return live.finish(lambda said: tell_errors(source, said))
@@ -115,10 +123,11 @@ def run_whole(given: argparse.Namespace, wanted: Wanted, source: Source) -> tupl
     """The same on the frames of a file."""
     reasons = ["--reasons"] * given.reasons
     frames, sent = wanted.path("in.frames"), wanted.path("sent.frames")
-    if begin_of(given.capture)[:3] == b"XPF":
+    program, begin = converter(given.xdpvm), begin_of(given.capture)
+    if begin[:3] == b"XPF":
         frames = given.capture
     else:
-        said = converted(given.capture, frames, given.capture, *reasons)
+        said = Conversion(program, "frames", reasons).made(begin, given.capture, frames, given.capture)
         if given.asks_for_length and CUT in said:
             print(OF_LENGTH, file=sys.stderr)
     chain = Chain()
@@ -131,7 +140,9 @@ def run_whole(given: argparse.Namespace, wanted: Wanted, source: Source) -> tupl
         chain.stop()
     tell_errors(source, its.errors())
     if given.out and status in ENDED:
-        converted(sent, given.out, SENT, "--to", given.kind, *reasons)
+        made = wanted.path("out")
+        Conversion(program, given.kind, reasons).made(STREAMS[0], sent, made, SENT)
+        copy_whole(given.out, made, wanted.read)
     if given.hits and status in ENDED:
         write_hits(given, wanted, source, frames)
     return status, refusal
