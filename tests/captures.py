@@ -14,7 +14,8 @@ byte order; some packets are none of IP. Their rows have the SHA-256 of what Wir
 UDP ports and payload, which are read here from the Ethernet frames.
 
 Each capture is also written, as a pcap and as a pcapng: the packets of the pcap, and those that editcap or tshark reads of the
-pcapng where it is installed, have to be the same.
+pcapng where it is installed, have to be the same. tools/frames.py has to make the frame stream of it that `xdpvm_filter convert`
+makes.
 
 What differs is printed; the last line counts, and the status is 1 if anything differs.
 """
@@ -251,6 +252,16 @@ def wrote(program: str, folder: str, path: str, seed: int, kept: str) -> list[st
     return wrong
 
 
+def converted(program: str, folder: str, path: str) -> list[str]:
+    """What differs between the streams that xdpvm_filter and tools/frames.py make of a capture."""
+    made: list[bytes] = []
+    for command in ([program, "convert"], [sys.executable, os.path.join(TOP, "tools/frames.py")]):
+        out = os.path.join(folder, f"converted{len(made)}.frames")
+        subprocess.run([*command, "--to", "frames", "--reasons", path, out], capture_output=True, check=False)
+        made.append(bytes_of(out) if os.path.exists(out) else b"")
+    return [] if made[0] == made[1] and made[0] else ["tools/frames.py makes another stream than xdpvm_filter convert"]
+
+
 def main(words: list[str]) -> int:
     named = [it for it in words if it != "--store"]
     program = os.path.abspath(named[0] if named else built("xdpvm_filter"))
@@ -269,7 +280,7 @@ def main(words: list[str]) -> int:
             if ours != kept or now not in (None, kept):
                 print(f"seed {seed}: {ours}, stored {kept}, Wireshark {now}")
                 wrong += 1
-            for it in wrote(program, folder, path, seed, kept):
+            for it in wrote(program, folder, path, seed, kept) + converted(program, folder, path):
                 print(f"seed {seed}: stored {kept}, {it}")
                 wrong += 1
     print(f"{len(stored)} captures of {packets} packets, {wrong} differ")

@@ -289,8 +289,17 @@ def write_pcap(frames: Iterable[Frame], put: Put) -> None:
 
 # ---- pcapng
 
-SECTION, INTERFACE, SIMPLE, ENHANCED = 0x0A0D0D0A, 1, 3, 6
-END, COMMENT, RESOLUTION = 0, 1, 9  # options of blocks
+SECTION, INTERFACE, OLD, SIMPLE, ENHANCED = 0x0A0D0D0A, 1, 2, 3, 6
+END, COMMENT, RESOLUTION, OFFSET = 0, 1, 9, 14  # options of blocks
+
+
+class Interface(NamedTuple):
+    """What a pcapng says of an interface: its link type, how much of a packet is kept, ticks a second, and seconds."""
+
+    link: int
+    snap: int
+    ticks: int
+    offset: int
 
 
 def options_of(order: str, options: bytes) -> Iterator[tuple[int, bytes]]:
@@ -313,6 +322,14 @@ def ticks_of(order: str, options: bytes) -> int:
     return 10**6
 
 
+def offset_of(order: str, options: bytes) -> int:
+    """The seconds that the times of an interface are counted from: 0 where no option says another number."""
+    for code, value in options_of(order, options):
+        if code == OFFSET and len(value) == 8:
+            return int(struct.unpack(order + "q", value)[0])
+    return 0
+
+
 def reason_of(order: str, options: bytes) -> int:
     """The reason that a packet's comment has: `reason 7`."""
     for code, value in options_of(order, options):
@@ -323,7 +340,7 @@ def reason_of(order: str, options: bytes) -> int:
 
 
 def read_pcapng(source: Source, met: Met) -> Iterator[Frame]:
-    interfaces: list[tuple[int, int, int]] = []
+    interfaces: list[Interface] = []
     order, number = "<", 0
     while not source.is_at_end():
         what = f"the block at byte {source.at}, after {number} frames"
@@ -336,30 +353,35 @@ def read_pcapng(source: Source, met: Met) -> Iterator[Frame]:
         block = source.take(size - 8, what)[:-4]
         if kind == INTERFACE:
             link, _, snap = unpack(order + "HHI", block, 0, what)
-            interfaces.append((link, ticks_of(order, block[8:]), snap))
-        elif kind in (SIMPLE, ENHANCED):
+            interfaces.append(Interface(link, snap, ticks_of(order, block[8:]), offset_of(order, block[8:])))
+        elif kind in (OLD, SIMPLE, ENHANCED):
             yield packet(kind, order, block, interfaces, what, met)
             number += 1
 
 
-def packet(kind: int, order: str, block: bytes, interfaces: list[tuple[int, int, int]], what: str, met: Met) -> Frame:
+def packet(kind: int, order: str, block: bytes, interfaces: list[Interface], what: str, met: Met) -> Frame:
+    """The frame of a block that has a packet."""
     number, time = 0, 0
     if kind == ENHANCED:
         number, high, low, length, whole = unpack(order + "IIIII", block, 0, what)
         time, start = high << 32 | low, 20
+    if kind == OLD:
+        number, _, high, low, length, whole = unpack(order + "HHIIII", block, 0, what)
+        time, start = high << 32 | low, 20
     if number >= len(interfaces):
         raise Damaged(f"{what} is of interface {number}, and there are {len(interfaces)}")
-    link, ticks, snap = interfaces[number]
+    its = interfaces[number]
     if kind == SIMPLE:
         whole, start = unpack(order + "I", block, 0, what)[0], 4
-        length = min(whole, snap or whole, len(block) - start)
-    known(link, f"interface {number}'s")
+        length = min(whole, its.snap or whole, len(block) - start)
+    known(its.link, f"interface {number}'s")
     if start + length > len(block):
         raise Damaged(f"{what} is too short")
-    body, number = ethernet(link, block[start : start + length], number)
-    reason = reason_of(order, block[start + (length + 3) // 4 * 4 :]) if kind == ENHANCED else 0
+    body, place = ethernet(its.link, block[start : start + length], number)
+    reason = reason_of(order, block[start + (length + 3) // 4 * 4 :]) if kind != SIMPLE else 0
     met.cut += length < whole
-    return Frame(time * SECOND // ticks, number, 0, body, reason)
+    nanoseconds = time * SECOND // its.ticks + its.offset * SECOND if kind != SIMPLE else 0
+    return Frame(nanoseconds % (1 << 64), place, 0, body, reason)
 
 
 def write_pcapng(frames: Iterable[Frame], put: Put) -> None:
