@@ -1,78 +1,21 @@
 -- Laws of reports: where all runs exit within the limit, the checked report is the report, and the
--- only one. The packet frames that are read from a stream can be spelled.
-use Rattle.std.specs.Prelude.{◌≡◌, ℕ, zero, suc, ◌+◌, ◌<◌, ◌≤◌, ◌==◌, List, [], ◌∷◌, ◌++◌, drop, length, if◌then◌else◌, Bool, true, false, All, Option, Some, None, refl}
+-- only one.
+use Rattle.std.specs.Prelude.{◌≡◌, ℕ, ◌+◌, ◌≤◌, ◌==◌, List, [], ◌∷◌, ◌++◌, length, if◌then◌else◌, Bool, true, false, All, Option, Some, None, refl}
 use Rattle.std.proofs.Common.{sym, ap, ◌∙◌, subst, arith}
-use Rattle.std.proofs.lemmas.List.{length-take}
-use Rattle.std.proofs.lemmas.Bool.Decides.{nat_tests}
-use Rattle.std.proofs.lemmas.List.Elements.{All-nil, All-cons, All-head, All-tail, All-take, All-drop}
-use Rattle.byteorder.specs.Numbers.{little_from-lt}
-use Rattle.isa_model.specs.declared.streams.Finish.{Finish}
+use Rattle.std.proofs.lemmas.List.Elements.{All-head, All-tail}
 use Rattle.isa_model.specs.declared.versions.Version.{Version}
 use Rattle.isa_model.specs.declared.versions.Version.TheVariants.{One, Two}
-use Rattle.isa_model.specs.Code.Versions.{stream_magic, head_size}
+use Rattle.isa_model.specs.Code.Versions.{stream_magic}
 use Rattle.isa_model.specs.Code.Limits.{max_body, max_packet}
 use Rattle.isa_model.specs.Code.Instructions.{Program}
 use Rattle.isa_model.specs.Machine.States.{KeyValues}
-use Rattle.isa_model.specs.Reporting.Streams.{PacketFrame, IsPacketFrame, ReasonFits, reason_field, length_field, InputEnding, ByEnd, ByError, stop_at, packet_frame_of, record_size, frames_from, Stream}
-use Rattle.isa_model.proofs.StreamLaws.{frames_from-stops, frames_from-goes_on, frames_behind}
+use Rattle.isa_model.specs.Reporting.Streams.{PacketFrame, IsPacketFrame, Stream}
 use Rattle.isa_model.specs.Running.Runs.{Outcome, Turn}
 use Rattle.isa_model.proofs.RunLaws.{turn-outcome, HasOutcome-same}
-use Rattle.isa_model.specs.Machine.MachineStates.{AreBytes, FitRows, IsProgram, IsClock, IsGiven}
-use Rattle.isa_model.proofs.ValueLaws.{slice_index_fits}
+use Rattle.isa_model.specs.Machine.MachineStates.{FitRows, IsProgram, IsClock, IsGiven}
 use Rattle.isa_model.specs.Running.Outcomes.{StartsEnd, AllExit, ExitsOn}
 use Rattle.isa_model.proofs.OutcomesLaws.{ExitsWithin, ExitsWithin-StartsEnd, FitRows-HasOutcome}
 use Rattle.isa_model.specs.Reporting.Reports.{OutputPiece, ToReport, ToFrames, ReportForm, maps_pieces, last_line, frame_pieces, frame_line, skip_pieces, turn_pieces, contents_left, turns_pieces, contents_after, checked_rule, checked_report_from, turn_by, ReportsFrame, ReportsFrames, report_form_of, IsReportFrom}
-
-reason_fits : (v : Version) (bytes : List ℕ) → AreBytes bytes → ReasonFits v (reason_field v bytes)
-reason_fits One bytes h = refl
-reason_fits Two bytes h = little_from-lt 20 4 bytes (slice_index_fits bytes h)
-
--- the packet frame that is read from bytes can be spelled, if its body is no longer than it may be
-IsPacketFrame-packet_frame_of : (v : Version) (bytes : List ℕ) → AreBytes bytes
-    → length_field bytes ≤ max_body v → IsPacketFrame v (packet_frame_of v bytes)
-IsPacketFrame-packet_frame_of v bytes h short = record {
-  short = let cut = length-take (length_field bytes) (drop (head_size v) bytes) in omega arith;
-  bytes = All-take (λ b. b < 256) (length_field bytes) (drop (head_size v) bytes)
-      (All-drop (λ b. b < 256) (head_size v) bytes h);
-  time = little_from-lt 0 8 bytes (slice_index_fits bytes h);
-  interface = little_from-lt 8 4 bytes (slice_index_fits bytes h);
-  queue = little_from-lt 12 4 bytes (slice_index_fits bytes h);
-  reason = reason_fits v bytes h;
-}
-
--- where a record follows, its body is no longer than it may be
-length_field-stop_at : (v : Version) (number offset : ℕ) (bytes : List ℕ) (e : InputEnding)
-    → stop_at v number offset bytes e ≡ None → length_field bytes ≤ max_body v
-unfolding stop_at
-length_field-stop_at v number offset [] ByEnd h = absurd (cc)
-length_field-stop_at v number offset [] ByError h = absurd (cc)
-length_field-stop_at v number offset (b ∷ bytes) e h = grind (arith, nat_tests)
-
-frames_fit : (fuel : ℕ) (v : Version) (number offset : ℕ) (bytes : List ℕ) (e : InputEnding)
-    → AreBytes bytes → All (IsPacketFrame v) (frames_from fuel v number offset bytes e).0
-unfolding frames_from
-frames_fit zero v number offset bytes e h = All-nil (IsPacketFrame v)
-frames_fit (suc fuel) v number offset bytes e h =
-    go (stop_at v number offset bytes e) refl (λ n at rest k. frames_fit fuel v n at rest e k)
-  where
-    go : (o : Option Finish) → stop_at v number offset bytes e ≡ o
-        → ((n at : ℕ) (rest : List ℕ) → AreBytes rest
-        → All (IsPacketFrame v) (frames_from fuel v n at rest e).0)
-        → All (IsPacketFrame v) (frames_from (suc fuel) v number offset bytes e).0
-    go (Some stop) s again =
-        subst (λ (t : List PacketFrame × Finish). All (IsPacketFrame v) t.0)
-        (sym (frames_from-stops fuel v number offset bytes e stop s))
-        (All-nil (IsPacketFrame v))
-    go None s again =
-        let f = packet_frame_of v bytes in
-        let size = record_size v f in
-        let here = IsPacketFrame-packet_frame_of v bytes h
-        (length_field-stop_at v number offset bytes e s) in
-        let more = again (number + 1) (offset + size) (drop size bytes)
-        (All-drop (λ b. b < 256) size bytes h) in
-        subst (λ (t : List PacketFrame × Finish). All (IsPacketFrame v) t.0)
-        (sym (frames_from-goes_on fuel v number offset bytes e s))
-        (All-cons (IsPacketFrame v) f (frames_behind fuel v number offset bytes e).0 here more)
 
 -- the frames of a stream can be spelled
 abbrev pub AreFrames : Stream → Type 0

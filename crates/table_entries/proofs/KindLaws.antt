@@ -83,13 +83,6 @@ limits_of-some l g h = of (decide_z l g) where
   of (inl o) = refl
   of (inr refuted) = absurd (refuted h)
 
-pub limits_of-none : (l g : ℤ) → (l ≤ℤ g → ⊥) → limits_of l g ≡ None
-unfolding limits_of
-limits_of-none l g out = of (decide_z l g) where
-  of : (a : (l ≤ℤ g) ⊎ (l ≤ℤ g → ⊥)) → limits_when l g a ≡ None
-  of (inl o) = absurd (out o)
-  of (inr refuted) = refl
-
 pub wide_of-made : (l g : ℕ) (s t s' t' : ℤ) (o : l ≤ g) (p : s' ≤ℤ t') → s' ≡ s → t' ≡ t
     → Some (record {
       least = l;
