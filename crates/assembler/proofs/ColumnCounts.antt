@@ -3,7 +3,7 @@ use Rattle.std.proofs.Common.{◌≡◌, ◌≢◌, ℕ, ◌+◌, ◌<◌, false
 use Rattle.std.specs.Prelude.{◌==◌, reverse}
 use Rattle.std.specs.List.{prefix_len}
 use Rattle.std.proofs.lemmas.List.{take_more, reverse-append}
-use Rattle.lexer.specs.Lexing.{is_line_byte}
+use Rattle.assembler.specs.Lexing.{is_line_byte}
 use Rattle.assembler.specs.Positions.{column_behind}
 
 one_more : (xs : List ℕ) (i : ℕ) → i < length xs

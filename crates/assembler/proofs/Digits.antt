@@ -10,9 +10,9 @@ use Rattle.std.proofs.lemmas.List.{get_or_at}
 use Rattle.std.proofs.Math.Seq.{take-append_seam}
 use Rattle.std.proofs.Math.Nat.{mul-le-mul_left}
 use Rattle.std.proofs.lemmas.Str.Parse.{digit_from_value}
-use Rattle.lexer.specs.declared.tokens.Token.TheVariants.{Number}
-use Rattle.lexer.specs.declared.tokens.Lexeme.TheVariants.{Solid}
-use Rattle.lexer.specs.Lexing.{is_word_byte, number_at, number_after, number_from, digits_number, lexeme_at}
+use Rattle.assembler.specs.declared.tokens.Token.TheVariants.{Number}
+use Rattle.assembler.specs.declared.tokens.Lexeme.TheVariants.{Solid}
+use Rattle.assembler.specs.Lexing.{is_word_byte, number_at, number_after, number_from, digits_number, lexeme_at}
 use Rattle.assembler.proofs.PlainTexts.{PlainReadSoFar, read_rest}
 use Rattle.assembler.proofs.FrontTokens.{token}
 

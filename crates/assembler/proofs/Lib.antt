@@ -31,3 +31,5 @@ pub mod ShiftedOffsets
 pub mod FrontLaws
 pub mod PositionLaws
 pub mod IdleParts
+pub mod LexingLaws
+pub mod LexemeFronts

@@ -10,9 +10,9 @@ use Rattle.isa_model.specs.declared.instructions.Operand.TheVariants.{Constant, 
 use Rattle.isa_model.specs.declared.instructions.Insn.{Insn}
 use Rattle.isa_model.specs.declared.instructions.Insn.TheVariants.{Alu, Neg, MovSx, ByteSwap, LoadNumber, LoadMap, LoadMapValue, Load, LoadSx, StoreConstant, Store, Atomic, Exchange, CompareExchange, Jump, JumpLong, JumpIf, CallHelper, CallLocal, Exit}
 use Rattle.isa_model.specs.declared.map_defs.MapDef.{MapDef}
-use Rattle.lexer.specs.declared.tokens.Token.{Token}
-use Rattle.lexer.specs.declared.tokens.Lexeme.{Lexeme}
-use Rattle.lexer.specs.declared.tokens.Lexeme.TheVariants.{Blank, End, Solid}
+use Rattle.assembler.specs.declared.tokens.Token.{Token}
+use Rattle.assembler.specs.declared.tokens.Lexeme.{Lexeme}
+use Rattle.assembler.specs.declared.tokens.Lexeme.TheVariants.{Blank, End, Solid}
 use Rattle.assembler.specs.declared.errors.AsmErrorKind.TheVariants.{NoForm}
 use Rattle.assembler.specs.declared.refusals.Refusal.{Refusal}
 use Rattle.assembler.specs.declared.readings.Statement.{Statement}

@@ -15,11 +15,11 @@ use Rattle.isa_model.specs.declared.instructions.Place.{Place}
 use Rattle.isa_model.specs.declared.instructions.Insn.TheVariants.{Load, LoadSx, StoreConstant, Store, Atomic, Exchange, CompareExchange}
 use Rattle.isa_model.specs.Code.Sizes.{width_size}
 use Rattle.isa_model.specs.Text.CanonicalText.{reg_text, size_text, signed_text, width_text, atomic_text, fetch_text, offset_text, line_of}
-use Rattle.lexer.specs.declared.tokens.Word.{Word}
-use Rattle.lexer.specs.declared.tokens.Word.TheVariants as word
-use Rattle.lexer.specs.declared.tokens.Sign.TheVariants as sign
-use Rattle.lexer.specs.declared.tokens.Token.{Token}
-use Rattle.lexer.specs.declared.tokens.Token.TheVariants.{Named, Signed}
+use Rattle.assembler.specs.declared.tokens.Word.{Word}
+use Rattle.assembler.specs.declared.tokens.Word.TheVariants as word
+use Rattle.assembler.specs.declared.tokens.Sign.TheVariants as sign
+use Rattle.assembler.specs.declared.tokens.Token.{Token}
+use Rattle.assembler.specs.declared.tokens.Token.TheVariants.{Named, Signed}
 use Rattle.assembler.specs.Spells.{changes}
 use Rattle.assembler.proofs.PlainTexts.{Parts, read_rest}
 use Rattle.assembler.proofs.TokenReads.{draft, reg-read, size-read, signed_size-read, fetch-read, exchange-read, compare-read, atomic-read, constant_tokens, place_tokens, constant-read, place-read}

@@ -1,9 +1,9 @@
 -- Laws of the lexemes that change nothing.
 use Rattle.std.proofs.Common.{◌≡◌, ℕ, ◌-◌, ◌<◌, ◌≤◌, ◌⊎◌, inl, inr, List, [], ◌∷◌, length, take, drop, refl, ap, ◌∙◌, Option, Some, None, Result, Ok}
 use Rattle.std.specs.Prelude.{IfSome, slice_get}
-use Rattle.lexer.specs.declared.tokens.Lexeme.{Lexeme}
-use Rattle.lexer.specs.declared.tokens.Lexeme.TheVariants.{Blank, End, Solid}
-use Rattle.lexer.specs.Lexing.{lexeme_at, token_length}
+use Rattle.assembler.specs.declared.tokens.Lexeme.{Lexeme}
+use Rattle.assembler.specs.declared.tokens.Lexeme.TheVariants.{Blank, End, Solid}
+use Rattle.assembler.specs.Lexing.{lexeme_at, token_length}
 use Rattle.assembler.specs.declared.refusals.Refusal.{Refusal}
 use Rattle.assembler.specs.Assembling.{ReadSoFar, read_on}
 use Rattle.assembler.specs.Drafts.{ChangesNothing}

@@ -3,10 +3,10 @@
 use Rattle.std.proofs.Common.{◌≡◌, ℕ, zero, suc, ◌+◌, ◌-◌, ◌==◌, Bool, true, false, if◌then◌else◌, List, [], ◌∷◌, ◌++◌, length, take, refl, ap, ◌∙◌, sym, subst, arith, ne_eqb, slice_get, Option, Some, None, ok_or, Result}
 use Rattle.isa_model.specs.declared.map_defs.MapDef.{MapDef}
 use Rattle.isa_model.specs.declared.instructions.Insn.{Insn}
-use Rattle.lexer.specs.declared.tokens.Token.{Token}
-use Rattle.lexer.specs.declared.tokens.Lexeme.{Lexeme}
-use Rattle.lexer.specs.declared.tokens.Lexeme.TheVariants.{Blank, End, Solid}
-use Rattle.lexer.specs.Lexing.{lexeme_at, unknown_at}
+use Rattle.assembler.specs.declared.tokens.Token.{Token}
+use Rattle.assembler.specs.declared.tokens.Lexeme.{Lexeme}
+use Rattle.assembler.specs.declared.tokens.Lexeme.TheVariants.{Blank, End, Solid}
+use Rattle.assembler.specs.Lexing.{lexeme_at, unknown_at}
 use Rattle.assembler.specs.declared.errors.AsmErrorKind.TheVariants.{UnknownByte}
 use Rattle.assembler.specs.declared.refusals.Refusal.{Refusal}
 use Rattle.assembler.specs.Operands.{◌>>=◌}

@@ -3,8 +3,8 @@ use Rattle.std.proofs.Common.{◌≡◌, ℕ, zero, suc, ◌+◌, ◌-◌, ◌<�
 use Rattle.std.proofs.lemmas.List.{length-drop}
 use Rattle.assembler.specs.declared.errors.AsmErrorKind.TheVariants.{UnknownByte}
 use Rattle.assembler.specs.declared.refusals.Refusal.{Refusal}
-use Rattle.lexer.specs.declared.tokens.Lexeme.{Lexeme}
-use Rattle.lexer.specs.Lexing.{lexeme_at, unknown_at}
+use Rattle.assembler.specs.declared.tokens.Lexeme.{Lexeme}
+use Rattle.assembler.specs.Lexing.{lexeme_at, unknown_at}
 use Rattle.assembler.specs.Operands.{◌>>=◌}
 use Rattle.assembler.specs.Assembling.{ReadSoFar, accept, at_end, next_lexeme, read_on}
 use Rattle.assembler.specs.Drafts.{accept_short}

@@ -2,12 +2,12 @@
 use Rattle.std.proofs.Common.{◌≡◌, ℕ, zero, suc, ◌+◌, ◌-◌, ◌<◌, ◌≤◌, ◌==◌, List, [], ◌∷◌, ◌++◌, length, take, drop, sym, ap, ◌∙◌, arith, Bool, true, false, if◌then◌else◌, Option, Some, None, Result, Ok, Err, subst}
 use Rattle.std.specs.Prelude.{slice_get, nat_lt}
 use Rattle.std.proofs.lemmas.List.{length-append, length-drop, append-nil, take-append-le, drop-append-le}
-use Rattle.lexer.specs.declared.tokens.Token.{Token}
-use Rattle.lexer.specs.declared.tokens.Lexeme.{Lexeme}
-use Rattle.lexer.specs.declared.tokens.Lexeme.TheVariants.{Blank, End, Solid}
-use Rattle.lexer.specs.Lexing.{lexeme_at, unknown_at}
-use Rattle.lexer.proofs.LexingLaws.{unknown_at-within}
-use Rattle.lexer.proofs.LexemeFronts.{lexeme_at-append, EndsWithin, BeginsAlike}
+use Rattle.assembler.specs.declared.tokens.Token.{Token}
+use Rattle.assembler.specs.declared.tokens.Lexeme.{Lexeme}
+use Rattle.assembler.specs.declared.tokens.Lexeme.TheVariants.{Blank, End, Solid}
+use Rattle.assembler.specs.Lexing.{lexeme_at, unknown_at}
+use Rattle.assembler.proofs.LexingLaws.{unknown_at-within}
+use Rattle.assembler.proofs.LexemeFronts.{lexeme_at-append, EndsWithin, BeginsAlike}
 use Rattle.assembler.specs.declared.errors.AsmErrorKind.{AsmErrorKind}
 use Rattle.assembler.specs.declared.errors.AsmErrorKind.TheVariants.{UnknownByte, NoForm, OutOfRange}
 use Rattle.assembler.specs.declared.errors.AsmError.{AsmError}

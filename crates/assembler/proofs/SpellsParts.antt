@@ -19,12 +19,12 @@ use Rattle.isa_model.specs.declared.instructions.Comparison.TheVariants as compa
 use Rattle.isa_model.specs.declared.instructions.Place.{Place}
 use Rattle.isa_model.specs.declared.instructions.Insn.{Insn}
 use Rattle.isa_model.specs.Code.Sizes.{width_size}
-use Rattle.lexer.specs.declared.tokens.Word.{Word}
-use Rattle.lexer.specs.declared.tokens.Word.TheVariants as word
-use Rattle.lexer.specs.declared.tokens.Sign.{Sign}
-use Rattle.lexer.specs.declared.tokens.Sign.TheVariants as sign
-use Rattle.lexer.specs.declared.tokens.Token.{Token}
-use Rattle.lexer.specs.declared.tokens.Token.TheVariants.{Named, Number, Signed}
+use Rattle.assembler.specs.declared.tokens.Word.{Word}
+use Rattle.assembler.specs.declared.tokens.Word.TheVariants as word
+use Rattle.assembler.specs.declared.tokens.Sign.{Sign}
+use Rattle.assembler.specs.declared.tokens.Sign.TheVariants as sign
+use Rattle.assembler.specs.declared.tokens.Token.{Token}
+use Rattle.assembler.specs.declared.tokens.Token.TheVariants.{Named, Number, Signed}
 use Rattle.assembler.specs.declared.readings.Reading.{Reading}
 use Rattle.assembler.specs.declared.wrong.Wrong.TheVariants.{Form, Range}
 use Rattle.assembler.specs.Operands.{keep, token_at, number_at, word_at, expect_at, op_of, atomic_op_of, comparison_of, width_of, extension_of, wide_within, signed_at, place_at, memory_at, argument_at, as_size, as_signed_size, is_name, target_token, target_at, field_at, is_by_index, index_at, by_index_at}

@@ -20,12 +20,12 @@ use Rattle.isa_model.specs.declared.instructions.Operand.TheVariants.{Constant, 
 use Rattle.isa_model.specs.declared.instructions.Insn.{Insn}
 use Rattle.isa_model.specs.declared.instructions.Insn.TheVariants.{Alu, Neg, MovSx, ByteSwap, LoadNumber, LoadMap, LoadMapValue, Load, LoadSx, StoreConstant, Store, Atomic, Exchange, CompareExchange, Jump, JumpLong, JumpIf, CallHelper, CallLocal, Exit}
 use Rattle.isa_model.specs.Code.Sizes.{width_size}
-use Rattle.lexer.specs.declared.tokens.Word.{Word}
-use Rattle.lexer.specs.declared.tokens.Word.TheVariants as word
-use Rattle.lexer.specs.declared.tokens.Sign.{Sign}
-use Rattle.lexer.specs.declared.tokens.Sign.TheVariants as sign
-use Rattle.lexer.specs.declared.tokens.Token.{Token}
-use Rattle.lexer.specs.declared.tokens.Token.TheVariants.{Named, Number, Signed}
+use Rattle.assembler.specs.declared.tokens.Word.{Word}
+use Rattle.assembler.specs.declared.tokens.Word.TheVariants as word
+use Rattle.assembler.specs.declared.tokens.Sign.{Sign}
+use Rattle.assembler.specs.declared.tokens.Sign.TheVariants as sign
+use Rattle.assembler.specs.declared.tokens.Token.{Token}
+use Rattle.assembler.specs.declared.tokens.Token.TheVariants.{Named, Number, Signed}
 use Rattle.assembler.specs.declared.readings.Reading.{Reading}
 use Rattle.assembler.specs.declared.wrong.Wrong.{Wrong}
 use Rattle.assembler.specs.Operands.{◌>>=◌, is_minus, signed_within, is_name}

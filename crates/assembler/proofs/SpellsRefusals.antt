@@ -8,10 +8,10 @@ use Rattle.isa_model.specs.declared.instructions.Insn.TheVariants.{LoadMap, Load
 use Rattle.isa_model.specs.Code.Instructions.{Program, slots}
 use Rattle.image.specs.Images as image
 use Rattle.image.specs.Refusals.{count_refusal, is_array}
-use Rattle.lexer.specs.declared.tokens.Token.{Token}
-use Rattle.lexer.specs.declared.tokens.Lexeme.{Lexeme}
-use Rattle.lexer.specs.declared.tokens.Lexeme.TheVariants.{Blank, End, Solid}
-use Rattle.lexer.specs.Lexing.{lexeme_at}
+use Rattle.assembler.specs.declared.tokens.Token.{Token}
+use Rattle.assembler.specs.declared.tokens.Lexeme.{Lexeme}
+use Rattle.assembler.specs.declared.tokens.Lexeme.TheVariants.{Blank, End, Solid}
+use Rattle.assembler.specs.Lexing.{lexeme_at}
 use Rattle.assembler.specs.declared.errors.AsmError.{AsmError}
 use Rattle.assembler.specs.declared.errors.AsmErrorKind.{AsmErrorKind}
 use Rattle.assembler.specs.declared.errors.AsmErrorKind.TheVariants.{UnknownByte, NoForm, OutOfRange, DefinedTwice, NotDefined, TooFar, MapLine, NoMap, NotOneValue, PastValue, LateVersion, SlotCount}

@@ -10,12 +10,12 @@ use Rattle.isa_model.specs.declared.instructions.Operand.{Operand}
 use Rattle.isa_model.specs.declared.instructions.Operand.TheVariants.{Constant, Register}
 use Rattle.isa_model.specs.declared.instructions.Place.{Place}
 use Rattle.isa_model.specs.Code.Registers.{reg_number, reg_numbered}
-use Rattle.lexer.specs.declared.tokens.Word.{Word}
-use Rattle.lexer.specs.declared.tokens.Word.TheVariants as word
-use Rattle.lexer.specs.declared.tokens.Sign.{Sign}
-use Rattle.lexer.specs.declared.tokens.Sign.TheVariants as sign
-use Rattle.lexer.specs.declared.tokens.Token.{Token}
-use Rattle.lexer.specs.declared.tokens.Token.TheVariants.{Named, Number, Signed}
+use Rattle.assembler.specs.declared.tokens.Word.{Word}
+use Rattle.assembler.specs.declared.tokens.Word.TheVariants as word
+use Rattle.assembler.specs.declared.tokens.Sign.{Sign}
+use Rattle.assembler.specs.declared.tokens.Sign.TheVariants as sign
+use Rattle.assembler.specs.declared.tokens.Token.{Token}
+use Rattle.assembler.specs.declared.tokens.Token.TheVariants.{Named, Number, Signed}
 use Rattle.assembler.specs.declared.wrong.Wrong.{Wrong}
 use Rattle.assembler.specs.declared.wrong.Wrong.TheVariants.{Form, Range}
 use Rattle.assembler.specs.Operands.{◌>>=◌, keep, token_at, as_sign, as_number, as_word, sign_at, number_at, word_at, is_sign, expect_at, is_minus, signed_within, signed_at, number_index, constant_at, same_width, same_register, as_register, register_at, again_at, operand_token, operand_at, place_at}

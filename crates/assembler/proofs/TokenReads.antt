@@ -30,12 +30,12 @@ use Rattle.isa_model.specs.declared.map_defs.MapType.{MapType}
 use Rattle.isa_model.specs.declared.map_defs.MapType.TheVariants.{Hash, Array}
 use Rattle.isa_model.specs.Code.Spelling.{OperandFits}
 use Rattle.isa_model.specs.Text.CanonicalText.{reg_text, size_text, signed_text, extension_text, span_text, order_text, width_text, op_text, comparison_text, atomic_text, fetch_text, operand_text, offset_text, distance_text, map_type_text}
-use Rattle.lexer.specs.declared.tokens.Word.TheVariants as word
-use Rattle.lexer.specs.declared.tokens.Sign.TheVariants as sign
-use Rattle.lexer.specs.declared.tokens.Token.{Token}
-use Rattle.lexer.specs.declared.tokens.Token.TheVariants.{Named, Number, Signed}
-use Rattle.lexer.specs.declared.tokens.Lexeme.TheVariants.{Solid}
-use Rattle.lexer.specs.Lexing.{is_word_byte, lexeme_at}
+use Rattle.assembler.specs.declared.tokens.Word.TheVariants as word
+use Rattle.assembler.specs.declared.tokens.Sign.TheVariants as sign
+use Rattle.assembler.specs.declared.tokens.Token.{Token}
+use Rattle.assembler.specs.declared.tokens.Token.TheVariants.{Named, Number, Signed}
+use Rattle.assembler.specs.declared.tokens.Lexeme.TheVariants.{Solid}
+use Rattle.assembler.specs.Lexing.{is_word_byte, lexeme_at}
 use Rattle.assembler.specs.Spells.{assigns, changes, compares, extends}
 use Rattle.assembler.proofs.PlainTexts.{Parts, PlainReadSoFar, read_rest}
 use Rattle.assembler.proofs.FrontTokens.{token}

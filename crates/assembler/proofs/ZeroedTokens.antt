@@ -1,7 +1,7 @@
 -- Laws of tokens whose numbers were replaced by 0.
 use Rattle.std.proofs.Common.{◌≡◌, ◌≤◌, ℕ, false, List, ◌++◌, map, take, drop, length, ap, ◌∙◌, sym, append-nil, arith, slice_range, le_of_eq, ◌-◌}
 use Rattle.std.proofs.lemmas.List.{take_all, drop_all, length-drop}
-use Rattle.lexer.specs.declared.tokens.Token.{Token}
+use Rattle.assembler.specs.declared.tokens.Token.{Token}
 use Rattle.assembler.specs.Statements.{reading_of}
 use Rattle.assembler.specs.Labelled.{zeroed, has_form}
 

@@ -18,10 +18,10 @@ use Rattle.assembler.specs.declared.readings.Statement.TheVariants as said
 use Rattle.assembler.specs.declared.wrong.Wrong.{Wrong}
 use Rattle.assembler.specs.declared.wrong.Objection.{Objection}
 use Rattle.assembler.specs.declared.wrong.Wrong.TheVariants.{Form, Range}
-use Rattle.lexer.specs.declared.tokens.Token.{Token}
-use Rattle.lexer.specs.declared.tokens.Lexeme.{Lexeme}
-use Rattle.lexer.specs.declared.tokens.Lexeme.TheVariants.{Blank, End, Solid}
-use Rattle.lexer.specs.Lexing.{lexeme_at, unknown_at}
+use Rattle.assembler.specs.declared.tokens.Token.{Token}
+use Rattle.assembler.specs.declared.tokens.Lexeme.{Lexeme}
+use Rattle.assembler.specs.declared.tokens.Lexeme.TheVariants.{Blank, End, Solid}
+use Rattle.assembler.specs.Lexing.{lexeme_at, unknown_at}
 use Rattle.assembler.specs.Operands.{◌>>=◌}
 use Rattle.assembler.specs.Labelled.{spelled_behind, has_form, label_length}
 use Rattle.assembler.specs.MapTests.{objection}

@@ -1,6 +1,6 @@
 -- The front of a text: the lexemes that surely end in it, and what is left of it.
 use Rattle.std.specs.Prelude.{◌≡◌, ℕ, ◌-◌, ◌<◌, ◌≤◌, List, ◌++◌, length, map, drop, ◌⊎◌}
-use Rattle.lexer.specs.Lexing.{lexeme_at}
+use Rattle.assembler.specs.Lexing.{lexeme_at}
 use Rattle.assembler.specs.Naming.{NameUse}
 use Rattle.assembler.specs.Assembling.{TokenSpan, ReadSoFar, start, read_on}
 use Rattle.assembler.specs.Settled.{TakesAll}

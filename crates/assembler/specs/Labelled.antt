@@ -1,9 +1,9 @@
 -- Statements with their labels.
 use Rattle.std.specs.Prelude.{ℕ, ◌==◌, Bool, true, false, if◌then◌else◌, List, map, length, slice_get, Option, Some, is_ok, Result, Ok, Err, ◌&&◌, ◌||◌}
-use Rattle.lexer.specs.declared.tokens.Word.TheVariants as word
-use Rattle.lexer.specs.declared.tokens.Sign.TheVariants as sign
-use Rattle.lexer.specs.declared.tokens.Token.{Token}
-use Rattle.lexer.specs.declared.tokens.Token.TheVariants.{Named, Number, Signed}
+use Rattle.assembler.specs.declared.tokens.Word.TheVariants as word
+use Rattle.assembler.specs.declared.tokens.Sign.TheVariants as sign
+use Rattle.assembler.specs.declared.tokens.Token.{Token}
+use Rattle.assembler.specs.declared.tokens.Token.TheVariants.{Named, Number, Signed}
 use Rattle.assembler.specs.declared.readings.Statement.{Statement}
 use Rattle.assembler.specs.declared.readings.Statement.TheVariants.{Empty, Version, Row, Instruction}
 use Rattle.assembler.specs.declared.wrong.Wrong.{Wrong}

@@ -14,3 +14,6 @@ pub mod Shown
 pub mod Settled
 pub mod Fronts
 pub mod Gaps
+pub mod Words
+pub mod Signs
+pub mod Lexing

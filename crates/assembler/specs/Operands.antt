@@ -21,12 +21,12 @@ use Rattle.isa_model.specs.declared.instructions.Place.{Place}
 use Rattle.isa_model.specs.declared.map_defs.MapType.{MapType}
 use Rattle.isa_model.specs.Code.Registers.{reg_number}
 use Rattle.isa_model.specs.Code.Sizes.{width_bits}
-use Rattle.lexer.specs.declared.tokens.Word.{Word}
-use Rattle.lexer.specs.declared.tokens.Word.TheVariants as word
-use Rattle.lexer.specs.declared.tokens.Sign.{Sign}
-use Rattle.lexer.specs.declared.tokens.Sign.TheVariants as sign
-use Rattle.lexer.specs.declared.tokens.Token.{Token}
-use Rattle.lexer.specs.declared.tokens.Token.TheVariants.{Named, Number, Signed}
+use Rattle.assembler.specs.declared.tokens.Word.{Word}
+use Rattle.assembler.specs.declared.tokens.Word.TheVariants as word
+use Rattle.assembler.specs.declared.tokens.Sign.{Sign}
+use Rattle.assembler.specs.declared.tokens.Sign.TheVariants as sign
+use Rattle.assembler.specs.declared.tokens.Token.{Token}
+use Rattle.assembler.specs.declared.tokens.Token.TheVariants.{Named, Number, Signed}
 use Rattle.assembler.specs.declared.wrong.Wrong.{Wrong}
 use Rattle.assembler.specs.declared.wrong.Wrong.TheVariants.{Form, Range}
 

@@ -1,7 +1,7 @@
 -- Positions in texts: lines and columns, counted from 1; columns in bytes.
 use Rattle.std.specs.Prelude.{ℕ, ◌+◌, ◌==◌, List, take, count_by, reverse}
 use Rattle.std.specs.List.{prefix_len}
-use Rattle.lexer.specs.Lexing.{is_line_byte}
+use Rattle.assembler.specs.Lexing.{is_line_byte}
 use Rattle.assembler.specs.declared.errors.AsmError.{AsmError}
 use Rattle.assembler.specs.declared.refusals.Refusal.{Refusal}
 

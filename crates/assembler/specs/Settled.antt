@@ -1,7 +1,7 @@
 -- What the first bytes of a text say of it.
 use Rattle.std.specs.Prelude.{◌≡◌, ℕ, ◌<◌, ◌≤◌, List, ◌++◌, length, Option, Some, None, ◌⊎◌}
-use Rattle.lexer.specs.declared.tokens.Lexeme.{Lexeme}
-use Rattle.lexer.specs.Lexing.{lexeme_at}
+use Rattle.assembler.specs.declared.tokens.Lexeme.{Lexeme}
+use Rattle.assembler.specs.Lexing.{lexeme_at}
 use Rattle.assembler.specs.Assembling.{ReadSoFar, start, read_on, assembled}
 
 -- however the text goes on, it is refused alike

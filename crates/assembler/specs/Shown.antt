@@ -1,7 +1,7 @@
 -- The line in which a text is refused, and a caret under the column.
 use Rattle.std.specs.Prelude.{ℕ, zero, suc, ◌-◌, ◌==◌, nat_le, nat_lt, ◌&&◌, ◌||◌, List, [], ◌++◌, map, length, take, drop, codes, if◌then◌else◌}
 use Rattle.std.specs.List.{prefix_len}
-use Rattle.lexer.specs.Lexing.{is_line_byte}
+use Rattle.assembler.specs.Lexing.{is_line_byte}
 use Rattle.assembler.specs.declared.errors.AsmError.{AsmError}
 use Rattle.assembler.specs.declared.showing.TheConstants.{MAX_SEARCHED}
 use Rattle.assembler.specs.Hints.{hint}

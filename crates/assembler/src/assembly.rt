@@ -12,9 +12,9 @@ use super::draft::{Draft, Span};
 use super::errors::{AsmError, AsmErrorKind};
 use super::names::resolve;
 use super::refusals::{Refusal, located};
+use crate::lexeme_at;
 use image::Image;
 use isa_model::{Insn, MapDef, Version};
-use lexer::lexeme_at;
 use std::alloc::Global;
 
 /// The bytes without the first `count`, or without the first one if `count` is 0.

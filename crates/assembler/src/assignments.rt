@@ -13,8 +13,8 @@ use super::parts::{
 };
 use super::readings::Reading;
 use super::wrong::Wrong;
+use crate::{Sign, Token, Word};
 use isa_model::{AluOp, AtomicOp, ByteOrder, Insn, Place, Reg, SwapWidth, Width};
-use lexer::{Sign, Token, Word};
 
 /// The instruction of a statement without a name that ends before the index.
 pub fn plain(insn: Insn, tokens: &[Token], end: usize) -> Result<Reading, Wrong>

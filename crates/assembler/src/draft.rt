@@ -1,7 +1,7 @@
 //! A program while its text is read.
 
 ghost use Rattle.std.specs.Prelude.{◌≡◌, ◌==◌, ◌≤◌, if◌then◌else◌, length, map, drop, slice_get, [], Ok, IfErr, IfSome, IsTrue, OnOk};
-ghost use Rattle.lexer.specs.declared.tokens.Lexeme.TheVariants as Lexeme;
+ghost use Rattle.assembler.specs.declared.tokens.Lexeme.TheVariants as Lexeme;
 ghost use Rattle.assembler.specs.declared.errors.AsmErrorKind.TheVariants as AsmErrorKind;
 ghost use Rattle.assembler.specs.declared.readings.Statement.TheVariants as Statement;
 ghost use Rattle.assembler.specs.Labelled.{is_label, label_length, has_form};
@@ -19,9 +19,9 @@ use super::readings::{Reading, Statement};
 use super::refusals::Refusal;
 use super::statements::{fits_form, spelled_behind};
 use super::wrong::{Objection, Wrong};
+use crate::{Lexeme, Sign, Token, line_len, token_len};
 use indexmap::IndexMap;
 use isa_model::{MapDef, Version};
-use lexer::{Lexeme, Sign, Token, line_len, token_len};
 use std::alloc::Global;
 
 // More tokens than a label and the longest form have, which are 15. Of a longer statement no more

@@ -10,7 +10,7 @@ use super::assembly::after;
 use super::draft::{Draft, Span};
 use super::errors::AsmErrorKind;
 use super::refusals::Refusal;
-use lexer::lexeme_at;
+use crate::lexeme_at;
 use std::alloc::Global;
 
 // As many bytes as the longest sign has.

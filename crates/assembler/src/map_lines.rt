@@ -6,8 +6,8 @@ ghost use Rattle.assembler.specs.Statements.{map_line};
 
 use super::parts::{as_map_type, expect_at, is_by_index, number_at, word_at};
 use super::wrong::Wrong;
+use crate::{Sign, Token};
 use isa_model::MapDef;
-use lexer::{Sign, Token};
 
 /// A number without a sign; one over `most` counts as `most`.
 pub fn field_at(most: u32, tokens: &[Token], i: usize) -> Result<u32, Wrong>

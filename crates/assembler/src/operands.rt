@@ -5,8 +5,8 @@ ghost use Rattle.assembler.specs.Operands.{signed_within, wide_within, signed_at
 
 use super::parts::{expect_at, is_minus, number_at, sign_at, token_at, word_at};
 use super::wrong::Wrong;
+use crate::{Sign, Token, Word};
 use isa_model::{Operand, Place, Reg, Width};
-use lexer::{Sign, Token, Word};
 
 // A number below the limit, or a negative one down to minus the limit. It begins at token `at`.
 fn signed_within(limit: u32, minus: bool, n: u128, at: usize) -> Result<i64, Wrong>

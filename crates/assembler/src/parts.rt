@@ -6,8 +6,8 @@ ghost use Rattle.assembler.specs.Statements.{is_full};
 ghost use Rattle.assembler.specs.Labelled.{zeroed};
 
 use super::wrong::Wrong;
+use crate::{Sign, Token, Word};
 use isa_model::{AluOp, AtomicOp, Comparison, Extension, MapType, SignedSize, Size, Width};
-use lexer::{Sign, Token, Word};
 
 /// The token at the index, if there is one.
 pub fn token_in(tokens: &[Token], i: usize) -> Option<Token>

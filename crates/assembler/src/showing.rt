@@ -6,7 +6,7 @@ ghost use Rattle.assembler.specs.Shown.{after_line, after_lines, line_of, before
 
 use super::errors::AsmError;
 use super::hints::hint;
-use lexer::line_len;
+use crate::line_len;
 use std::alloc::{AllocError, Global};
 
 /// The most bytes of a line that is shown.

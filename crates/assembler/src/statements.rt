@@ -16,8 +16,8 @@ use super::parts::{
 };
 use super::readings::{Reading, Statement};
 use super::wrong::Wrong;
+use crate::{Sign, Token, Word};
 use isa_model::{Cond, Insn, Place, Reg, Size, Width};
-use lexer::{Sign, Token, Word};
 
 // What is stored after `*(size *)(place) =`.
 fn stored_token(size: Size, place: Place, tokens: &[Token], token: Token) -> Result<Reading, Wrong>

@@ -1,2 +1,3 @@
 pub mod Transfers
 pub mod Waiting
+pub mod Failures

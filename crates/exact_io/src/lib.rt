@@ -7,6 +7,7 @@
 #![tactic(auto)]
 
 mod buffering;
+pub mod failing;
 mod reading;
 mod writing;
 

@@ -5,9 +5,8 @@ ghost use Rattle.std.specs.FinMap.{get};
 ghost use Rattle.std.proofs.Common.{lit<};
 ghost use Rattle.maps.specs.Maps.{map_at, Updated, Deleted};
 
-use helpers::{Answer, Request, call};
 use isa_model::{Clock, Helper};
-use maps::Maps;
+use maps::{Answer, Maps, Request, call};
 
 // A clock that is not asked.
 #[derive(Drop)]

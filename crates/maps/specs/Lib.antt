@@ -12,3 +12,4 @@ pub mod Lending
 pub mod StoreLends
 pub mod Listing
 pub mod Messages
+pub mod Calls

@@ -142,7 +142,7 @@ impl Maps {
         requires key_size { length key.now ≡ (map_at self.now map).row.key_size }
         ensures { option_copied result ≡ at_key key.now (content_in (map_at self.now map)) }
     {
-        helpers::lookup(&self.stores.all[map], key)
+        crate::lookup(&self.stores.all[map], key)
     }
 
     /// Writes the value of a key, or adds the key. The answer is 0, or the error of the first test
@@ -157,7 +157,7 @@ impl Maps {
         ensures others { self.new ≡ slice_set self.old map (map_at self.new map) }
     {
         self.stores.listed = None;
-        helpers::update(&mut self.stores.all[map], key, value, flags)
+        crate::update(&mut self.stores.all[map], key, value, flags)
     }
 
     /// Removes a key. The answer is 0, or an error, and then the map stays as it is.
@@ -168,7 +168,7 @@ impl Maps {
         ensures others { self.new ≡ slice_set self.old map (map_at self.new map) }
     {
         self.stores.listed = None;
-        helpers::delete(&mut self.stores.all[map], key)
+        crate::delete(&mut self.stores.all[map], key)
     }
 
     /// Fills a list that has room with the places of a map's keys, in the order of the keys' bytes.

@@ -5,6 +5,7 @@
 #![tactic(auto)]
 
 pub mod all;
+pub mod calls;
 pub mod commands;
 pub mod either;
 pub mod errors;
@@ -16,6 +17,7 @@ pub mod store;
 mod stores;
 
 pub use all::Maps;
+pub use calls::{Answer, Request, call};
 pub use commands::{MapCommand, Reply, replies};
 pub use either::EitherIndex;
 pub use errors::MapError;

@@ -2,6 +2,7 @@
 //! abstract states after some steps, instructions that are cut off, another clock, map stores, and
 //! reads and outputs that fail. What the commands show is tested by the cases in tests/programs.
 
+mod abstract_states;
 mod clocks;
 mod cuts;
 mod flows;

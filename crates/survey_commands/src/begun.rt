@@ -7,7 +7,7 @@ use crate::failures::SurveyError;
 use crate::files::read_image;
 use crate::looks::{say, say_malformed};
 use control_flow::FlowError;
-use coverage_texts::BoundVerdict;
+use coverage::BoundVerdict;
 use exact_io::write_bytes;
 use explorer::{Refusal, verify};
 use image::{Image, ImageError};

@@ -8,10 +8,10 @@ use crate::looks::{Look, look_at};
 use crate::pages::show_page;
 use crate::steps::print_steps;
 use crate::surveying::survey;
+use crate::{Asked, read_words};
 use exact_io::PromptWriter;
 use std::io::Write;
 use std::rt::{Clock, Files};
-use survey_words::{Asked, read_words};
 use words::WordsError;
 
 /// Does what is asked for, and returns the status.

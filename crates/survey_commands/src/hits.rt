@@ -5,8 +5,8 @@ ghost use Rattle.std.specs.Prelude.{◌≤◌, IfOk};
 use crate::begun::{NotBegun, judged, load, maps_begun, parsed_again};
 use crate::failures::SurveyError;
 use crate::streams::{open_stream, say_faulted};
-use coverage::StreamHits;
-use coverage_texts::{BoundVerdict, hits_csv, hits_json, hits_text};
+use crate::{Format, RunAsked};
+use coverage::{BoundVerdict, StreamHits, hits_csv, hits_json, hits_text};
 use exact_io::write_bytes;
 use image::Image;
 use isa_model::Finish;
@@ -14,7 +14,6 @@ use std::alloc::{AllocError, Global};
 use std::io;
 use std::io::Write;
 use std::rt::{Clock, Files};
-use survey_words::{Format, RunAsked};
 
 /// What was counted of an image.
 #[derive(Drop)]

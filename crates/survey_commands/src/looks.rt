@@ -2,6 +2,7 @@
 
 ghost use Rattle.std.specs.Prelude.{◌≤◌, IfOk};
 
+use crate::LogPart;
 use crate::failures::{SurveyError, no_slot_line};
 use crate::files::read_image;
 use control_flow::FlowError;
@@ -14,7 +15,6 @@ use std::alloc::{AllocError, Global};
 use std::io;
 use std::io::Write;
 use std::rt::Files;
-use survey_words::LogPart;
 use surveys::{LookError, write_graph, write_listing, write_log};
 
 /// Says what is shown of an image.

@@ -2,12 +2,13 @@
 
 ghost use Rattle.std.specs.Prelude.{◌≤◌, IfOk};
 
+use crate::RunAsked;
 use crate::begun::{NotBegun, judged, load, maps_begun, parsed_again};
 use crate::failures::SurveyError;
 use crate::streams::{open_stream, say_faulted};
-use coverage::{FrameFound, FrameSteps};
-use coverage_texts::{
-    BoundVerdict, FrameShown, skip_json, skip_text, skip_words, write_json, write_text,
+use coverage::{
+    BoundVerdict, FrameFound, FrameShown, FrameSteps, skip_json, skip_text, skip_words, write_json,
+    write_text,
 };
 use exact_io::write_bytes;
 use isa_model::{Finish, Version};
@@ -15,7 +16,6 @@ use std::alloc::{AllocError, Global};
 use std::io;
 use std::io::Write;
 use std::rt::{Clock, Files};
-use survey_words::RunAsked;
 
 /// What was found of a frame, and the version of the program.
 #[derive(Drop)]

@@ -2,6 +2,7 @@
 
 ghost use Rattle.std.specs.Prelude.{◌≤◌, IfOk};
 
+use crate::Survey;
 use crate::failures::{SurveyError, empty_line, unnamed_line};
 use crate::files::read_image;
 use crate::folders::{FolderFailure, NamedPath, add_folder, add_images, images};
@@ -14,7 +15,6 @@ use std::alloc::{AllocError, Global};
 use std::io::{ErrorKind, Write};
 use std::rt::{Clock, Files};
 use survey_rows::{Counts, Judgement, Row, Summary};
-use survey_words::Survey;
 use surveys::{Judged, judge};
 
 /// Says on standard error why a file cannot be read, and returns how its image is judged.

@@ -2,7 +2,7 @@
 
 ghost use Rattle.std.specs.Prelude.{◌≡◌, ◌≢◌, ◌+◌, ◌-◌, ◌/◌, ◌≤◌, ℕ, [], length, slice_index, take, vec_capacity};
 ghost use Rattle.std.specs.FinMap as finmap;
-ghost use Rattle.helpers.specs.declared.calls.Answer.TheVariants.{Number, Value};
+ghost use Rattle.maps.specs.declared.calls.Answer.TheVariants.{Number, Value};
 ghost use Rattle.word_machine.specs.Addresses.{region_of};
 ghost use Rattle.isa_model.specs.Code.Helpers.{helper_numbered};
 ghost use Rattle.word_machine.specs.Helping.{CallFits, Calls, asks, NamesKey, HasPlaces, NamesValue, UpdatesMap, DeletesFromMap, found_at, key_named, named};
@@ -12,9 +12,8 @@ ghost use Rattle.word_machine.specs.Ops.{constant_of, HasConstant};
 use crate::addresses::{FIRST_MAP_REGION, FIRST_VALUES_REGION, base, region_of};
 use crate::memory::{Memory, bytes, bytes_apart};
 use crate::ops::Op;
-use helpers::{Answer, Request, call};
 use isa_model::{Clock, Helper};
-use maps::KEY_ROOM;
+use maps::{Answer, KEY_ROOM, Request, call};
 
 // The map to which r1 points.
 #[inline(always)]

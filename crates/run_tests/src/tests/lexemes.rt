@@ -1,7 +1,7 @@
 //! The lexeme at the front of a text, and the byte at which no token begins.
 
 use super::rows::holds_at;
-use lexer::{Lexeme, Sign, Token, Word, lexeme_at};
+use assembler::{Lexeme, Sign, Token, Word, lexeme_at};
 
 /// Returns what the text begins with, and how long that is; or "none", and the offset of the byte
 /// at which no token begins.

@@ -1,8 +1,8 @@
 //! The proof table of `r0 = 2; exit`, written to outputs that fail.
 
 use super::rows::holds_at;
+use exact_io::failing::{Failure, Writer};
 use explorer::{Verified, verify};
-use failing_io::{Failure, Writer};
 use image::Image;
 use proof_table::{WriteTableError, write_table};
 use std::alloc::Global;

@@ -1,7 +1,7 @@
 use Rattle.std.proofs.Common.{◌≡◌, ◌+◌, ◌<◌, ◌≤◌, ◌-◌, ◌^◌, ℕ, List, ap, ap₂, ◌∙◌, sym, length, take, rules, Some, None, Result, Ok, Err, arith, inr, subst}
 use Rattle.std.proofs.lemmas.List.{take_min}
-use Rattle.lexer.specs.Lexing.{lexeme_at, unknown_at}
-use Rattle.lexer.proofs.LexingLaws.{unknown_at-within}
+use Rattle.assembler.specs.Lexing.{lexeme_at, unknown_at}
+use Rattle.assembler.proofs.LexingLaws.{unknown_at-within}
 use Rattle.assembler.specs.declared.errors.AsmErrorKind.TheVariants.{UnknownByte}
 use Rattle.assembler.specs.declared.refusals.Refusal.{Refusal}
 use Rattle.assembler.specs.Assembling.{ReadSoFar, IsAsWanted, read_on}

@@ -1,6 +1,6 @@
 use Rattle.std.proofs.Common.{◌≡◌, ◌<◌, ◌≤◌, ◌-◌, ◌∙◌, ℕ, List, ap, sym, subst, length, take, drop, Some, Option, Ok, arith, inl, inr}
-use Rattle.lexer.specs.declared.tokens.Lexeme.{Lexeme}
-use Rattle.lexer.specs.Lexing.{lexeme_at}
+use Rattle.assembler.specs.declared.tokens.Lexeme.{Lexeme}
+use Rattle.assembler.specs.Lexing.{lexeme_at}
 use Rattle.assembler.specs.Drafts.{progress_of, accept_short}
 use Rattle.assembler.specs.Settled.{TakesAll}
 use Rattle.assembler.specs.Fronts.{ReadsOn, IsBelow}

@@ -3,7 +3,7 @@
 
 use super::cases::{Case, MAGIC, ONE, Output, PASSES, TAKES_ALL, TWO, TWO_WITH_REASONS, ends_so};
 use crate::tests::rows::holds_at;
-use failing_io::FAILURES;
+use exact_io::failing::FAILURES;
 use host::{HostError, Tally};
 use isa_model::Fault;
 use std::alloc::Global;

@@ -1,8 +1,8 @@
 //! Writers with a buffer whose first bytes are written at once.
 
 use crate::tests::rows::holds_at;
+use exact_io::failing::{FAILURES, Writer};
 use exact_io::{PromptWriter, write_bytes};
-use failing_io::{FAILURES, Writer};
 use std::alloc::Global;
 use std::io::Write;
 

@@ -1,8 +1,8 @@
 //! Small programs that are run on streams: the result, the report and the frames out.
 
 use crate::tests::programs::image_of;
+use exact_io::failing::{Failure, Reader, Writer};
 use explorer::{Verified, verify};
-use failing_io::{Failure, Reader, Writer};
 use host::{HostError, Tally, run, run_checked, tally_in};
 use image::Image;
 use std::alloc::Global;

@@ -3,7 +3,7 @@
 
 use super::cases::{Case, MAGIC, ONE, PASSES, TAKES_ALL, TWO, TWO_WITH_REASONS, ends_so};
 use crate::tests::rows::holds_at;
-use failing_io::{FAILURES, Failure};
+use exact_io::failing::{FAILURES, Failure};
 use host::{HostError, Tally};
 use std::alloc::Global;
 

@@ -1,8 +1,8 @@
 //! Reads and writes of a few bytes at a call, tried with a failure after each count of bytes.
 
 use crate::tests::rows::holds_at;
+use exact_io::failing::{FAILURES, Failure, Reader, Writer};
 use exact_io::{Filled, fill, write_bytes};
-use failing_io::{FAILURES, Failure, Reader, Writer};
 use std::alloc::Global;
 use std::io::ErrorKind;
 

@@ -1,7 +1,7 @@
 //! Records from a reader and to a writer that fail after each byte, and the magic.
 
 use crate::tests::rows::holds_at;
-use failing_io::{FAILURES, Failure, Reader, Writer};
+use exact_io::failing::{FAILURES, Failure, Reader, Writer};
 use frames::{FrameReader, Next, write_frame};
 use isa_model::{Fault, FrameHead};
 use std::alloc::Global;

@@ -1,8 +1,8 @@
 use Rattle.std.proofs.Common.{◌≡◌, ◌∙◌, ℕ, List, ap, sym, subst, take}
 use Rattle.isa_model.specs.declared.map_defs.MapDef.{MapDef}
 use Rattle.maps.specs.Maps.{map_at, Updated}
-use Rattle.helpers.specs.declared.calls.Answer.{Answer}
-use Rattle.helpers.specs.Calls.{IsNumberAnswer}
+use Rattle.maps.specs.declared.calls.Answer.{Answer}
+use Rattle.maps.specs.Calls.{IsNumberAnswer}
 use Rattle.isa_model.specs.declared.registers.Reg.TheVariants.{R4}
 use Rattle.word_machine.specs.Words.{word_at}
 use Rattle.word_machine.specs.Machine.{words_of}

@@ -1,0 +1,12 @@
+use Rattle.std.proofs.Common.{ap, ◌∙◌}
+use Rattle.std.specs.List.{prefix_len}
+use Rattle.std.specs.Char.{is_digit}
+use Rattle.std.proofs.lemmas.List.{take_rest}
+use Rattle.assembler.specs.Lexing.{number_after, token_length}
+use Rattle.assembler.proofs.numbers.number_len_at.Goals as goal
+
+pub returns : goal.returns
+returns c = c.number_len_after.ensures c.args.base
+    ∙ ap (λ n. token_length (number_after c.args.base c.args.skip c.args.text.now n))
+    (c.digits_len.ensures.value
+    ∙ ap (prefix_len (λ b. is_digit b c.args.base)) (take_rest c.args.text.now c.args.skip))

@@ -1,8 +1,0 @@
-use Rattle.std.proofs.Common.{rules}
-use Rattle.helpers.proofs.calls.call.Goals as goal
-
-pub returns-in-KtimeGetNs-clause-answer : goal.returns-in-KtimeGetNs-clause-answer
-returns-in-KtimeGetNs-clause-answer g c = search rules
-
-pub returns-in-KtimeGetNs-clause-clock : goal.returns-in-KtimeGetNs-clause-clock
-returns-in-KtimeGetNs-clause-clock g c = search rules

@@ -1,2 +1,0 @@
-pub mod LexingLaws
-pub mod LexemeFronts

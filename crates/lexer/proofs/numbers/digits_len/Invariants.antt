@@ -1,8 +1,0 @@
-use Rattle.std.proofs.Common.{◌≡◌, ◌+◌, drop}
-use Rattle.std.specs.List.{prefix_len}
-use Rattle.std.specs.Char.{is_digit}
-use Rattle.lexer.proofs.numbers.digits_len.Given as goal
-
-abbrev pub invariant-loop-i : goal.invariant-loop-i
-invariant-loop-i l = prefix_len (λ c. is_digit c l.base) l.text
-    ≡ l.i + prefix_len (λ c. is_digit c l.base) (drop l.i l.text)

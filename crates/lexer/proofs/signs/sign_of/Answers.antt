@@ -1,5 +1,0 @@
-use Rattle.std.proofs.Common.{rules}
-use Rattle.lexer.proofs.signs.sign_of.Goals as goal
-
-pub returns-else-b-eq62 : goal.returns-else-b-eq62
-returns-else-b-eq62 c = search rules
