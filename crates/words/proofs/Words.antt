@@ -1,6 +1,6 @@
 -- The values of arguments, limits, and command lines with more arguments and commands.
-use Rattle.std.proofs.Common.{◌≡◌, ◌∙◌, ◌<◌, ◌≤◌, ℕ, Bool, true, false, List, [], ◌∷◌, Option, Some, None, length, take, get_or, ◌+◌, map, refl, ap, ap₂, sym, arith, cond, ◌^◌, lt-ltb}
-use Rattle.std.specs.Prelude.{◌&&◌, not, option_map, option_and_then, slice_get, nat_le, Result, Ok, Err, IfOk, IsOkAnd}
+use Rattle.std.proofs.Common.{◌≡◌, ◌∙◌, ◌<◌, ◌≤◌, ℕ, Bool, true, false, List, [], ◌∷◌, Option, Some, None, length, take, get_or, ◌+◌, map, refl, ap, ap₂, sym, arith, cond, ◌^◌, lt-ltb, le-ltb}
+use Rattle.std.specs.Prelude.{◌&&◌, not, option_map, option_and_then, slice_get, nat_le, nat_lt, Result, Ok, Err, IfOk, IsOkAnd}
 use Rattle.std.specs.List.{list_all, fold}
 use Rattle.std.specs.Int.{IsInRange}
 use Rattle.std.specs.Char.{is_ascii_digit}
@@ -11,6 +11,7 @@ use Rattle.std.proofs.lemmas.Bool.{leb-true, le-leb, lt-leb}
 use Rattle.std.proofs.Math.Bool.{and-false}
 use Rattle.isa_model.specs.Code.Limits.{max_steps}
 use Rattle.words.specs.Asked.{limit_of}
+use Rattle.words.specs.FilterAsked.{number_of}
 use Rattle.std.specs.Borrow.{Bor}
 use Rattle.std.proofs.lemmas.List.Folds.{fold-map}
 use Rattle.std.proofs.lemmas.List.Sums.{fold_more}
@@ -105,6 +106,40 @@ limit_of-unread text some digits read =
     let high : nat_le (digits_value 10 text) max_steps ≡ false =
     lt-leb (digits_value 10 text) max_steps (omega (arith, large)) in
     let is : limit_of text ≡ None = limit_of-digits text some digits ∙ rw (high, and-false) refl in
+    cc
+
+-- ---- numbers
+
+-- which number a text of digits spells
+number_of-digits : (text : List ℕ) → 0 < length text → list_all is_ascii_digit text ≡ true
+    → number_of text
+    ≡ cond (nat_lt (digits_value 10 text) (2 ^ 32)) (Some (digits_value 10 text)) None
+number_of-digits text some digits = rw (lt-ltb 0 (length text) some, digits) refl
+
+-- a text that was read as a number is one
+pub number_of-read : (text : List ℕ) (number : ℕ) → 0 < length text
+    → list_all is_ascii_digit text ≡ true → number ≡ digits_value 10 (without_leading_plus text)
+    → number < 2 ^ 32 → Some number ≡ number_of text
+number_of-read text number some digits read fits =
+    let spelled : number ≡ digits_value 10 text =
+    read ∙ ap (digits_value 10) (no-sign text digits) in
+    let low : nat_lt (digits_value 10 text) (2 ^ 32) ≡ true =
+    lt-ltb (digits_value 10 text) (2 ^ 32) (omega (arith, spelled, fits)) in
+    let is : number_of text ≡ Some (digits_value 10 text) =
+    number_of-digits text some digits ∙ rw low refl in
+    cc
+
+-- a text that was not read as a number is none
+pub number_of-unread : (text : List ℕ) → 0 < length text → list_all is_ascii_digit text ≡ true
+    → (IsNumeral 10 (without_leading_plus text)
+    × (digits_value 10 (without_leading_plus text) < 2 ^ 32) → ⊥) → None ≡ number_of text
+number_of-unread text some digits read =
+    let numeral : IsNumeral 10 text = (some, all-digits text digits) in
+    let large : digits_value 10 text < 2 ^ 32 → ⊥ =
+    λ small. read (rw (no-sign text digits) (numeral, small)) in
+    let high : nat_lt (digits_value 10 text) (2 ^ 32) ≡ false =
+    le-ltb (digits_value 10 text) (2 ^ 32) (omega (arith, large)) in
+    let is : number_of text ≡ None = number_of-digits text some digits ∙ rw high refl in
     cc
 
 -- ---- the command line

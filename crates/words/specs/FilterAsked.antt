@@ -1,5 +1,8 @@
 -- What the arguments of xdpvm_filter ask for.
-use Rattle.std.specs.Prelude.{◌≡◌, ◌⊎◌, ℕ, Bool, true, false, List, Option, Some, None, Result, Ok, Err, codes, bytes_eq, option_map, option_and_then, if◌then◌else◌}
+use Rattle.std.specs.Prelude.{◌≡◌, ◌⊎◌, ℕ, ◌^◌, Bool, true, false, ◌&&◌, List, Option, Some, None, Result, Ok, Err, codes, length, nat_lt, bytes_eq, option_map, option_and_then, if◌then◌else◌}
+use Rattle.std.specs.List.{list_all}
+use Rattle.std.specs.Char.{is_ascii_digit}
+use Rattle.std.specs.Str.Parse.{digits_value}
 use Rattle.std.specs.Borrow.{Bor}
 use Rattle.std.specs.Option.{option_map_or}
 use Rattle.clap.specs.Walk.{Row, first_of}
@@ -9,13 +12,14 @@ use Rattle.clap.specs.Faults.{fault_of}
 use Rattle.clap.specs.declared.error.kind.ErrorKind.TheVariants.{DisplayHelp, DisplayVersion}
 use Rattle.words.specs.declared.filter_commands.FilterCommand.{FilterCommand}
 use Rattle.words.specs.declared.filter_commands.FilterCommand.TheVariants as command
+use Rattle.words.specs.declared.filter_tasks.ConvertTask.{ConvertTask}
 use Rattle.words.specs.declared.filter_tasks.FramesKind.{FramesKind}
 use Rattle.words.specs.declared.filter_tasks.FramesKind.TheVariants.{Pcap, Pcapng, Stream, Text}
 use Rattle.words.specs.declared.filter_tasks.OperatorTask.{OperatorTask}
 use Rattle.words.specs.declared.filter_tasks.Judging.{Judging}
 use Rattle.words.specs.declared.filter_tasks.FilterWordsError.{FilterWordsError}
 use Rattle.words.specs.declared.filter_tasks.FilterWordsError.TheVariants as error
-use Rattle.words.specs.FilterRequests.{JudgingRequest, OperatorRequest, Verified, Shown, Checked, Filter, Convert, judging_of, operator_request_of}
+use Rattle.words.specs.FilterRequests.{ConvertRequest, JudgingRequest, OperatorRequest, Verified, Shown, Checked, Filter, Convert, convert_request_of, judging_of, operator_request_of}
 use Rattle.words.specs.FilterCommands.{command_of, words_by}
 use Rattle.words.specs.FilterLine.{app_by}
 use Rattle.words.specs.Asked.{files_in, limit_or_most, unless_wrong}
@@ -68,17 +72,42 @@ kind_said (Some name) = option_map Some (kind_named name)
 abbrev pub kind_in : List Row → Option (Option FramesKind)
 kind_in rows = kind_said (first_of (codes "to") rows)
 
--- frames that are written again
-abbrev pub convert_request_in : List Row → Option OperatorRequest
-convert_request_in rows =
+-- decimal digits of a number of 32 bits
+abbrev pub is_number : List ℕ → Bool
+is_number text =
+    nat_lt 0 (length text)
+    && (list_all is_ascii_digit text && nat_lt (digits_value 10 text) (2 ^ 32))
+
+abbrev pub number_of : List ℕ → Option ℕ
+number_of text = if is_number text then Some (digits_value 10 text) else None
+
+-- a number, if one is given: what spells one, or nothing
+abbrev pub number_said : Option (List ℕ) → Option (Option ℕ)
+number_said None = Some None
+number_said (Some text) = option_map Some (number_of text)
+
+abbrev pub number_in : List ℕ → List Row → Option (Option ℕ)
+number_in name rows = number_said (first_of name rows)
+
+-- frames of this file that are written again to this output
+abbrev pub converted_in : (frames out : List ℕ) → List Row → Option ConvertRequest
+converted_in frames out rows =
     option_and_then
-    (λ frames. option_and_then
-    (λ out. option_map (λ kind. Convert (record {
+    (λ kind. option_and_then
+    (λ interface. option_map (λ queue. record {
       frames = frames;
       out = out;
       kind = kind;
       has_reasons = is_given (codes "reasons") rows;
-    })) (kind_in rows)) (first_of (codes "out") rows)) (first_of (codes "in") rows)
+      interface = interface;
+      queue = queue;
+    }) (number_in (codes "queue") rows)) (number_in (codes "interface") rows)) (kind_in rows)
+
+abbrev pub convert_request_in : List Row → Option OperatorRequest
+convert_request_in rows =
+    option_and_then
+    (λ frames. option_and_then (λ out. option_map Convert (converted_in frames out rows))
+    (first_of (codes "out") rows)) (first_of (codes "in") rows)
 
 -- frames that are written to standard output as a text
 abbrev pub show_request_in : List Row → Option OperatorRequest
@@ -89,6 +118,8 @@ show_request_in rows =
       out = codes "-";
       kind = Some Text;
       has_reasons = false;
+      interface = None;
+      queue = None;
     }))
     (first_of (codes "in") rows)
 
@@ -129,6 +160,16 @@ abbrev pub TellsKind : Option (Option FramesKind) → Result (Option FramesKind)
     → Type 0
 TellsKind said (Ok kind) = said ≡ Some kind
 TellsKind said (Err message) = said ≡ None
+
+-- the number that is given is that of the result, or it is none, and it is the message why
+abbrev pub TellsNumber : Option (Option ℕ) → Result (Option ℕ) (Bor (List ℕ)) → Type 0
+TellsNumber said (Ok number) = said ≡ Some number
+TellsNumber said (Err message) = said ≡ None
+
+-- the frames are written again as the result says, or they are not, and it is the message why
+abbrev pub TellsConverted : Option ConvertRequest → Result ConvertTask (Bor (List ℕ)) → Type 0
+TellsConverted request (Ok task) = request ≡ Some (convert_request_of task)
+TellsConverted request (Err message) = request ≡ None
 
 -- the result is the task of this request, or says that there is none; or memory ran out
 abbrev pub FilterTellsOf : Option OperatorRequest → Result OperatorTask FilterWordsError → Type 0

@@ -33,7 +33,9 @@ filter_program =
 unfoldable pub convert_program : App
 convert_program =
     with_rule
-    (with_option (codes "to") (command (codes "convert") (codes "in" ∷ codes "out" ∷ [])))
+    (with_option (codes "queue")
+    (with_option (codes "interface")
+    (with_option (codes "to") (command (codes "convert") (codes "in" ∷ codes "out" ∷ [])))))
     (flag (codes "reasons"))
 
 -- xdpvm_filter show, which requires frames

@@ -26,12 +26,15 @@ pub record FilterRequest : Type 0 where
   pub report : Option (List ℕ)
 
 -- frames that are written again, by the paths of their file and of the output; `kind` is what they
--- become, if the name of the output is not asked; a frame stream that they become may have reasons
+-- become, if the name of the output is not asked; a frame stream that they become may have reasons;
+-- all of them may get an interface and a queue
 pub record ConvertRequest : Type 0 where
   pub frames : List ℕ
   pub out : List ℕ
   pub kind : Option FramesKind
   pub has_reasons : Bool
+  pub interface : Option ℕ
+  pub queue : Option ℕ
 
 -- what is asked for: a run, or frames that are written again
 pub data OperatorRequest : Type 0 where
@@ -62,6 +65,8 @@ convert_request_of task =
       out = task.out.now;
       kind = task.kind;
       has_reasons = task.has_reasons;
+      interface = task.interface;
+      queue = task.queue;
     }
 
 abbrev pub operator_request_of : OperatorTask → OperatorRequest

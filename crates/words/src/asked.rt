@@ -19,7 +19,8 @@ use std::alloc::{AllocError, Global};
 /// The message for a limit that is none.
 pub const NO_LIMIT: &str = "error: the value of --limit is not a number from 1 to 1000000\n";
 
-fn is_all_digits(text: &[u8]) -> bool
+/// Whether each byte is a decimal digit.
+pub fn is_all_digits(text: &[u8]) -> bool
     ensures { result ≡ list_all is_ascii_digit text.now }
 {
     text.iter().all(|b| b.is_ascii_digit())

@@ -3,9 +3,9 @@
 ghost use Rattle.std.specs.Prelude.{◌≡◌, ◌⊎◌, true, false, None, map, option_map, IfErr};
 ghost use Rattle.std.specs.String.{string_bytes};
 ghost use Rattle.clap.specs.Words.{found_of, kind_of, rows_of};
-ghost use Rattle.words.specs.FilterAsked.{FilterAsksFor, FilterTellsOf, IsUnshown, HasText, TellsJudging, TellsKind, asked_by, convert_request_in, filter_request_in, is_given, judging_by, judging_in, kind_in, kind_named, show_request_in};
+ghost use Rattle.words.specs.FilterAsked.{FilterAsksFor, FilterTellsOf, IsUnshown, HasText, TellsConverted, TellsJudging, TellsKind, TellsNumber, asked_by, convert_request_in, converted_in, filter_request_in, is_given, judging_by, judging_in, kind_in, kind_named, number_in, number_of, show_request_in};
 
-use super::asked::{NO_LIMIT, limit_of, message_of, paths_in, value_in};
+use super::asked::{NO_LIMIT, is_all_digits, limit_of, message_of, paths_in, value_in};
 use super::filter_commands::{FilterCommand, command_in};
 use super::filter_line::line_of;
 use super::filter_tasks::{
@@ -23,6 +23,10 @@ const TWO_WAYS: &str = "error: --table and --checked exclude each other\n";
 const UNUSED_LIMIT: &str = "error: --limit is of use only with --checked\n";
 
 const NO_KIND: &str = "error: the value of --to is not pcap, pcapng, frames or text\n";
+
+const NO_INTERFACE: &str = "error: the value of --interface is not a number from 0 to 4294967295\n";
+
+const NO_QUEUE: &str = "error: the value of --queue is not a number from 0 to 4294967295\n";
 
 // Whether an option is given that takes no value.
 fn is_given(matches: &ArgMatches<'_>, name: &str) -> bool
@@ -148,6 +152,59 @@ fn kind_in(matches: &ArgMatches<'_>) -> Result<Option<FramesKind>, &'static str>
     }
 }
 
+// A number: decimal digits, of 32 bits.
+fn number_of(text: &str) -> Option<u32>
+    ensures { result ≡ number_of text.now }
+{
+    if text.is_empty() || !is_all_digits(text.as_bytes()) {
+        return None;
+    }
+    match text.parse::<u32>() {
+        Ok(number) => Some(number),
+        Err(_) => None,
+    }
+}
+
+// The number of an option, if it is given, or this message if its value is none.
+fn number_in(
+    matches: &ArgMatches<'_>,
+    name: &str,
+    message: &'static str,
+) -> Result<Option<u32>, &'static str>
+    ensures { TellsNumber (number_in name.now (rows_of (found_of matches.now))) result }
+{
+    match value_in(matches, name) {
+        None => Ok(None),
+        Some(text) => match number_of(text) {
+            Some(number) => Ok(Some(number)),
+            None => Err(message),
+        },
+    }
+}
+
+// What is done with the frames of a file for an output, by the options that are given, or the
+// message why it is nothing.
+fn converted_in<'a>(
+    frames: &'a str,
+    out: &'a str,
+    matches: &ArgMatches<'a>,
+) -> Result<ConvertTask<'a>, &'static str>
+    ensures { TellsConverted
+        (converted_in frames.now out.now (rows_of (found_of matches.now))) result }
+{
+    let kind = kind_in(matches)?;
+    let interface = number_in(matches, "interface", NO_INTERFACE)?;
+    let queue = number_in(matches, "queue", NO_QUEUE)?;
+    Ok(ConvertTask {
+        frames,
+        out,
+        kind,
+        has_reasons: is_given(matches, "reasons"),
+        interface,
+        queue,
+    })
+}
+
 // The frames of a command line that clap accepts, and what they become.
 fn convert_in<'a>(
     alloc: Global,
@@ -159,13 +216,8 @@ fn convert_in<'a>(
     let (Some(frames), Some(out)) = (value_in(matches, "in"), value_in(matches, "out")) else {
         return Err(wrong(alloc, ""));
     };
-    match kind_in(matches) {
-        Ok(kind) => Ok(OperatorTask::Convert(ConvertTask {
-            frames,
-            out,
-            kind,
-            has_reasons: is_given(matches, "reasons"),
-        })),
+    match converted_in(frames, out, matches) {
+        Ok(task) => Ok(OperatorTask::Convert(task)),
         Err(message) => Err(wrong(alloc, message)),
     }
 }
@@ -186,6 +238,8 @@ fn show_in<'a>(
         out: "-",
         kind: Some(FramesKind::Text),
         has_reasons: false,
+        interface: None,
+        queue: None,
     }))
 }
 

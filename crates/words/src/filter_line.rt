@@ -52,6 +52,18 @@ const TO: Choice = Choice {
     help: "What OUT becomes, whatever its name is: pcap, pcapng, frames or text",
 };
 
+const INTERFACE: Choice = Choice {
+    name: "interface",
+    value: "N",
+    help: "The interface of all frames, from 0 to 4294967295, whatever IN says",
+};
+
+const QUEUE: Choice = Choice {
+    name: "queue",
+    value: "N",
+    help: "The queue of all frames, from 0 to 4294967295, whatever IN says",
+};
+
 const MAPS: Choice = Choice {
     name: "maps",
     value: "MAPS",
@@ -124,7 +136,9 @@ fn convert_program<'a>(alloc: Global) -> Result<Command<'a>, AllocError>
     let plain = command(alloc, "convert", CONVERT_ABOUT, &[CONVERTED, WRITTEN])?;
     let named = plain.bin_name("xdpvm_filter convert")?;
     let with_to = with_choice(alloc, named, TO)?;
-    with_flag(alloc, with_to, REASONS, REASONS_HELP)
+    let with_interface = with_choice(alloc, with_to, INTERFACE)?;
+    let with_queue = with_choice(alloc, with_interface, QUEUE)?;
+    with_flag(alloc, with_queue, REASONS, REASONS_HELP)
 }
 
 // The command that prints frames.

@@ -51,6 +51,10 @@ pub struct ConvertTask<'a> {
     pub kind: Option<FramesKind>,
     /// Whether a frame stream that they become has reasons.
     pub has_reasons: bool,
+    /// The interface that all of them came in by; else each of them says it.
+    pub interface: Option<u32>,
+    /// The queue that all of them came in by; else each of them says it.
+    pub queue: Option<u32>,
 }
 
 /// Says what xdpvm_filter is asked to do.
