@@ -4,6 +4,7 @@ use Rattle.std.specs.Prelude.{nat_lt, if◌then◌else◌}
 use Rattle.std.proofs.lemmas.Bool.{cases_lt}
 use Rattle.std.proofs.lemmas.Bool.Decides.{nat_tests}
 use Rattle.captures.specs.declared.forms.PcapForm.{PcapForm}
+use Rattle.captures.specs.declared.forms.Reasons.{Reasons}
 use Rattle.captures.specs.declared.forms.NumberOrder.TheVariants.{HighFirst}
 use Rattle.captures.specs.declared.forms.CaptureRefusal.TheVariants.{TruncatedFileHead}
 use Rattle.captures.specs.declared.forms.CaptureFormat.{CaptureFormat}
@@ -21,25 +22,28 @@ use Rattle.captures.proofs.PcapngLaws.{block_size-append, block_size-least, bloc
 
 -- ---- how a capture begins
 
-pub begun-short : (bytes : List ℕ) → length bytes < 24 → begun bytes ≡ Err TruncatedFileHead
+pub begun-short : (reasons : Reasons) (bytes : List ℕ) → length bytes < 24
+    → begun reasons bytes ≡ Err TruncatedFileHead
 unfolding begun
-begun-short bytes h = let less = lt-ltb _ _ h in rw less refl
+begun-short reasons bytes h = let less = lt-ltb _ _ h in rw less refl
 
-pub begun-section : (bytes : List ℕ) → 24 ≤ length bytes → is_section bytes ≡ true
-    → begun bytes ≡ Ok (formats.Pcapng HighFirst)
+pub begun-section : (reasons : Reasons) (bytes : List ℕ) → 24 ≤ length bytes
+    → is_section bytes ≡ true
+    → begun reasons bytes
+    ≡ Ok (formats.Pcapng (record { order = HighFirst; reasons = reasons }))
 unfolding begun
-begun-section bytes h is = let whole = le-ltb _ _ h in rw (whole, is) refl
+begun-section reasons bytes h is = let whole = le-ltb _ _ h in rw (whole, is) refl
 
-pub begun-other : (bytes : List ℕ) → 24 ≤ length bytes → is_section bytes ≡ false
-    → begun bytes ≡ begun_by (opened bytes)
+pub begun-other : (reasons : Reasons) (bytes : List ℕ) → 24 ≤ length bytes
+    → is_section bytes ≡ false → begun reasons bytes ≡ begun_by (opened bytes)
 unfolding begun
-begun-other bytes h is = let whole = le-ltb _ _ h in rw (whole, is) refl
+begun-other reasons bytes h is = let whole = le-ltb _ _ h in rw (whole, is) refl
 
 -- ---- how long a record is
 
 pub head_size-some : (format : CaptureFormat) → 0 < head_size format
 head_size-some (formats.Pcap form) = omega arith
-head_size-some (formats.Pcapng order) = omega arith
+head_size-some (formats.Pcapng form) = omega arith
 
 -- it depends on no byte after the head
 pub record_size-append : (format : CaptureFormat) (xs ys : List ℕ) → head_size format ≤ length xs
@@ -48,7 +52,7 @@ record_size-append (formats.Pcap form) xs ys h =
     let same : captured_length form (xs ++ ys) ≡ captured_length form xs =
     field-append form.order 8 xs ys (omega arith) in
     rw same refl
-record_size-append (formats.Pcapng order) xs ys h = block_size-append order xs ys h
+record_size-append (formats.Pcapng form) xs ys h = block_size-append form.order xs ys h
 
 pcap_sized : (form : PcapForm) (bytes : List ℕ) (size : ℕ)
     → record_size (formats.Pcap form) bytes ≡ Ok size
@@ -64,19 +68,19 @@ pcap_sized form bytes size h =
 
 pub max_record-head : (format : CaptureFormat) → 24 ≤ max_record format
 max_record-head (formats.Pcap form) = omega arith
-max_record-head (formats.Pcapng order) = omega arith
+max_record-head (formats.Pcapng form) = omega arith
 
 pub record_size-least : (format : CaptureFormat) (bytes : List ℕ) (size : ℕ)
     → record_size format bytes ≡ Ok size → head_size format ≤ size
 record_size-least (formats.Pcap form) bytes size h =
     let is = pcap_sized form bytes size h in omega arith
-record_size-least (formats.Pcapng order) bytes size h = block_size-least order bytes size h
+record_size-least (formats.Pcapng form) bytes size h = block_size-least form.order bytes size h
 
 pub record_size-most : (format : CaptureFormat) (bytes : List ℕ) (size : ℕ)
     → record_size format bytes ≡ Ok size → size ≤ max_record format
 record_size-most (formats.Pcap form) bytes size h =
     let is = pcap_sized form bytes size h in omega arith
-record_size-most (formats.Pcapng order) bytes size h = block_size-most order bytes size h
+record_size-most (formats.Pcapng form) bytes size h = block_size-most form.order bytes size h
 
 -- ---- the record at the front
 

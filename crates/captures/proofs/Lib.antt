@@ -7,5 +7,6 @@ pub mod LinkLaws
 pub mod StreamLaws
 pub mod TimeLaws
 pub mod PacketLaws
+pub mod ReasonLaws
 pub mod FindingLaws
 pub mod OpeningLaws

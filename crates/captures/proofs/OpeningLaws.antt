@@ -7,6 +7,8 @@ use Rattle.std.specs.Io.KnownBytes.{Consumes, IsAtEnd, prepend_known}
 use Rattle.captures.specs.declared.forms.NumberOrder.{NumberOrder}
 use Rattle.captures.specs.declared.forms.NumberOrder.TheVariants.{HighFirst, LowFirst}
 use Rattle.captures.specs.declared.forms.PcapForm.{PcapForm}
+use Rattle.captures.specs.declared.forms.PcapngForm.{PcapngForm}
+use Rattle.captures.specs.declared.forms.Reasons.{Reasons}
 use Rattle.captures.specs.declared.forms.CaptureFormat.{CaptureFormat}
 use Rattle.captures.specs.declared.forms.CaptureFormat.TheVariants as formats
 use Rattle.captures.specs.declared.forms.CaptureRefusal.{CaptureRefusal}
@@ -24,9 +26,10 @@ use Rattle.captures.proofs.PcapngLaws.{is_section-append, block_size-is}
 use Rattle.captures.proofs.CapturedLaws.{begun-short, packets_from-fuel}
 
 -- the format of a capture depends on no byte after its head
-pub begun-append : (xs ys : List ℕ) → 24 ≤ length xs → begun (xs ++ ys) ≡ begun xs
+pub begun-append : (reasons : Reasons) (xs ys : List ℕ) → 24 ≤ length xs
+    → begun reasons (xs ++ ys) ≡ begun reasons xs
 unfolding begun
-begun-append xs ys h =
+begun-append reasons xs ys h =
     let long : nat_lt (length xs) 24 ≡ false = le-ltb _ _ h in
     let longer : nat_lt (length (xs ++ ys)) 24 ≡ false =
     le-ltb _ _ (omega (arith, length-append xs ys)) in
@@ -35,65 +38,66 @@ begun-append xs ys h =
     rw (long, longer, section, form) refl
 
 -- a head that says why the capture is not read
-pub opens_refused : {R : Type 0} (remaining : R → Option (List ℕ)) (old new : Option (List ℕ))
-    (head : List ℕ) (refusal : CaptureRefusal) → length head ≡ 24 → Consumes old new head
-    → begun head ≡ Err refusal
-    → OpensCapture remaining old (Err (failure.Refused refusal))
-opens_refused remaining None new head refusal size h is = tt
-opens_refused remaining (Some bytes) None head refusal size h is = absurd h
-opens_refused remaining (Some bytes) (Some rest) head refusal size h is =
-    ap captured h
-    ∙ ap (captured_by (head ++ rest)) (begun-append head rest (omega arith) ∙ is)
+pub opens_refused : {R : Type 0} (reasons : Reasons) (remaining : R → Option (List ℕ))
+    (old new : Option (List ℕ)) (head : List ℕ) (refusal : CaptureRefusal) → length head ≡ 24
+    → Consumes old new head → begun reasons head ≡ Err refusal
+    → OpensCapture reasons remaining old (Err (failure.Refused refusal))
+opens_refused reasons remaining None new head refusal size h is = tt
+opens_refused reasons remaining (Some bytes) None head refusal size h is = absurd h
+opens_refused reasons remaining (Some bytes) (Some rest) head refusal size h is =
+    ap (captured reasons) h
+    ∙ ap (captured_by (head ++ rest)) (begun-append reasons head rest (omega arith) ∙ is)
 
 -- fewer bytes than a head has
-pub opens_short : {R : Type 0} (remaining : R → Option (List ℕ)) (old new : Option (List ℕ))
-    (n : ℕ) (head : List ℕ) → length head ≡ 24 → n < length head
+pub opens_short : {R : Type 0} (reasons : Reasons) (remaining : R → Option (List ℕ))
+    (old new : Option (List ℕ)) (n : ℕ) (head : List ℕ) → length head ≡ 24 → n < length head
     → Consumes old new (take n head) → IsAtEnd new
-    → OpensCapture remaining old (Err (failure.Refused TruncatedFileHead))
-opens_short remaining None new n head size less h end = tt
-opens_short remaining (Some bytes) None n head size less h end = absurd h
-opens_short remaining (Some bytes) (Some rest) n head size less h end =
+    → OpensCapture reasons remaining old (Err (failure.Refused TruncatedFileHead))
+opens_short reasons remaining None new n head size less h end = tt
+opens_short reasons remaining (Some bytes) None n head size less h end = absurd h
+opens_short reasons remaining (Some bytes) (Some rest) n head size less h end =
     let all : bytes ≡ take n head =
     h ∙ ap (λ l. take n head ++ l) end ∙ append-nil (take n head) in
     let long = length-take-le n head (omega arith) in
-    ap captured all
-    ∙ ap (captured_by (take n head)) (begun-short (take n head) (omega arith))
+    ap (captured reasons) all
+    ∙ ap (captured_by (take n head)) (begun-short reasons (take n head) (omega arith))
 
 first_offset-few : (format : CaptureFormat) → first_offset format ≤ 24
 first_offset-few (formats.Pcap form) = omega arith
-first_offset-few (formats.Pcapng order) = omega arith
+first_offset-few (formats.Pcapng form) = omega arith
 
 -- a head that says the format
-opened_at : (bytes head rest : List ℕ) (format : CaptureFormat) → length head ≡ 24
-    → bytes ≡ head ++ rest → begun head ≡ Ok format
-    → captured bytes ≡ Ok (packets_left (Before format [] (first_offset format))
+opened_at : (reasons : Reasons) (bytes head rest : List ℕ) (format : CaptureFormat)
+    → length head ≡ 24 → bytes ≡ head ++ rest → begun reasons head ≡ Ok format
+    → captured reasons bytes ≡ Ok (packets_left (Before format [] (first_offset format))
     (drop (first_offset format) head ++ rest))
-opened_at bytes head rest format size h is =
+opened_at reasons bytes head rest format size h is =
     let all = head ++ rest in
     let at = first_offset format in
     let few = first_offset-few format in
     let left : drop at all ≡ drop at head ++ rest = drop-append-le at head rest (omega arith) in
     let less = length-drop at all in
-    ap captured h
-    ∙ ap (captured_by all) (begun-append head rest (omega arith) ∙ is)
+    ap (captured reasons) h
+    ∙ ap (captured_by all) (begun-append reasons head rest (omega arith) ∙ is)
     ∙ ap (λ (t : List CapturedPacket × PacketEnd). Ok t)
     (packets_from-fuel (suc (length all)) (suc (length (drop at all))) format [] at (drop at all)
     (omega arith) (omega arith)
     ∙ ap (λ l. packets_from (suc (length l)) format [] at l) left)
 
-pub opens_read : {R : Type 0} (remaining : R → Option (List ℕ)) (old : Option (List ℕ))
-    (head : List ℕ) (source : R) (format : CaptureFormat) (reader : CaptureState R)
-    → length head ≡ 24 → Consumes old (remaining source) head → begun head ≡ Ok format
-    → BeginsAfter head format source reader → OpensCapture remaining old (Ok reader)
-opens_read remaining None head source format reader size h is begins = tt
-opens_read remaining (Some bytes) head source format reader size h is begins =
+pub opens_read : {R : Type 0} (reasons : Reasons) (remaining : R → Option (List ℕ))
+    (old : Option (List ℕ)) (head : List ℕ) (source : R) (format : CaptureFormat)
+    (reader : CaptureState R) → length head ≡ 24 → Consumes old (remaining source) head
+    → begun reasons head ≡ Ok format → BeginsAfter head format source reader
+    → OpensCapture reasons remaining old (Ok reader)
+opens_read reasons remaining None head source format reader size h is begins = tt
+opens_read reasons remaining (Some bytes) head source format reader size h is begins =
     rw (begins.is_before, begins.is_front, begins.is_source) (go (remaining source) h)
   where
     go : (new : Option (List ℕ)) → Consumes (Some bytes) new head
-        → IsOpened bytes (Before format [] (first_offset format))
+        → IsOpened reasons bytes (Before format [] (first_offset format))
         (prepend_known (drop (first_offset format) head) new)
     go None h = absurd h
-    go (Some rest) h = opened_at bytes head rest format size h is
+    go (Some rest) h = opened_at reasons bytes head rest format size h is
 
 -- ---- the head of a section
 
@@ -109,14 +113,14 @@ section_kind LowFirst head fits h =
     + get_or head 3 0)) ≡ 0x0a0d0d0a = grind (arith, nat_tests) in
     omega arith
 
-begun_section : (head : List ℕ) (order : NumberOrder) → 24 ≤ length head
-    → begun head ≡ Ok (formats.Pcapng order) → is_section head ≡ true
+begun_section : (reasons : Reasons) (head : List ℕ) (form : PcapngForm) → 24 ≤ length head
+    → begun reasons head ≡ Ok (formats.Pcapng form) → is_section head ≡ true
 unfolding begun
-begun_section head order long h = go (is_section head) refl
+begun_section reasons head form long h = go (is_section head) refl
   where
     not_pcapng : (r : Result PcapForm CaptureRefusal)
-        → begun_by r ≡ Ok (formats.Pcapng order) → ⊥
-    not_pcapng (Ok form) h = absurd cc
+        → begun_by r ≡ Ok (formats.Pcapng form) → ⊥
+    not_pcapng (Ok other) h = absurd cc
     not_pcapng (Err refusal) h = absurd cc
 
     go : (b : Bool) → is_section head ≡ b → is_section head ≡ true
@@ -127,18 +131,18 @@ begun_section head order long h = go (is_section head) refl
         (sym (rw (whole, is) refl) ∙ h))
 
 -- the 24 bytes that were read are a part of the first block
-pub begun_part : (head : List ℕ) (order : NumberOrder) → length head ≡ 24
-    → ((i : ℕ) → get_or head i 0 < 256) → begun head ≡ Ok (formats.Pcapng order)
-    → IsRecordPart (formats.Pcapng order) head
-begun_part head order size fits h = go (block_size order head) refl
+pub begun_part : (reasons : Reasons) (head : List ℕ) (form : PcapngForm) → length head ≡ 24
+    → ((i : ℕ) → get_or head i 0 < 256) → begun reasons head ≡ Ok (formats.Pcapng form)
+    → IsRecordPart (formats.Pcapng form) head
+begun_part reasons head form size fits h = go (block_size form.order head) refl
   where
-    go : (r : Result ℕ PacketFault) → block_size order head ≡ r
+    go : (r : Result ℕ PacketFault) → block_size form.order head ≡ r
         → IfOk r (λ n. length head ≤ max 12 n)
     go (Err fault) is = tt
     go (Ok n) is =
-        let sized = block_size-is order head n is in
+        let sized = block_size-is form.order head n is in
         let least = sized.2.least in
-        let kind = section_kind sized.0 head fits (begun_section head order (omega arith) h) in
+        let kind = section_kind sized.0 head fits (begun_section reasons head form (omega arith) h) in
         let many : 28 ≤ n =
         subst (λ k. least_size k ≤ n) kind least in
         omega arith

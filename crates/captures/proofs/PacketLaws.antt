@@ -39,6 +39,7 @@ pub packet_of-parts : (form : PcapForm) (bytes frame : List ℕ)
           };
       captured = captured;
       original = original;
+      reason = 0;
     }) frame ≡ packet_of form bytes
 packet_of-parts form bytes frame seconds fraction scale interface captured original a b c d e f g =
     rw (a, b, c, d, e, f, g) refl
@@ -62,10 +63,11 @@ pub interface_in-parts : (order : NumberOrder) (block : List ℕ) (link : ℕ) (
     (interface_in order block)
 interface_in-parts order block link scale offset snap a b c d = rw (a, b, c, d) refl
 
-module _ (interface : Interface) (number time start captured original : ℕ) (block : List ℕ)
-    (link : LinkType) (is : link_of interface.link ≡ Some link) where
+module _ (interface : Interface) (number time start captured original reason : ℕ)
+    (block : List ℕ) (link : LinkType) (is : link_of interface.link ≡ Some link) where
   pub packet_by-short : length block < start + captured + 4
-      → packet_by interface number time start captured original block (link_of interface.link)
+      → packet_by interface number time start captured original reason block
+      (link_of interface.link)
       ≡ Err BadBlock
   packet_by-short h = let short = lt-ltb _ _ h in rw (is, short) refl
 
@@ -77,7 +79,9 @@ module _ (interface : Interface) (number time start captured original : ℕ) (bl
         head = record { time = time; interface = at; queue = 0 };
         captured = captured;
         original = original;
+        reason = reason;
       }) frame)
-      ≡ packet_by interface number time start captured original block (link_of interface.link)
+      ≡ packet_by interface number time start captured original reason block
+      (link_of interface.link)
   packet_by-parts frame at h b c =
       let whole = le-ltb _ _ h in rw (is, whole, b, c) refl

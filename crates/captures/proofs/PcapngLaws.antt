@@ -1,15 +1,16 @@
 -- Laws of the definitions in specs/Pcapng.
-use Rattle.std.proofs.Common.{◌≡◌, ℕ, zero, suc, ◌+◌, ◌<◌, ◌≤◌, List, [], ◌++◌, ◌-◌, length, take, drop, min, Bool, true, false, Option, Some, None, Ok, Err, refl, sym, ap, subst, ◌∙◌, arith, ltb-false, le-ltb, lt-ltb, length-drop}
+use Rattle.std.proofs.Common.{◌≡◌, ℕ, zero, suc, ◌+◌, ◌<◌, ◌≤◌, List, [], ◌++◌, ◌-◌, length, take, drop, min, ◌∷◌, Bool, true, false, Option, Some, None, Ok, Err, refl, sym, ap, subst, ◌∙◌, arith, ltb-false, le-ltb, lt-ltb, length-drop}
 use Rattle.std.specs.Prelude.{nat_lt, ◌==◌, ◌%◌, not, if◌then◌else◌}
 use Rattle.std.proofs.lemmas.Bool.Decides.{nat_tests}
 use Rattle.std.proofs.lemmas.List.{drop-append-le, drop_min, take_min}
 use Rattle.byteorder.specs.Endian.{big_number, little_number}
 use Rattle.byteorder.specs.Numbers.{big_from-append, little_from-append}
 use Rattle.captures.specs.declared.forms.NumberOrder.{NumberOrder}
+use Rattle.captures.specs.declared.forms.PcapngForm.{PcapngForm}
 use Rattle.captures.specs.declared.interfaces.Interface.{Interface}
 use Rattle.captures.specs.declared.packets.PacketFault.TheVariants.{TooLong, BadBlock}
 use Rattle.captures.specs.Pcap.{field}
-use Rattle.captures.specs.Pcapng.{short_field, padded, option_in, option_value, section_order, is_section, block_order, least_size, sized_by, block_size, max_block, PcapngSection, says_nothing, said_in, said_by, block_said}
+use Rattle.captures.specs.Pcapng.{short_field, padded, option_in, option_value, options_in, option_values, section_order, is_section, block_order, least_size, sized_by, block_size, max_block, PcapngSection, says_nothing, said_in, said_by, block_said}
 use Rattle.captures.proofs.PcapLaws.{field-append}
 
 -- ---- how long a block is
@@ -239,29 +240,103 @@ option_next order bytes next is =
     let same : next ≡ min n (length bytes) = omega arith in
     ap (λ m. drop m bytes) same ∙ drop_min n bytes
 
+-- fuel beyond the number of bytes changes nothing
+options_in-fuel : (fuel more : ℕ) (order : NumberOrder) (code : ℕ) (bytes : List ℕ)
+    → length bytes < fuel → length bytes < more
+    → options_in fuel order code bytes ≡ options_in more order code bytes
+unfolding options_in
+options_in-fuel zero more order code bytes a b = absurd (omega arith)
+options_in-fuel (suc fuel) zero order code bytes a b = absurd (omega arith)
+options_in-fuel (suc fuel) (suc more) order code bytes a b =
+    go (nat_lt (length bytes) 4) refl
+    (λ some. options_in-fuel fuel more order code
+    (drop (4 + padded (short_field order 2 bytes)) bytes)
+    (omega (arith, length-drop (4 + padded (short_field order 2 bytes)) bytes))
+    (omega (arith, length-drop (4 + padded (short_field order 2 bytes)) bytes)))
+  where
+    go : (b : Bool) → nat_lt (length bytes) 4 ≡ b
+        → (4 ≤ length bytes
+        → options_in fuel order code (drop (4 + padded (short_field order 2 bytes)) bytes)
+        ≡ options_in more order code (drop (4 + padded (short_field order 2 bytes)) bytes))
+        → options_in (suc fuel) order code bytes ≡ options_in (suc more) order code bytes
+    go true is later = rw is refl
+    go false is later =
+        ap (λ (r : List (List ℕ)). if nat_lt (length bytes) 4 then []
+        else if short_field order 0 bytes == 0 then []
+        else if short_field order 0 bytes == code
+        then take (short_field order 2 bytes) (drop 4 bytes) ∷ r else r)
+        (later (ltb-false _ _ is))
+
+module _ (order : NumberOrder) (code : ℕ) (bytes : List ℕ) where
+  pub option_values-none : length bytes < 4 → option_values order code bytes ≡ []
+  unfolding options_in
+  option_values-none h = let few = lt-ltb _ _ h in rw few refl
+
+  pub option_values-end : 4 ≤ length bytes → short_field order 0 bytes ≡ 0
+      → option_values order code bytes ≡ []
+  unfolding options_in
+  option_values-end h end = let some = le-ltb _ _ h in rw (some, end) refl
+
+  -- those after an option, where they may end before its padding
+  option_values-behind : (next : ℕ) → 4 ≤ length bytes
+      → drop next bytes ≡ drop (4 + padded (short_field order 2 bytes)) bytes → 4 ≤ next
+      → options_in (length bytes) order code
+      (drop (4 + padded (short_field order 2 bytes)) bytes)
+      ≡ option_values order code (drop next bytes)
+  option_values-behind next h is far =
+      ap (options_in (length bytes) order code) (sym is)
+      ∙ options_in-fuel (length bytes) (suc (length (drop next bytes))) order code
+      (drop next bytes) (omega (arith, h, far, length-drop next bytes)) (omega arith)
+
+  pub option_values-found : (next : ℕ) → 4 ≤ length bytes
+      → (short_field order 0 bytes == 0) ≡ false → short_field order 0 bytes ≡ code
+      → drop next bytes ≡ drop (4 + padded (short_field order 2 bytes)) bytes → 4 ≤ next
+      → option_values order code bytes
+      ≡ take (short_field order 2 bytes) (drop 4 bytes) ∷ option_values order code (drop next bytes)
+  unfolding options_in
+  option_values-found next h more found is far =
+      let some = le-ltb _ _ h in
+      let same : (short_field order 0 bytes == code) ≡ true = grind (arith, nat_tests) in
+      rw (some, more, same)
+      (ap (λ (l : List (List ℕ)). take (short_field order 2 bytes) (drop 4 bytes) ∷ l)
+      (option_values-behind next h is far))
+
+  pub option_values-later : (next : ℕ) → 4 ≤ length bytes
+      → (short_field order 0 bytes == 0) ≡ false → (short_field order 0 bytes == code) ≡ false
+      → drop next bytes ≡ drop (4 + padded (short_field order 2 bytes)) bytes → 4 ≤ next
+      → option_values order code bytes ≡ option_values order code (drop next bytes)
+  unfolding options_in
+  option_values-later next h more other is far =
+      let some = le-ltb _ _ h in
+      rw (some, more, other) (option_values-behind next h is far)
+
 -- ---- what a block says
 
-module _ (order : NumberOrder) (interfaces : List Interface) (block : List ℕ) where
+module _ (form : PcapngForm) (interfaces : List Interface) (block : List ℕ) where
   abbrev section : PcapngSection
-  section = record { order = order; interfaces = interfaces }
+  section = record { form = form; interfaces = interfaces }
 
-  pub block_said-none : block_order order block ≡ None → block_said section block ≡ Err BadBlock
+  pub block_said-none : block_order form.order block ≡ None → block_said section block ≡ Err BadBlock
   unfolding block_said
   block_said-none h = ap (said_by section block) h
 
-  pub block_said-unlike : (own : NumberOrder) → block_order order block ≡ Some own
+  pub block_said-unlike : (own : NumberOrder) → block_order form.order block ≡ Some own
       → (field own (length block - 4) block == length block) ≡ false
       → block_said section block ≡ Err BadBlock
   unfolding block_said
   block_said-unlike own h unlike = ap (said_by section block) h ∙ rw unlike refl
 
-  pub block_said-section : (own : NumberOrder) → block_order order block ≡ Some own
+  pub block_said-section : (own : NumberOrder) → block_order form.order block ≡ Some own
       → (field own (length block - 4) block == length block) ≡ true → is_section block ≡ true
-      → block_said section block ≡ says_nothing (record { order = own; interfaces = [] })
+      → block_said section block
+      ≡ says_nothing (record {
+        form = record { order = own; reasons = form.reasons };
+        interfaces = [];
+      })
   unfolding block_said
   block_said-section own h like is = ap (said_by section block) h ∙ rw (like, is) refl
 
-  pub block_said-other : (own : NumberOrder) → block_order order block ≡ Some own
+  pub block_said-other : (own : NumberOrder) → block_order form.order block ≡ Some own
       → (field own (length block - 4) block == length block) ≡ true → is_section block ≡ false
       → block_said section block ≡ said_in section block (field own 0 block)
   unfolding block_said

@@ -1,10 +1,13 @@
 -- Laws of the bytes that a capture's frame stream has left.
-use Rattle.std.proofs.Common.{◌≡◌, ℕ, Bool, true, List, slice_range, Option, Some, None, refl, sym, subst}
+use Rattle.std.proofs.Common.{◌≡◌, ℕ, Bool, true, List, slice_range, Option, Some, None, refl, sym, subst, ap, ◌∙◌}
 use Rattle.std.specs.Prelude.{option_map}
 use Rattle.std.specs.Io.KnownBytes.{IsAtEnd, prepend_known}
 use Rattle.frames.proofs.BuffersLaws.{none_ahead}
-use Rattle.captures.specs.Reading.{CapturePosition}
+use Rattle.captures.specs.declared.packets.PacketEnd.{PacketEnd}
+use Rattle.captures.specs.Damage.{KeepsEnd, end_by}
+use Rattle.captures.specs.Reading.{CapturePosition, FindsPacket, FoundEnd, Past, packets_left}
 use Rattle.captures.specs.FrameBytes.{stream_rest}
+use Rattle.captures.specs.Pcap.{CapturedPacket}
 
 -- after the end nothing is left
 pub rest-ended : (held : List ℕ) (given count : ℕ) (ended : Bool) (at : CapturePosition)
@@ -18,3 +21,13 @@ rest-ended held given count ended at left spent over =
     none_left : (left : Option (List ℕ)) → IsAtEnd (option_map (stream_rest true at) left)
     none_left None = tt
     none_left (Some bytes) = refl
+
+-- the packets end as it was found
+pub end-found : (old new : CapturePosition) (before after : Option (List ℕ)) (stop : PacketEnd)
+    → new ≡ Past stop → FindsPacket old before new after (FoundEnd stop)
+    → KeepsEnd (end_by old before) (end_by new after)
+end-found old new None after stop past finds = tt
+end-found old new (Some bytes) None stop past finds = absurd finds
+end-found old new (Some bytes) (Some rest) stop past finds =
+    ap (λ (p : CapturePosition). Some (packets_left p rest).1) past
+    ∙ ap (λ (t : List CapturedPacket × PacketEnd). Some t.1) (sym finds)

@@ -1,8 +1,9 @@
 -- The packets of a capture, pcap or pcapng: one record after the other, up to its end or the first
 -- fault.
-use Rattle.std.specs.Prelude.{ℕ, zero, suc, ◌+◌, ◌-◌, ◌^◌, ◌==◌, List, [], ◌∷◌, ◌++◌, length, take, drop, min, nat_lt, if◌then◌else◌, Result, Ok, Err}
+use Rattle.std.specs.Prelude.{◌≡◌, ℕ, zero, suc, ◌+◌, ◌-◌, ◌^◌, ◌==◌, List, [], ◌∷◌, ◌++◌, length, take, drop, min, nat_lt, if◌then◌else◌, Result, Ok, Err}
 use Rattle.captures.specs.declared.forms.NumberOrder.TheVariants.{HighFirst}
 use Rattle.captures.specs.declared.forms.PcapForm.{PcapForm}
+use Rattle.captures.specs.declared.forms.Reasons.{Reasons}
 use Rattle.captures.specs.declared.forms.CaptureFormat.{CaptureFormat}
 use Rattle.captures.specs.declared.forms.CaptureFormat.TheVariants as formats
 use Rattle.captures.specs.declared.forms.CaptureRefusal.{CaptureRefusal}
@@ -22,35 +23,40 @@ begun_by (Ok form) = Ok (formats.Pcap form)
 begun_by (Err refusal) = Err refusal
 
 -- the format of a capture, or why it is not read
-unfoldable pub begun : List ℕ → Result CaptureFormat CaptureRefusal
-begun bytes =
+unfoldable pub begun : Reasons → List ℕ → Result CaptureFormat CaptureRefusal
+begun reasons bytes =
     if nat_lt (length bytes) 24 then Err TruncatedFileHead
-    else if is_section bytes then Ok (formats.Pcapng HighFirst)
+    else if is_section bytes
+    then Ok (formats.Pcapng (record { order = HighFirst; reasons = reasons }))
     else begun_by (opened bytes)
+
+-- a head is that of a capture of this format
+abbrev pub IsFormatOf : List ℕ → CaptureFormat → Type 0
+IsFormatOf head format = (reasons : Reasons) × (begun reasons head ≡ Ok format)
 
 -- where its first record is
 abbrev pub first_offset : CaptureFormat → ℕ
 first_offset (formats.Pcap form) = 24
-first_offset (formats.Pcapng order) = 0
+first_offset (formats.Pcapng form) = 0
 
 -- ---- records
 
 -- how many bytes say how long a record is
 abbrev pub head_size : CaptureFormat → ℕ
 head_size (formats.Pcap form) = 16
-head_size (formats.Pcapng order) = 12
+head_size (formats.Pcapng form) = 12
 
 -- the most bytes of a record
 abbrev pub max_record : CaptureFormat → ℕ
 max_record (formats.Pcap form) = 16 + max_captured
-max_record (formats.Pcapng order) = max_block
+max_record (formats.Pcapng form) = max_block
 
 -- how many bytes a record has that begins with these, or why it is none
 abbrev pub record_size : CaptureFormat → List ℕ → Result ℕ PacketFault
 record_size (formats.Pcap form) bytes =
     if nat_lt max_captured (captured_length form bytes) then Err TooLong
     else Ok (packet_size form bytes)
-record_size (formats.Pcapng order) bytes = block_size order bytes
+record_size (formats.Pcapng form) bytes = block_size form.order bytes
 
 -- what a whole record says: the format and the interfaces after it, and its packets, none or one
 pub record SaidRecord : Type 0 where
@@ -61,7 +67,7 @@ pub record SaidRecord : Type 0 where
 abbrev pub said_of_block : Result SaidBlock PacketFault → Result SaidRecord PacketFault
 said_of_block (Err fault) = Err fault
 said_of_block (Ok said) = Ok (record {
-  format = formats.Pcapng said.section.order;
+  format = formats.Pcapng said.section.form;
   interfaces = said.section.interfaces;
   packets = said.packets;
 })
@@ -72,8 +78,8 @@ record_said (formats.Pcap form) interfaces bytes = Ok (record {
   interfaces = interfaces;
   packets = packet_of form bytes ∷ [];
 })
-record_said (formats.Pcapng order) interfaces bytes =
-    said_of_block (block_said (record { order = order; interfaces = interfaces }) bytes)
+record_said (formats.Pcapng form) interfaces bytes =
+    said_of_block (block_said (record { form = form; interfaces = interfaces }) bytes)
 
 -- ---- reading
 
@@ -131,5 +137,5 @@ captured_by bytes (Ok format) =
     Ok (packets_from (suc (length bytes)) format [] at (drop at bytes))
 
 -- the packets of a capture's bytes and how they end, or why it is not read
-abbrev pub captured : List ℕ → Result (List CapturedPacket × PacketEnd) CaptureRefusal
-captured bytes = captured_by bytes (begun bytes)
+abbrev pub captured : Reasons → List ℕ → Result (List CapturedPacket × PacketEnd) CaptureRefusal
+captured reasons bytes = captured_by bytes (begun reasons bytes)

@@ -10,6 +10,7 @@ use Rattle.isa_model.specs.Code.Versions.{stream_magic}
 use Rattle.isa_model.specs.Code.Limits.{max_packet}
 use Rattle.isa_model.specs.Reporting.Streams.{PacketFrame, head_bytes, record_bytes}
 use Rattle.captures.specs.declared.forms.CaptureRefusal.{CaptureRefusal}
+use Rattle.captures.specs.declared.forms.Reasons.{Reasons}
 use Rattle.captures.specs.declared.packets.PacketFault.TheVariants.{TruncatedRecord, TruncatedPacket}
 use Rattle.captures.specs.declared.packets.PacketEnd.{PacketEnd}
 use Rattle.captures.specs.declared.packets.PacketEnd.TheVariants as ending
@@ -24,15 +25,15 @@ too_long_reason = 2 ^ 32 - 1
 abbrev pub kept_body : List ℕ → List ℕ
 kept_body body = if nat_lt max_packet (length body) then [] else body
 
-abbrev pub kept_reason : List ℕ → ℕ
-kept_reason body = if nat_lt max_packet (length body) then too_long_reason else 0
+abbrev pub kept_reason : List ℕ → ℕ → ℕ
+kept_reason body reason = if nat_lt max_packet (length body) then too_long_reason else reason
 
 -- the packet frame that a packet becomes
 abbrev pub frame_of : CapturedPacket → PacketFrame
 frame_of packet = record {
   head = packet.head;
   body = kept_body packet.body;
-  reason = kept_reason packet.body;
+  reason = kept_reason packet.body packet.reason;
 }
 
 abbrev pub no_head : FrameHead
@@ -58,8 +59,8 @@ stream_by (Ok found) = stream_magic Two ++ packets_spelled found
 stream_by (Err refusal) = []
 
 -- the stream that the bytes of a capture become
-abbrev pub stream_of_capture : List ℕ → List ℕ
-stream_of_capture bytes = stream_by (captured bytes)
+abbrev pub stream_of_capture : Reasons → List ℕ → List ℕ
+stream_of_capture reasons bytes = stream_by (captured reasons bytes)
 
 -- ---- a reader's rest
 

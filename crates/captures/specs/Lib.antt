@@ -5,6 +5,7 @@ pub mod Captured
 pub mod Packets
 pub mod Collecting
 pub mod Reading
+pub mod Damage
 pub mod Steps
 pub mod FrameBytes
 pub mod Counts

@@ -1,6 +1,6 @@
 -- What a call says of a record that was taken, with its frame in a block.
 use Rattle.std.specs.Prelude.{ℕ, ◌≤◌, List, [], ◌∷◌, slice_range, Result, Ok, Err}
-use Rattle.captures.specs.declared.forms.NumberOrder.{NumberOrder}
+use Rattle.captures.specs.declared.forms.PcapngForm.{PcapngForm}
 use Rattle.captures.specs.declared.forms.CaptureFormat.{CaptureFormat}
 use Rattle.captures.specs.declared.forms.CaptureFormat.TheVariants as formats
 use Rattle.captures.specs.declared.interfaces.Interface.{Interface}
@@ -18,6 +18,7 @@ packet_with head body = record {
   body = body;
   captured = head.captured;
   original = head.original;
+  reason = head.reason;
 }
 
 -- the packet whose frame is in a block
@@ -51,9 +52,9 @@ said_with format interfaces block (Ok (taken.Passed after)) =
     Ok (record { format = after; interfaces = interfaces; packets = [] })
 
 -- the same of a block of a pcapng file
-abbrev pub block_with : NumberOrder → List Interface → List ℕ → Result TakenRecord PacketFault
+abbrev pub block_with : PcapngForm → List Interface → List ℕ → Result TakenRecord PacketFault
     → Result SaidRecord PacketFault
-block_with order interfaces block result = said_with (formats.Pcapng order) interfaces block result
+block_with form interfaces block result = said_with (formats.Pcapng form) interfaces block result
 
 -- the frame of a packet is in a block of n bytes
 abbrev pub IsFrameIn : ℕ → Result TakenRecord PacketFault → Type 0

@@ -58,13 +58,14 @@ opened bytes =
 
 -- ---- packet records
 
--- a packet: its time and interface, its Ethernet frame, how many bytes of it were captured, and how
--- many it had on the wire
+-- a packet: its time and interface, its Ethernet frame, how many bytes of it were captured, how
+-- many it had on the wire, and why it is not run, or 0
 pub record CapturedPacket : Type 0 where
   pub head : FrameHead
   pub body : List ℕ
   pub captured : ℕ
   pub original : ℕ
+  pub reason : ℕ
 
 -- the most bytes of a packet. libpcap, MAXIMUM_SNAPLEN
 abbrev pub max_captured : ℕ
@@ -100,4 +101,5 @@ packet_of form bytes = record {
   body = ethernet_frame form.link (packet_bytes form bytes);
   captured = captured_length form bytes;
   original = field form.order 12 bytes;
+  reason = 0;
 }

@@ -9,11 +9,17 @@
 --   simple    u32 original packet length, its bytes
 -- The time has its high 32 bits first. An option is: u16 code, u16 length, a value that is padded
 -- to 32 bits.
-use Rattle.std.specs.Prelude.{ℕ, zero, suc, ◌+◌, ◌*◌, ◌^◌, ◌-◌, ◌/◌, ◌%◌, ◌==◌, Bool, not, List, [], ◌∷◌, ◌++◌, length, take, drop, min, nat_lt, slice_get, if◌then◌else◌, Option, Some, None, Result, Ok, Err}
+use Rattle.std.specs.Prelude.{ℕ, zero, suc, ◌+◌, ◌*◌, ◌^◌, ◌-◌, ◌/◌, ◌%◌, ◌==◌, Bool, not, ◌&&◌, List, [], ◌∷◌, ◌++◌, length, take, drop, min, nat_eq, nat_le, nat_lt, slice_get, codes, unwrap_or, if◌then◌else◌, Option, Some, None, Result, Ok, Err}
+use Rattle.std.specs.List.{list_all, starts_with}
+use Rattle.std.specs.Char.{is_ascii_digit}
+use Rattle.std.specs.Str.Parse.{digits_value}
 use Rattle.byteorder.specs.Endian.{big_number, little_number}
 use Rattle.captures.specs.declared.forms.NumberOrder.{NumberOrder}
 use Rattle.captures.specs.declared.forms.NumberOrder.TheVariants.{HighFirst, LowFirst}
 use Rattle.captures.specs.declared.forms.LinkType.{LinkType}
+use Rattle.captures.specs.declared.forms.PcapngForm.{PcapngForm}
+use Rattle.captures.specs.declared.forms.Reasons.{Reasons}
+use Rattle.captures.specs.declared.forms.Reasons.TheVariants.{Ignored, Read}
 use Rattle.captures.specs.declared.interfaces.TimeScale.{TimeScale}
 use Rattle.captures.specs.declared.interfaces.TimeScale.TheVariants.{PowerOf10, PowerOf2}
 use Rattle.captures.specs.declared.interfaces.Interface.{Interface}
@@ -53,6 +59,64 @@ option_in (suc fuel) order code bytes =
 
 abbrev pub option_value : NumberOrder → ℕ → List ℕ → Option (List ℕ)
 option_value order code bytes = option_in (suc (length bytes)) order code bytes
+
+-- the values of all options with this code, before the end of options; `fuel` is more than the
+-- number of bytes
+unfoldable pub options_in : ℕ → NumberOrder → ℕ → List ℕ → List (List ℕ)
+options_in zero order code bytes = []
+options_in (suc fuel) order code bytes =
+    let later = options_in fuel order code (drop (4 + padded (short_field order 2 bytes)) bytes) in
+    if nat_lt (length bytes) 4 then []
+    else if short_field order 0 bytes == 0 then []
+    else if short_field order 0 bytes == code
+    then take (short_field order 2 bytes) (drop 4 bytes) ∷ later
+    else later
+
+abbrev pub option_values : NumberOrder → ℕ → List ℕ → List (List ℕ)
+option_values order code bytes = options_in (suc (length bytes)) order code bytes
+
+-- ---- reasons
+
+-- one to ten decimal digits of a number of 32 bits
+abbrev pub is_reason_number : List ℕ → Bool
+is_reason_number digits =
+    nat_lt 0 (length digits)
+    && (nat_le (length digits) 10
+    && (list_all is_ascii_digit digits && nat_lt (digits_value 10 digits) (2 ^ 32)))
+
+abbrev pub reason_number : List ℕ → Option ℕ
+reason_number digits =
+    if is_reason_number digits then Some (digits_value 10 digits) else None
+
+-- the reason that a comment says, as `reason 7`, if it says one
+abbrev pub reason_said : List ℕ → Option ℕ
+reason_said comment =
+    if starts_with nat_eq comment (codes "reason ") then reason_number (drop 7 comment) else None
+
+-- the reason that an option of this code says, if it is opt_comment
+abbrev pub option_reason : ℕ → List ℕ → Option ℕ
+option_reason code value = if code == 1 then reason_said value else None
+
+-- the first reason that these comments say, or 0
+abbrev pub first_reason : List (List ℕ) → ℕ
+first_reason [] = 0
+first_reason (comment ∷ later) = unwrap_or (reason_said comment) (first_reason later)
+
+-- the reason by options: by the first opt_comment that says one
+abbrev pub reason_in : NumberOrder → List ℕ → ℕ
+reason_in order options = first_reason (option_values order 1 options)
+
+-- the options of an enhanced or an old block with a packet of this length
+abbrev pub packet_options : ℕ → List ℕ → List ℕ
+packet_options captured block = drop (28 + padded captured) (take (length block - 4) block)
+
+abbrev pub packet_reason : NumberOrder → ℕ → List ℕ → ℕ
+packet_reason order captured block = reason_in order (packet_options captured block)
+
+-- if reasons are read
+abbrev pub reason_by : Reasons → NumberOrder → ℕ → List ℕ → ℕ
+reason_by Ignored order captured block = 0
+reason_by Read order captured block = packet_reason order captured block
 
 -- ---- interfaces
 
@@ -139,10 +203,11 @@ block_size order bytes = sized_by bytes (block_order order bytes)
 -- ---- packets
 
 -- a packet whose bytes begin at a place of the block, or why it is none
-abbrev pub packet_by : Interface → (number time start captured original : ℕ) → List ℕ
+abbrev pub packet_by : Interface → (number time start captured original reason : ℕ) → List ℕ
     → Option LinkType → Result CapturedPacket PacketFault
-packet_by interface number time start captured original block None = Err UnknownInterfaceLink
-packet_by interface number time start captured original block (Some link) =
+packet_by interface number time start captured original reason block None =
+    Err UnknownInterfaceLink
+packet_by interface number time start captured original reason block (Some link) =
     if nat_lt (length block) (start + captured + 4) then Err BadBlock
     else Ok (record {
       head =
@@ -154,16 +219,19 @@ packet_by interface number time start captured original block (Some link) =
       body = ethernet_frame link (take captured (drop start block));
       captured = captured;
       original = original;
+      reason = reason;
     })
 
 -- the packet of an enhanced or an old block, which came in by the interface of this number
-abbrev pub timed_packet : NumberOrder → ℕ → Option Interface → List ℕ
+abbrev pub timed_packet : PcapngForm → ℕ → Option Interface → List ℕ
     → Result CapturedPacket PacketFault
-timed_packet order number None block = Err UnknownInterface
-timed_packet order number (Some interface) block =
+timed_packet form number None block = Err UnknownInterface
+timed_packet form number (Some interface) block =
     packet_by interface number
-    (time_at interface (field order 12 block * 2 ^ 32 + field order 16 block)) 28
-    (field order 20 block) (field order 24 block) block (link_of interface.link)
+    (time_at interface (field form.order 12 block * 2 ^ 32 + field form.order 16 block)) 28
+    (field form.order 20 block) (field form.order 24 block)
+    (reason_by form.reasons form.order (field form.order 20 block) block) block
+    (link_of interface.link)
 
 -- how many bytes of a packet a simple block has, by the original packet length
 abbrev pub simple_length : Interface → ℕ → List ℕ → ℕ
@@ -171,13 +239,13 @@ simple_length interface original block =
     if interface.snap == 0 then min original (length block - 16)
     else min original (min interface.snap (length block - 16))
 
--- the packet of a simple block, which came in by the first interface; it says no time
+-- the packet of a simple block, which came in by the first interface; it says no time and no reason
 abbrev pub simple_packet : NumberOrder → Option Interface → List ℕ
     → Result CapturedPacket PacketFault
 simple_packet order None block = Err UnknownInterface
 simple_packet order (Some interface) block =
     packet_by interface 0 0 12 (simple_length interface (field order 8 block) block)
-    (field order 8 block) block (link_of interface.link)
+    (field order 8 block) 0 block (link_of interface.link)
 
 -- ---- what a block says
 
@@ -185,9 +253,9 @@ simple_packet order (Some interface) block =
 abbrev pub max_interfaces : ℕ
 max_interfaces = 4096
 
--- a section: the order of its numbers, and the interfaces that are described so far
+-- a section: how its blocks are read, and the interfaces that are described so far
 pub record PcapngSection : Type 0 where
-  pub order : NumberOrder
+  pub form : PcapngForm
   pub interfaces : List Interface
 
 -- the section after a block, and the packets of it: none or one
@@ -214,15 +282,16 @@ says_nothing section = Ok (record { section = section; packets = [] })
 -- what a block that begins no section says in one, by its type
 abbrev pub said_in : PcapngSection → List ℕ → ℕ → Result SaidBlock PacketFault
 said_in section block kind =
-    if kind == 1 then says_interface section (interface_in section.order block)
+    let order = section.form.order in
+    if kind == 1 then says_interface section (interface_in order block)
     else if kind == 2
-    then says_packet section (timed_packet section.order (short_field section.order 8 block)
-    (slice_get section.interfaces (short_field section.order 8 block)) block)
+    then says_packet section (timed_packet section.form (short_field order 8 block)
+    (slice_get section.interfaces (short_field order 8 block)) block)
     else if kind == 3
-    then says_packet section (simple_packet section.order (slice_get section.interfaces 0) block)
+    then says_packet section (simple_packet order (slice_get section.interfaces 0) block)
     else if kind == 6
-    then says_packet section (timed_packet section.order (field section.order 8 block)
-    (slice_get section.interfaces (field section.order 8 block)) block)
+    then says_packet section (timed_packet section.form (field order 8 block)
+    (slice_get section.interfaces (field order 8 block)) block)
     else says_nothing section
 
 abbrev pub said_by : PcapngSection → List ℕ → Option NumberOrder → Result SaidBlock PacketFault
@@ -230,9 +299,12 @@ said_by section block None = Err BadBlock
 said_by section block (Some order) =
     if not (field order (length block - 4) block == length block) then Err BadBlock
     else if is_section block
-    then says_nothing (record { order = order; interfaces = [] })
+    then says_nothing (record {
+      form = record { order = order; reasons = section.form.reasons };
+      interfaces = [];
+    })
     else said_in section block (field order 0 block)
 
 -- what a whole block says in a section, or why it is none
 unfoldable pub block_said : PcapngSection → List ℕ → Result SaidBlock PacketFault
-block_said section block = said_by section block (block_order section.order block)
+block_said section block = said_by section block (block_order section.form.order block)

@@ -2,6 +2,7 @@
 use Rattle.std.specs.Prelude.{◌≡◌, ℕ, suc, ◌≤◌, List, [], ◌∷◌, length, max, Option, Some, None, Result, Ok, Err, IfOk}
 use Rattle.std.specs.Io.KnownBytes.{prepend_known}
 use Rattle.captures.specs.declared.forms.CaptureFormat.{CaptureFormat}
+use Rattle.captures.specs.declared.forms.Reasons.{Reasons}
 use Rattle.captures.specs.declared.interfaces.Interface.{Interface}
 use Rattle.captures.specs.declared.packets.PacketEnd.{PacketEnd}
 use Rattle.captures.specs.declared.reader.OpenFailure.{OpenFailure}
@@ -68,16 +69,18 @@ IsPartOfRecord (Past stop) front = Unit {0}
 
 -- these bytes are those of a capture, and a reader at the position with the rest of them left finds
 -- its packets
-abbrev pub IsOpened : List ℕ → CapturePosition → Option (List ℕ) → Type 0
-IsOpened bytes position None = ⊥
-IsOpened bytes position (Some rest) = captured bytes ≡ Ok (packets_left position rest)
+abbrev pub IsOpened : Reasons → List ℕ → CapturePosition → Option (List ℕ) → Type 0
+IsOpened reasons bytes position None = ⊥
+IsOpened reasons bytes position (Some rest) =
+    captured reasons bytes ≡ Ok (packets_left position rest)
 
 -- what opening a capture comes to, where the source's bytes are known
-abbrev pub OpensCapture : {R : Type 0} → (R → Option (List ℕ)) → Option (List ℕ)
+abbrev pub OpensCapture : {R : Type 0} → Reasons → (R → Option (List ℕ)) → Option (List ℕ)
     → Result (CaptureState R) OpenFailure → Type 0
-OpensCapture remaining None result = Unit {0}
-OpensCapture remaining (Some bytes) (Ok reader) =
-    IsOpened bytes reader.position (bytes_left remaining reader)
-OpensCapture remaining (Some bytes) (Err (failure.Refused refusal)) = captured bytes ≡ Err refusal
-OpensCapture remaining (Some bytes) (Err failure.Unread) = Unit {0}
-OpensCapture remaining (Some bytes) (Err failure.NoMemory) = Unit {0}
+OpensCapture reasons remaining None result = Unit {0}
+OpensCapture reasons remaining (Some bytes) (Ok reader) =
+    IsOpened reasons bytes reader.position (bytes_left remaining reader)
+OpensCapture reasons remaining (Some bytes) (Err (failure.Refused refusal)) =
+    captured reasons bytes ≡ Err refusal
+OpensCapture reasons remaining (Some bytes) (Err failure.Unread) = Unit {0}
+OpensCapture reasons remaining (Some bytes) (Err failure.NoMemory) = Unit {0}

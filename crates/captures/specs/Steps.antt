@@ -97,3 +97,9 @@ pub record BeginsAfter {R : Type 0} (head : List ℕ) (format : CaptureFormat) (
 abbrev pub StaysPast : {R : Type 0} → CaptureState R → CaptureState R → Captured → Type 0
 StaysPast old new result = (stop : PacketEnd) → old.position ≡ Past stop
     → (result ≡ found.Stopped stop) × (new ≡ old)
+
+-- a reader that found the end of the packets is past them
+abbrev pub StopsPast : {R : Type 0} → CaptureState R → Captured → Type 0
+StopsPast new (found.Packet head) = Unit {0}
+StopsPast new (found.Stopped stop) = new.position ≡ Past stop
+StopsPast new found.Failed = Unit {0}

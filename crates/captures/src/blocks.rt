@@ -2,16 +2,18 @@
 
 ghost use Rattle.std.specs.Prelude.{◌≡◌, ◌≤◌, ◌<◌, ◌^◌, Ok, length, slice_get};
 ghost use Rattle.captures.specs.Links.{link_of};
-ghost use Rattle.captures.specs.Pcapng.{block_order, block_said, block_size, least_size, packet_by, said_in, section_order, simple_length, simple_packet, timed_packet};
+ghost use Rattle.captures.specs.Pcapng.{block_order, block_said, block_size, least_size, packet_by, packet_reason, reason_by, said_in, section_order, simple_length, simple_packet, timed_packet};
 ghost use Rattle.captures.specs.Captured.{said_of_block};
 ghost use Rattle.captures.specs.Packets.{IsFrameIn, IsFramed, block_with, packet_framed, taken_by};
 
 use super::forms::{
-    CaptureFormat, LinkType, MAX_BLOCK, NumberOrder, is_section, number_at, short_at,
+    CaptureFormat, LinkType, MAX_BLOCK, NumberOrder, PcapngForm, Reasons, is_section, number_at,
+    short_at,
 };
 use super::interfaces::{Interface, Interfaces, interface_in};
 use super::links::{interface_of, settle};
 use super::packets::{CapturedHead, FramedPacket, PacketFault};
+use super::reasons::reason_in;
 use super::records::TakenRecord;
 use byteorder::{BigEndian, ByteOrder, LittleEndian};
 use isa_model::FrameHead;
@@ -99,13 +101,14 @@ pub fn block_size(order: NumberOrder, block: &[u8]) -> Result<usize, PacketFault
     Ok(size)
 }
 
-// Where the bytes of a packet begin in a block, how many these are, and how many there were on the
-// wire.
+// Where the bytes of a packet begin in a block, how many these are, how many there were on the
+// wire, and the packet's reason.
 #[derive(Clone, Copy)]
 struct PacketPlace {
     start: usize,
     captured: usize,
     original: u32,
+    reason: u32,
 }
 
 // A packet whose bytes are at a place of the block.
@@ -121,8 +124,8 @@ fn packet_by(
     requires room { 12 ≤ place.start }
     requires captured { place.captured < 2 ^ 32 }
     ensures packet { packet_framed block.new result
-        ≡ packet_by interface.now number time place.start place.captured place.original block.old
-        (link_of interface.now.link) }
+        ≡ packet_by interface.now number time place.start place.captured place.original
+        place.reason block.old (link_of interface.now.link) }
     ensures inside { IsFramed (length block.new) result }
 {
     let Some(link) = LinkType::of(u32::from(interface.link)) else {
@@ -143,34 +146,64 @@ fn packet_by(
             head,
             captured: place.captured as u32,
             original: place.original,
+            reason: place.reason,
         },
         from,
         to,
     })
 }
 
+// The reason that the options say of an enhanced or an old block with a packet of this length.
+#[cold]
+#[inline(never)]
+fn packet_reason(order: NumberOrder, captured: usize, block: &[u8]) -> u32
+    requires block { 32 ≤ length block.now }
+    requires captured { captured < 2 ^ 32 }
+    ensures { result ≡ packet_reason order captured block.now }
+{
+    let end = block.len() - 4;
+    let start = end.min(28 + (captured + 3) / 4 * 4);
+    reason_in(order, &block[start..end])
+}
+
+// The same, if reasons are read.
+#[inline(always)]
+fn reason_by(form: PcapngForm, captured: usize, block: &[u8]) -> u32
+    requires block { 32 ≤ length block.now }
+    requires captured { captured < 2 ^ 32 }
+    ensures { result ≡ reason_by form.reasons form.order captured block.now }
+{
+    match form.reasons {
+        Reasons::Ignored => 0,
+        Reasons::Read => packet_reason(form.order, captured, block),
+    }
+}
+
 // The packet of an enhanced or an old block, which came in by the interface of this number.
 #[inline(always)]
 fn timed_packet(
-    order: NumberOrder,
+    form: PcapngForm,
     interfaces: &Interfaces,
     number: u32,
     block: &mut [u8],
 ) -> Result<FramedPacket, PacketFault>
     requires { 32 ≤ length block.old }
     ensures packet { packet_framed block.new result
-        ≡ timed_packet order number (slice_get interfaces.now number) block.old }
+        ≡ timed_packet form number (slice_get interfaces.now number) block.old }
     ensures inside { IsFramed (length block.new) result }
 {
+    let order = form.order;
     let Some(interface) = interfaces.get(number as usize) else {
         return Err(PacketFault::UnknownInterface);
     };
     let high = u64::from(number_at(order, block, 12));
     let low = u64::from(number_at(order, block, 16));
+    let captured = number_at(order, block, 20) as usize;
     let place = PacketPlace {
         start: 28,
-        captured: number_at(order, block, 20) as usize,
+        captured,
         original: number_at(order, block, 24),
+        reason: reason_by(form, captured, block),
     };
     let time = interface.time_at(high * 0x1_0000_0000 + low);
     packet_by(&interface, number, time, place, block)
@@ -208,6 +241,7 @@ fn simple_packet(
         start: 12,
         captured: simple_length(&interface, original, block),
         original,
+        reason: 0,
     };
     packet_by(&interface, 0, 0, place, block)
 }
@@ -226,52 +260,53 @@ fn framed(packet: Result<FramedPacket, PacketFault>) -> Result<TakenRecord, Pack
 // Takes what a block of this type says that begins no section.
 #[inline(always)]
 fn take_in(
-    order: NumberOrder,
+    form: PcapngForm,
     interfaces: &mut Interfaces,
     block: &mut [u8],
     kind: u32,
 ) -> Result<TakenRecord, PacketFault>
     requires { least_size kind ≤ length block.old }
-    ensures said { block_with order interfaces.new block.new result
+    ensures said { block_with form interfaces.new block.new result
         ≡ said_of_block
-        (said_in (record { order = order; interfaces = interfaces.old }) block.old kind) }
+        (said_in (record { form = form; interfaces = interfaces.old }) block.old kind) }
     ensures inside { IsFrameIn (length block.new) result }
 {
+    let order = form.order;
     match kind {
         INTERFACE => {
             if interfaces.push(interface_in(order, block)) {
-                Ok(TakenRecord::Passed(CaptureFormat::Pcapng(order)))
+                Ok(TakenRecord::Passed(CaptureFormat::Pcapng(form)))
             } else {
                 Err(PacketFault::TooManyInterfaces)
             }
         }
         OLD_PACKET => {
             let number = u32::from(short_at(order, block, 8));
-            framed(timed_packet(order, interfaces, number, block))
+            framed(timed_packet(form, interfaces, number, block))
         }
         SIMPLE_PACKET => framed(simple_packet(order, interfaces, block)),
         ENHANCED_PACKET => {
             let number = number_at(order, block, 8);
-            framed(timed_packet(order, interfaces, number, block))
+            framed(timed_packet(form, interfaces, number, block))
         }
-        _ => Ok(TakenRecord::Passed(CaptureFormat::Pcapng(order))),
+        _ => Ok(TakenRecord::Passed(CaptureFormat::Pcapng(form))),
     }
 }
 
 /// Takes what a whole block says. The Ethernet frame of a packet is made in the block.
 #[inline(always)]
 pub fn take_block(
-    order: NumberOrder,
+    form: PcapngForm,
     interfaces: &mut Interfaces,
     block: &mut [u8],
 ) -> Result<TakenRecord, PacketFault>
-    requires { block_size order block.old ≡ Ok (length block.old) }
-    ensures said { block_with order interfaces.new block.new result
-        ≡ said_of_block (block_said (record { order = order; interfaces = interfaces.old })
+    requires { block_size form.order block.old ≡ Ok (length block.old) }
+    ensures said { block_with form interfaces.new block.new result
+        ≡ said_of_block (block_said (record { form = form; interfaces = interfaces.old })
         block.old) }
     ensures inside { IsFrameIn (length block.new) result }
 {
-    let Some(own) = block_order(order, block) else {
+    let Some(own) = block_order(form.order, block) else {
         return Err(PacketFault::BadBlock);
     };
     let size = block.len();
@@ -280,7 +315,10 @@ pub fn take_block(
     }
     if is_section(block) {
         interfaces.clear();
-        return Ok(TakenRecord::Passed(CaptureFormat::Pcapng(own)));
+        return Ok(TakenRecord::Passed(CaptureFormat::Pcapng(PcapngForm {
+            order: own,
+            reasons: form.reasons,
+        })));
     }
-    take_in(order, interfaces, block, number_at(own, block, 0))
+    take_in(form, interfaces, block, number_at(own, block, 0))
 }

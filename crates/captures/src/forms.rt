@@ -61,13 +61,29 @@ pub struct PcapForm {
     pub link: LinkType,
 }
 
+/// Says whether the reasons are read that the comments of packets say.
+#[derive(Clone, Copy, PartialEq, Eq, Debug)]
+pub enum Reasons {
+    /// Each packet has the reason 0.
+    Ignored,
+    /// A packet with a comment `reason 7` has the reason 7.
+    Read,
+}
+
+/// Says how the blocks of a section of a pcapng file are read.
+#[derive(Clone, Copy, PartialEq, Eq, Debug)]
+pub struct PcapngForm {
+    pub order: NumberOrder,
+    pub reasons: Reasons,
+}
+
 /// Says how the records of a capture are written.
 #[derive(Clone, Copy, PartialEq, Eq, Debug)]
 pub enum CaptureFormat {
     /// A pcap file.
     Pcap(PcapForm),
-    /// A pcapng file, with the order of the numbers in this section.
-    Pcapng(NumberOrder),
+    /// A pcapng file, in a section of this form.
+    Pcapng(PcapngForm),
 }
 
 impl CaptureFormat {
@@ -212,14 +228,17 @@ fn pcap_form(head: &[u8]) -> Result<PcapForm, CaptureRefusal>
 }
 
 /// The format of a capture whose first bytes these are, or why it is not read.
-pub fn capture_format(head: &[u8]) -> Result<CaptureFormat, CaptureRefusal>
-    ensures { result ≡ begun head.now }
+pub fn capture_format(reasons: Reasons, head: &[u8]) -> Result<CaptureFormat, CaptureRefusal>
+    ensures { result ≡ begun reasons head.now }
 {
     if head.len() < 24 {
         return Err(CaptureRefusal::TruncatedFileHead);
     }
     if is_section(head) {
-        return Ok(CaptureFormat::Pcapng(NumberOrder::HighFirst));
+        return Ok(CaptureFormat::Pcapng(PcapngForm {
+            order: NumberOrder::HighFirst,
+            reasons,
+        }));
     }
     match pcap_form(head) {
         Ok(form) => Ok(CaptureFormat::Pcap(form)),

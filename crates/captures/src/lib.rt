@@ -18,6 +18,7 @@ mod links;
 mod options;
 mod packets;
 mod reader;
+mod reasons;
 mod records;
 mod spelling;
 mod streams;
@@ -26,9 +27,9 @@ pub use choices::FramesOf;
 pub use counts::CaptureCounts;
 pub use forms::{
     CaptureFormat, CaptureRefusal, LinkType, MAX_BLOCK, MAX_CAPTURED, NumberOrder, PcapForm,
-    TimeUnit, capture_format,
+    PcapngForm, Reasons, TimeUnit, capture_format,
 };
 pub use lending::Lent;
-pub use packets::{CapturedHead, PacketEnd, PacketFault};
+pub use packets::{CaptureDamage, CapturedHead, PacketEnd, PacketFault};
 pub use reader::{CaptureReader, Captured, OpenFailure};
 pub use streams::CaptureStream;

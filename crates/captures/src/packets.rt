@@ -3,6 +3,7 @@
 ghost use Rattle.std.specs.Prelude.{◌≡◌, ◌≤◌, length};
 ghost use Rattle.captures.specs.Pcap.{packet_of, packet_size};
 ghost use Rattle.captures.specs.Packets.{framed_packet};
+ghost use Rattle.captures.specs.Damage.{damage_of};
 
 use super::forms::{PcapForm, number_at};
 use super::links::{interface_of, settle};
@@ -17,6 +18,8 @@ pub struct CapturedHead {
     pub captured: u32,
     /// How many bytes it had on the wire.
     pub original: u32,
+    /// Why it is not run, or 0.
+    pub reason: u32,
 }
 
 /// Says what a record says of its packet, and where in a block its Ethernet frame begins and ends.
@@ -54,6 +57,25 @@ pub enum PacketEnd {
     Fault(PacketFault, u64),
 }
 
+/// Says what is wrong with a capture, and where: its record that begins at an offset in bytes.
+#[derive(Clone, Copy, PartialEq, Eq, Debug)]
+pub struct CaptureDamage {
+    pub fault: PacketFault,
+    pub offset: u64,
+}
+
+impl PacketEnd {
+    /// Returns what is wrong with the capture, if its packets end by a fault.
+    pub fn damage(self) -> Option<CaptureDamage>
+        ensures { result ≡ damage_of self }
+    {
+        match self {
+            PacketEnd::End => None,
+            PacketEnd::Fault(fault, offset) => Some(CaptureDamage { fault, offset }),
+        }
+    }
+}
+
 /// Returns what a record of a pcap file says of its packet, and where the Ethernet frame is that is
 /// made of the bytes.
 #[inline(always)]
@@ -82,6 +104,7 @@ pub fn take_packet(form: PcapForm, bytes: &mut [u8]) -> FramedPacket
             head,
             captured,
             original,
+            reason: 0,
         },
         from,
         to,

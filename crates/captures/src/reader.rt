@@ -1,15 +1,16 @@
 //! Reads the packets of a capture one by one.
 
-ghost use Rattle.std.specs.Prelude.{◌≡◌, ◌+◌, ◌≤◌, length, drop, take, vec_len, IfOk, Ok};
+ghost use Rattle.std.specs.Prelude.{◌≡◌, ◌+◌, ◌≤◌, length, drop, take, vec_len, IfOk, IfSome};
 ghost use Rattle.std.specs.Io.KnownBytes.{prepend_known};
-ghost use Rattle.captures.specs.Captured.{begun, first_offset, max_record};
+ghost use Rattle.captures.specs.Captured.{IsFormatOf, first_offset, max_record};
+ghost use Rattle.captures.specs.Damage.{damage_met};
 ghost use Rattle.captures.specs.Reading.{Before, FindsPacket, IsRecordPart, IsPartOfRecord, OpensCapture, bytes_left};
-ghost use Rattle.captures.specs.Steps.{BeginsAfter, IsInBlock, StaysPast, finding_at, finding_if, finding_of, position_after};
+ghost use Rattle.captures.specs.Steps.{BeginsAfter, IsInBlock, StaysPast, StopsPast, finding_at, finding_if, finding_of, position_after};
 
-use super::forms::{CaptureFormat, CaptureRefusal, capture_format};
+use super::forms::{CaptureFormat, CaptureRefusal, Reasons, capture_format};
 use super::gathering::{Gathered, gather, holds_record};
 use super::interfaces::Interfaces;
-use super::packets::{CapturedHead, FramedPacket, PacketEnd};
+use super::packets::{CaptureDamage, CapturedHead, FramedPacket, PacketEnd};
 use super::records::{TakenRecord, take_record};
 use exact_io::Filled;
 use frames::{Source, fill};
@@ -127,7 +128,7 @@ fn find_in<R: Source>(
 // Takes what a head has of the first record to the front of the block.
 fn take_first(format: CaptureFormat, head: &[u8; 24], block: &mut [u8]) -> usize
     requires room { 24 ≤ length block.old }
-    requires head { begun head.now ≡ Ok format }
+    requires head { IsFormatOf head.now format }
     ensures front { take result block.new ≡ drop (first_offset format) head.now }
     ensures count { first_offset format + result ≡ 24 }
     ensures part { IsRecordPart format (take result block.new) }
@@ -144,7 +145,7 @@ fn take_first(format: CaptureFormat, head: &[u8; 24], block: &mut [u8]) -> usize
 // Takes what a head has of the first record to the front of a block that is owned.
 fn take_first_in(format: CaptureFormat, head: &[u8; 24], block: &mut Vec<u8>) -> usize
     requires room { 24 ≤ vec_len block.old }
-    requires head { begun head.now ≡ Ok format }
+    requires head { IsFormatOf head.now format }
     ensures front { take result block.new.items ≡ drop (first_offset format) head.now }
     ensures count { first_offset format + result ≡ 24 }
     ensures part { IsRecordPart format (take result block.new.items) }
@@ -187,10 +188,10 @@ impl<R> Model for CaptureReader<R> {
 
 impl<R: Source> CaptureReader<R> {
     /// Reads the head of a capture, and takes memory for the longest packet.
-    pub fn open(alloc: Global, mut source: R) -> Result<Self, OpenFailure>
+    pub fn open(alloc: Global, mut source: R, reasons: Reasons) -> Result<Self, OpenFailure>
     where
         R: Drop,
-        ensures { OpensCapture R.remaining (R.remaining source) result }
+        ensures { OpensCapture reasons R.remaining (R.remaining source) result }
     {
         let mut head = [0; 24];
         match fill(&mut source, &mut head) {
@@ -200,7 +201,7 @@ impl<R: Source> CaptureReader<R> {
             }
             Filled::Failed(_) => return Err(OpenFailure::Unread),
         }
-        let format = match capture_format(&head) {
+        let format = match capture_format(reasons, &head) {
             Ok(format) => format,
             Err(refusal) => return Err(OpenFailure::Refused(refusal)),
         };
@@ -219,7 +220,7 @@ impl<R: Source> CaptureReader<R> {
     ) -> Result<Self, AllocError>
     where
         R: Drop,
-        requires { begun head.now ≡ Ok format }
+        requires { IsFormatOf head.now format }
         ensures { IfOk result (BeginsAfter head.now format source) }
     {
         let mut block = Vec::from_elem(alloc, 0, format.max_record())?;
@@ -242,6 +243,7 @@ impl<R: Source> CaptureReader<R> {
         ensures finds { FindsPacket self.old.position (bytes_left R.remaining self.old)
             self.new.position (bytes_left R.remaining self.new)
             (finding_if self.new.frame result) }
+        ensures past { IfSome result (StopsPast self.new) }
     {
         let (format, offset) = match self.stage {
             CaptureStage::Past(end) => return Some(Captured::Stopped(end)),
@@ -283,6 +285,7 @@ impl<R: Source> CaptureReader<R> {
             self.new.position (bytes_left R.remaining self.new)
             (finding_of self.new.frame result) }
         ensures done { StaysPast self.old self.new result }
+        ensures past { StopsPast self.new result }
     {
         if let CaptureStage::Past(end) = self.stage {
             return Captured::Stopped(end);
@@ -313,5 +316,17 @@ impl<R: Source> CaptureReader<R> {
         let (from, to) = (self.from, self.to);
         let all = self.block.as_slice();
         &all[from..to]
+    }
+}
+
+impl<R> CaptureReader<R> {
+    /// What is wrong with the capture, if that was met.
+    pub fn damage(&self) -> Option<CaptureDamage>
+        ensures { result ≡ damage_met self.now.position }
+    {
+        match self.stage {
+            CaptureStage::Before(_, _) => None,
+            CaptureStage::Past(end) => end.damage(),
+        }
     }
 }

@@ -33,7 +33,7 @@ pub fn record_size(format: CaptureFormat, head: &[u8]) -> Result<usize, PacketFa
                 Ok(16 + length)
             }
         }
-        CaptureFormat::Pcapng(order) => block_size(order, head),
+        CaptureFormat::Pcapng(form) => block_size(form.order, head),
     }
 }
 
@@ -56,6 +56,6 @@ pub fn take_record(
         CaptureFormat::Pcap(form) => {
             Ok(TakenRecord::Packet(take_packet(form, &mut block[..size])))
         }
-        CaptureFormat::Pcapng(order) => take_block(order, interfaces, &mut block[..size]),
+        CaptureFormat::Pcapng(form) => take_block(form, interfaces, &mut block[..size]),
     }
 }

@@ -57,7 +57,8 @@ pub fn put_record(held: &mut [u8; RECORD], head: &CapturedHead, frame: &[u8]) ->
         put_parts(held, &record_head(&head.head, 0, u32::MAX), &[]);
         return 24;
     }
-    put_parts(held, &record_head(&head.head, frame.len() as u32, 0), frame);
+    let own = record_head(&head.head, frame.len() as u32, head.reason);
+    put_parts(held, &own, frame);
     24 + frame.len()
 }
 

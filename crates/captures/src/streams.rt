@@ -5,8 +5,11 @@ ghost use Rattle.std.specs.Io.{ReadsAtMost};
 ghost use Rattle.std.specs.Io.KnownBytes.{Keeps, ReadConsumes};
 ghost use Rattle.isa_model.specs.Code.Limits.{max_packet};
 ghost use Rattle.captures.specs.Counts.{KeepsCounts};
+ghost use Rattle.captures.specs.Damage.{KeepsEnd, damage_met};
 
 use super::counts::CaptureCounts;
+use super::forms::Reasons;
+use super::packets::CaptureDamage;
 use super::reader::{CaptureReader, Captured, OpenFailure};
 use super::spelling::{RECORD, put_end, put_magic, put_record};
 use frames::Source;
@@ -29,16 +32,17 @@ pub struct CaptureStream<R> {
 }
 
 impl<R: Source> CaptureStream<R> {
-    ghost use Rattle.captures.specs.Streams.{BeginsCounts, OpensStreamOf, counts_left, stream_left};
+    ghost use Rattle.captures.specs.Streams.{BeginsCounts, BeginsEnd, OpensStreamOf, counts_left, end_left, stream_left};
 
     /// Reads the head of a capture, and takes memory for the longest packet.
-    pub fn open(alloc: Global, source: R) -> Result<Self, OpenFailure>
+    pub fn open(alloc: Global, source: R, reasons: Reasons) -> Result<Self, OpenFailure>
     where
         R: Drop,
-        ensures opens { OpensStreamOf R.remaining (R.remaining source) result }
+        ensures opens { OpensStreamOf reasons R.remaining (R.remaining source) result }
         ensures counts { BeginsCounts result }
+        ensures end { BeginsEnd reasons R.remaining (R.remaining source) result }
     {
-        match CaptureReader::open(alloc, source) {
+        match CaptureReader::open(alloc, source, reasons) {
             Ok(reader) => {
                 let mut held = [0; RECORD];
                 let count = put_magic(&mut held);
@@ -60,9 +64,11 @@ impl<R: Source> CaptureStream<R> {
     fn advance(&mut self) -> io::Result<()>
         requires spent { self.old.given ≡ self.old.count }
         requires going { self.old.ended ≡ false }
-        ensures bytes { Keeps (stream_left R.remaining self.old) (stream_left R.remaining self.new) }
+        ensures bytes { Keeps (stream_left R.remaining self.old)
+            (stream_left R.remaining self.new) }
         ensures counts { KeepsCounts (counts_left R.remaining self.old)
             (counts_left R.remaining self.new) }
+        ensures end { KeepsEnd (end_left R.remaining self.old) (end_left R.remaining self.new) }
         ensures some { OnOk result (self.new.given ≡ self.new.count → self.new.ended ≡ true) }
     {
         match self.reader.next() {
@@ -89,6 +95,7 @@ impl<R: Source> CaptureStream<R> {
     fn give(&mut self, buffer: &mut [u8]) -> io::Result<usize>
         requires { self.old.given ≡ self.old.count → self.old.ended ≡ true }
         ensures counts { counts_left R.remaining self.new ≡ counts_left R.remaining self.old }
+        ensures end { end_left R.remaining self.new ≡ end_left R.remaining self.old }
         ensures bound { ReadsAtMost result buffer.new }
         ensures bytes { ReadConsumes (stream_left R.remaining self.old)
             (stream_left R.remaining self.new) result buffer.new }
@@ -107,10 +114,17 @@ impl<R> CaptureStream<R> {
     {
         self.counts
     }
+
+    /// What is wrong with the capture, if that was met.
+    pub fn damage(&self) -> Option<CaptureDamage>
+        ensures { result ≡ damage_met self.now.reader.position }
+    {
+        self.reader.damage()
+    }
 }
 
 impl<R: Source> Source for CaptureStream<R> {
-    ghost use Rattle.captures.specs.Streams.{counts_left, stream_left};
+    ghost use Rattle.captures.specs.Streams.{counts_left, end_left, stream_left};
 
     ghost remaining = { stream_left R.remaining };
 
@@ -123,6 +137,7 @@ impl<R: Source> Source for CaptureStream<R> {
             (stream_left R.remaining self.new) result buffer.new }
         ensures counts { KeepsCounts (counts_left R.remaining self.old)
             (counts_left R.remaining self.new) }
+        ensures end { KeepsEnd (end_left R.remaining self.old) (end_left R.remaining self.new) }
     {
         if self.given == self.count && !self.ended {
             self.advance()?;

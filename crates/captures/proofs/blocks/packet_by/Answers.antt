@@ -12,7 +12,7 @@ returns-clause-packet c =
     let bytes : slice_range block start (start + captured) ≡ take captured (drop start block) =
     ap (λ n. take n (drop start block)) same in
     packet_by-parts c.args.interface.now c.args.number c.args.time start captured
-    c.args.place.original block c.in-Some.link
+    c.args.place.original c.args.place.reason block c.in-Some.link
     (ap link_of (sym c.from.ensures) ∙ sym c.of.ensures ∙ c.in-Some.is) _ _ (omega arith)
     (c.interface_of.ensures ∙ ap (interface_of c.in-Some.link c.args.number) bytes)
     (c.settle-from.ensures.frame ∙ ap (ethernet_frame c.in-Some.link) bytes)

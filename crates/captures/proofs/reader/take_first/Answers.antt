@@ -31,5 +31,5 @@ returns-in-Pcapng-clause-part c =
     subst (λ (f : CaptureFormat). IsRecordPart f (take 24 (self ++ drop 24 c.args.block.now)))
     (sym c.in-Pcapng.is)
     (subst (IsRecordPart (formats.Pcapng c.in-Pcapng.field-0)) (sym same)
-    (begun_part c.args.head.now c.in-Pcapng.field-0 c.told-head c.fits-head
-    (c.requires.head ∙ ap (λ f. Ok f) c.in-Pcapng.is)))
+    (begun_part c.requires.head.0 c.args.head.now c.in-Pcapng.field-0 c.told-head c.fits-head
+    (c.requires.head.1 ∙ ap (λ f. Ok f) c.in-Pcapng.is)))
