@@ -11,6 +11,7 @@ use Rattle.captures.specs.declared.forms.NumberOrder.TheVariants.{LowFirst}
 use Rattle.captures.specs.declared.forms.TimeUnit.TheVariants.{Nanoseconds}
 use Rattle.captures.specs.declared.forms.LinkType.TheVariants.{Ethernet}
 use Rattle.captures.specs.declared.forms.PcapForm.{PcapForm}
+use Rattle.captures.specs.declared.forms.Reasons.{Reasons}
 use Rattle.captures.specs.Pcap.{CapturedPacket, captured_length, max_captured, opened, packet_of, pcap_start}
 use Rattle.captures.specs.Captured.{SaidRecord, begun, record_said, record_size}
 use Rattle.captures.proofs.OpeningLaws.{begun-append}
@@ -47,9 +48,10 @@ module _ (f : PacketFrame) (short : length f.body ≤ max_packet) where
       let fits : nat_lt max_captured (length f.body) ≡ false = le-ltb _ _ most in
       rw (said_length rest, fits) (ap Ok (sym length-packet))
 
-  packet-read : packet_of own_form (pcap_packet f) ≡ read_back Pcap f
+  packet-read : (reasons : Reasons)
+      → packet_of own_form (pcap_packet f) ≡ read_back reasons Pcap f
   unfolding packet_head
-  packet-read =
+  packet-read reasons =
       let second = little_number-reads_back 4 (pcap_second f.head.time) [] (omega arith) in
       let nano = little_number-reads_back 4 (f.head.time % 10 ^ 9) [] (omega arith) in
       let size = little_number-reads_back 4 (length f.body) [] (omega (arith, short)) in
@@ -57,26 +59,29 @@ module _ (f : PacketFrame) (short : length f.body ≤ max_packet) where
       let one : f.head.time % 10 ^ 9 * 1 ≡ f.head.time % 10 ^ 9 = omega arith in
       rw (second, nano, size, whole, one) refl
 
-  pub pcap-packet : (rest : List ℕ) (read : Read) → Reads own_pcap [] rest read
-      → Reads own_pcap [] (pcap_packet f ++ rest) (read_back Pcap f ∷ read.0, read.1)
-  pcap-packet rest read later =
+  pub pcap-packet : (reasons : Reasons) (rest : List ℕ) (read : Read)
+      → Reads own_pcap [] rest read
+      → Reads own_pcap [] (pcap_packet f ++ rest) (read_back reasons Pcap f ∷ read.0, read.1)
+  pcap-packet reasons rest read later =
       let said : SaidRecord =
-      record { format = own_pcap; interfaces = []; packets = read_back Pcap f ∷ [] } in
+      record { format = own_pcap; interfaces = []; packets = read_back reasons Pcap f ∷ [] } in
       let says : record_said own_pcap [] (pcap_packet f) ≡ Ok said =
       ap (λ (p : CapturedPacket). Ok (record {
         format = own_pcap;
         interfaces = [];
         packets = p ∷ [];
-      })) packet-read in
+      })) (packet-read reasons) in
       reads-record own_pcap [] (pcap_packet f) rest said read (omega (arith, length-packet))
       (packet-sized rest) says later
 
 -- ---- the file head
 
-head-begun : begun pcap_head ≡ Ok own_pcap
+head-begun : (reasons : Reasons) → begun reasons pcap_head ≡ Ok own_pcap
 unfolding begun opened pcap_start
-head-begun = refl
+head-begun reasons = refl
 
 -- it says the form
-pub pcap-begun : (rest : List ℕ) → begun (pcap_head ++ rest) ≡ Ok own_pcap
-pcap-begun rest = begun-append pcap_head rest (omega arith) ∙ head-begun
+pub pcap-begun : (reasons : Reasons) (rest : List ℕ)
+    → begun reasons (pcap_head ++ rest) ≡ Ok own_pcap
+pcap-begun reasons rest =
+    begun-append reasons pcap_head rest (omega arith) ∙ head-begun reasons

@@ -4,6 +4,7 @@ use Rattle.std.specs.Prelude.{All, if◌then◌else◌}
 use Rattle.std.proofs.lemmas.List.Elements.{All-cons, All-head, All-tail}
 use Rattle.isa_model.specs.declared.versions.Version.TheVariants.{Two}
 use Rattle.isa_model.specs.Reporting.Streams.{IsPacketFrame, PacketFrame}
+use Rattle.captures.specs.declared.forms.Reasons.{Reasons}
 use Rattle.captures.specs.declared.packets.PacketEnd.TheVariants as ending
 use Rattle.captures.specs.Pcapng.{max_interfaces}
 use Rattle.captures.specs.Captured.{captured, captured_by}
@@ -64,74 +65,79 @@ kept-fit form (f ∷ fs) fit =
 -- ---- what is read
 
 -- what is read where these frames were written
-abbrev read_of : CaptureKind → List PacketFrame → Read
-read_of kind frames = (map (read_back kind) frames, ending.End)
+abbrev read_of : Reasons → CaptureKind → List PacketFrame → Read
+read_of reasons kind frames = (map (read_back reasons kind) frames, ending.End)
 
-pcap-reads : (described : ℕ) (frames : List PacketFrame) → All (IsPacketFrame Two) frames
-    → Reads own_pcap [] (spelled_from Pcap described frames) (read_of Pcap frames)
-pcap-reads described [] fit = reads-end own_pcap []
-pcap-reads described (f ∷ fs) fit =
+pcap-reads : (reasons : Reasons) (described : ℕ) (frames : List PacketFrame)
+    → All (IsPacketFrame Two) frames
+    → Reads own_pcap [] (spelled_from Pcap described frames) (read_of reasons Pcap frames)
+pcap-reads reasons described [] fit = reads-end own_pcap []
+pcap-reads reasons described (f ∷ fs) fit =
     let own = All-head (IsPacketFrame Two) f fs fit in
-    pcap-packet f own.short (spelled_from Pcap described fs) (read_of Pcap fs)
-    (pcap-reads described fs (All-tail (IsPacketFrame Two) f fs fit))
+    pcap-packet f own.short reasons (spelled_from Pcap described fs) (read_of reasons Pcap fs)
+    (pcap-reads reasons described fs (All-tail (IsPacketFrame Two) f fs fit))
 
-pcapng-reads : (described : ℕ) (frames : List PacketFrame) → All (IsPacketFrame Two) frames
-    → described ≤ max_interfaces
-    → Reads own_pcapng (own_interfaces described) (spelled_from Pcapng described frames)
-    (read_of Pcapng frames)
-pcapng-reads described [] fit few = reads-end own_pcapng (own_interfaces described)
-pcapng-reads described (f ∷ fs) fit few =
+pcapng-reads : (reasons : Reasons) (described : ℕ) (frames : List PacketFrame)
+    → All (IsPacketFrame Two) frames → described ≤ max_interfaces
+    → Reads (own_pcapng reasons) (own_interfaces described) (spelled_from Pcapng described frames)
+    (read_of reasons Pcapng frames)
+pcapng-reads reasons described [] fit few =
+    reads-end (own_pcapng reasons) (own_interfaces described)
+pcapng-reads reasons described (f ∷ fs) fit few =
+    let format = own_pcapng reasons in
+    let all = read_of reasons Pcapng (f ∷ fs) in
     let own = All-head (IsPacketFrame Two) f fs fit in
     let named = named-few f.head.interface in
     let after = described_after Pcapng described f in
-    let later = pcapng-reads after fs (All-tail (IsPacketFrame Two) f fs fit) (omega (arith, few, named)) in
-    let block = pcapng-block f own.short own.reason own.time after
-    (spelled_from Pcapng after fs) (read_of Pcapng fs) (omega arith) later in
+    let later = pcapng-reads reasons after fs (All-tail (IsPacketFrame Two) f fs fit)
+    (omega (arith, few, named)) in
+    let block = pcapng-block f own.short own.reason own.time reasons after
+    (spelled_from Pcapng after fs) (read_of reasons Pcapng fs) (omega arith) later in
     let sum : described + (after - described) ≡ after = omega arith in
-    subst (λ (l : List ℕ). Reads own_pcapng (own_interfaces described) l
-    (read_of Pcapng (f ∷ fs)))
+    subst (λ (l : List ℕ). Reads format (own_interfaces described) l all)
     (sym (append_assoc (interface_blocks (after - described)) (packet_block f)
     (spelled_from Pcapng after fs)))
-    (pcapng-interfaces (after - described) described
-    (packet_block f ++ spelled_from Pcapng after fs) (read_of Pcapng (f ∷ fs))
-    (omega (arith, few, named))
-    (subst (λ (k : ℕ). Reads own_pcapng (own_interfaces k)
-    (packet_block f ++ spelled_from Pcapng after fs) (read_of Pcapng (f ∷ fs))) (sym sum) block))
+    (pcapng-interfaces reasons (after - described) described
+    (packet_block f ++ spelled_from Pcapng after fs) all (omega (arith, few, named))
+    (subst (λ (k : ℕ). Reads format (own_interfaces k)
+    (packet_block f ++ spelled_from Pcapng after fs) all) (sym sum) block))
 
 -- ---- captures
 
 -- the capture of these frames by its bytes
-captured-by : (kind : CaptureKind) (frames : List PacketFrame) → All (IsPacketFrame Two) frames
-    → captured (file_start kind ++ spelled_from kind 1 frames)
-    ≡ Ok (map (read_back kind) frames, ending.End)
-captured-by Pcap frames fit =
+captured-by : (reasons : Reasons) (kind : CaptureKind) (frames : List PacketFrame)
+    → All (IsPacketFrame Two) frames
+    → captured reasons (file_start kind ++ spelled_from kind 1 frames)
+    ≡ Ok (map (read_back reasons kind) frames, ending.End)
+captured-by reasons Pcap frames fit =
     let rest = spelled_from Pcap 1 frames in
-    ap (captured_by (pcap_head ++ rest)) (pcap-begun rest)
+    ap (captured_by (pcap_head ++ rest)) (pcap-begun reasons rest)
     ∙ ap (λ (r : Read). Ok r)
-    (pcap-reads 1 frames fit (suc (length (pcap_head ++ rest))) 24 (omega arith))
-captured-by Pcapng frames fit =
+    (pcap-reads reasons 1 frames fit (suc (length (pcap_head ++ rest))) 24 (omega arith))
+captured-by reasons Pcapng frames fit =
     let rest = spelled_from Pcapng 1 frames in
     let all : section_block ++ interface_block ++ rest
     ≡ section_block ++ (interface_block ++ rest) =
     append_assoc section_block interface_block rest in
-    let one : Reads own_pcapng [] (interface_block ++ rest) (read_of Pcapng frames) =
-    subst (λ (l : List ℕ). Reads own_pcapng [] (l ++ rest) (read_of Pcapng frames))
-    interface_blocks-one
-    (pcapng-interfaces 1 0 rest (read_of Pcapng frames) (omega arith)
-    (pcapng-reads 1 frames fit (omega arith))) in
-    ap captured all
+    let read = read_of reasons Pcapng frames in
+    let one : Reads (own_pcapng reasons) [] (interface_block ++ rest) read =
+    subst (λ (l : List ℕ). Reads (own_pcapng reasons) [] (l ++ rest) read) interface_blocks-one
+    (pcapng-interfaces reasons 1 0 rest read (omega arith)
+    (pcapng-reads reasons 1 frames fit (omega arith))) in
+    ap (captured reasons) all
     ∙ ap (captured_by (section_block ++ (interface_block ++ rest)))
-    (pcapng-begun (interface_block ++ rest))
+    (pcapng-begun reasons (interface_block ++ rest))
     ∙ ap (λ (r : Read). Ok r)
-    (pcapng-section (interface_block ++ rest) (read_of Pcapng frames) one
+    (pcapng-section reasons (interface_block ++ rest) read one
     (suc (length (section_block ++ (interface_block ++ rest)))) 0 (omega arith))
 
 -- A capture of frames that a stream may have is read as exactly those that are written, each with
--- what its format keeps (`read_back`), and then its end.
-pub captured-capture_of : (form : CaptureForm) (frames : List PacketFrame)
+-- what its format keeps (`read_back`), and then its end; of a pcapng each with its reason, if
+-- reasons are read.
+pub captured-capture_of : (reasons : Reasons) (form : CaptureForm) (frames : List PacketFrame)
     → All (IsPacketFrame Two) frames
-    → captured (capture_of form frames).bytes
-    ≡ Ok (map (read_back form.kind) (kept_frames form frames), ending.End)
-captured-capture_of form frames fit =
-    ap captured (spelled form (empty_capture form) frames)
-    ∙ captured-by form.kind (kept_frames form frames) (kept-fit form frames fit)
+    → captured reasons (capture_of form frames).bytes
+    ≡ Ok (map (read_back reasons form.kind) (kept_frames form frames), ending.End)
+captured-capture_of reasons form frames fit =
+    ap (captured reasons) (spelled form (empty_capture form) frames)
+    ∙ captured-by reasons form.kind (kept_frames form frames) (kept-fit form frames fit)
