@@ -1,5 +1,5 @@
 -- One more turn of the loop over a stream's frames, and how the loop ends.
-use Rattle.std.proofs.Common.{◌≡◌, ◌∙◌, ℕ, ◌+◌, ◌<◌, ◌≤◌, List, [], ◌∷◌, ◌++◌, Option, Result, length, refl, sym, ap, subst, append_assoc, append-nil, length-append, arith, inl, inr}
+use Rattle.std.proofs.Common.{◌≡◌, ◌∙◌, ℕ, ◌+◌, ◌<◌, ◌≤◌, List, [], ◌∷◌, ◌++◌, Option, Result, length, sym, ap, subst, append_assoc, append-nil, length-append, arith, inl, inr}
 use Rattle.std.specs.Prelude.{Bool, cond}
 use Rattle.std.specs.List.{count_by, flat_map}
 use Rattle.std.proofs.lemmas.List.Sums.{count_by-le-length, sum_by-append}
@@ -23,16 +23,18 @@ use Rattle.frames.proofs.InputsLaws.{HasBegun, HasBegun-opens, HasBegun-found, H
 use Rattle.converting.specs.declared.forms.CopyCounts.{CopyCounts}
 use Rattle.converting.specs.declared.forms.FrameForm.{FrameForm}
 use Rattle.converting.specs.declared.forms.StreamEnd.{StreamEnd}
+use Rattle.converting.specs.declared.placing.Placing.{Placing}
+use Rattle.converting.specs.Placing.{placed}
 use Rattle.converting.specs.Counts.{counts_after, counts_of, is_left_out, is_unreasoned, no_counts}
 use Rattle.converting.specs.Copies.{CopiesFront, CopiesWhole, frame_as, frames_as, start_as}
 
 -- these frames were found, and were written
-pub record CopiedSoFar (form : FrameForm) (v : Version) (source : Origin)
+pub record CopiedSoFar (form : FrameForm) (placing : Placing) (v : Version) (source : Origin)
     (before : Option (List ℕ)) (frames : List PacketFrame) (known : Option (List ℕ))
     (position : Position) (counts : CopyCounts) (now : Option (List ℕ)) : Type 0 where
   pub begun : HasBegun v frames source known position
   pub counted : counts ≡ counts_of form frames
-  pub wrote : Appends before now (frames_as form v frames)
+  pub wrote : Appends before now (frames_as form placing v frames)
 
 -- a reader that was made and then read the magic has begun
 pub begun-magic : (v : Version) (source : Origin) (known new : Option (List ℕ))
@@ -46,16 +48,20 @@ begun-magic v source known new first after magic is same opens begins version =
     (subst (λ (b : Result ℕ (Fault × ℕ)). IsBegunVersion b v) begins version)
 
 -- the bytes of one more frame
-frames_as-push : (form : FrameForm) (v : Version) (frames : List PacketFrame) (f : PacketFrame)
-    → frames_as form v (frames ++ f ∷ []) ≡ frames_as form v frames ++ frame_as form v f
-frames_as-push form v frames f =
+frames_as-push : (form : FrameForm) (placing : Placing) (v : Version)
+    (frames : List PacketFrame) (f : PacketFrame)
+    → frames_as form placing v (frames ++ f ∷ [])
+    ≡ frames_as form placing v frames ++ frame_as form v (placed placing f)
+frames_as-push form placing v frames f =
+    let spell : PacketFrame → List ℕ = λ x. frame_as form v (placed placing x) in
     ap (λ (l : List ℕ). start_as form v ++ l)
-    (flat_map-append (frame_as form v) frames (f ∷ [])
-    ∙ ap (λ (l : List ℕ). flat_map (frame_as form v) frames ++ l) (append-nil (frame_as form v f)))
-    ∙ sym (append_assoc (start_as form v) (flat_map (frame_as form v) frames) (frame_as form v f))
+    (flat_map-append spell frames (f ∷ [])
+    ∙ ap (λ (l : List ℕ). flat_map spell frames ++ l) (append-nil (spell f)))
+    ∙ sym (append_assoc (start_as form v) (flat_map spell frames) (spell f))
 
-frames_as-none : (form : FrameForm) (v : Version) → frames_as form v [] ≡ start_as form v
-frames_as-none form v = append-nil (start_as form v)
+frames_as-none : (form : FrameForm) (placing : Placing) (v : Version)
+    → frames_as form placing v [] ≡ start_as form v
+frames_as-none form placing v = append-nil (start_as form v)
 
 -- one more frame that is counted, or not
 count_by-push : (p : PacketFrame → Bool) (frames : List PacketFrame) (f : PacketFrame)
@@ -71,40 +77,41 @@ counts_of-push form frames f =
     let bare = count_by-push (λ x. is_unreasoned form x.body x.reason) frames f in
     let all = length-append frames (f ∷ []) in cc
 
-module _ (form : FrameForm) (v : Version) (source : Origin) (before : Option (List ℕ)) where
+module _ (form : FrameForm) (placing : Placing) (v : Version) (source : Origin)
+    (before : Option (List ℕ)) where
   -- before the first turn of the loop
   pub none_copied : (known now : Option (List ℕ)) (p : Position) (counts : CopyCounts)
       → HasBegun v [] source known p → Appends before now (start_as form v) → counts ≡ no_counts
-      → CopiedSoFar form v source before [] known p counts now
+      → CopiedSoFar form placing v source before [] known p counts now
   none_copied known now p counts begun w is = record {
     begun = begun;
     counted = is;
-    wrote = subst (Appends before now) (sym (frames_as-none form v)) w;
+    wrote = subst (Appends before now) (sym (frames_as-none form placing v)) w;
   }
 
   -- what stands before the frames was written in part
   pub start_failed : (known now : Option (List ℕ)) (p : Position) → HasBegun v [] source known p
-      → AppendsBeginning before now (start_as form v) → CopiesFront form source before now
+      → AppendsBeginning before now (start_as form v) → CopiesFront form placing source before now
   start_failed known now p (inl s) b = record {
     version = v;
     frames = [];
     read = inl (HasFound-begins source.may_fail v [] source.bytes known p s);
-    wrote = subst (AppendsBeginning before now) (sym (frames_as-none form v)) b;
+    wrote = subst (AppendsBeginning before now) (sym (frames_as-none form placing v)) b;
   }
   start_failed known now p (inr u) b = record {
     version = One;
     frames = [];
     read = inr (finish.Fault u.fault 0, u.read);
     wrote =
-        subst (AppendsBeginning before now) (sym (frames_as-none form One))
+        subst (AppendsBeginning before now) (sym (frames_as-none form placing One))
         (subst (λ (x : Version). AppendsBeginning before now (start_as form x)) u.first b);
   }
 
   module _ (frames : List PacketFrame) (known new : Option (List ℕ)) (p q : Position) (counts : CopyCounts)
       (now flushed after : Option (List ℕ))
-      (so : CopiedSoFar form v source before frames known p counts now)
+      (so : CopiedSoFar form placing v source before frames known p counts now)
       (kept : Keeps now flushed) where
-    whole_flushed : Appends before flushed (frames_as form v frames)
+    whole_flushed : Appends before flushed (frames_as form placing v frames)
     whole_flushed = Appends-kept before now flushed _ so.wrote kept
 
     module _ (f : PacketFrame) (h : Finds source.may_fail p known new q (Found f)) where
@@ -125,9 +132,9 @@ module _ (form : FrameForm) (v : Version) (source : Origin) (before : Option (Li
           )
 
       -- one more frame was found and written
-      pub one_copied : (next : CopyCounts) → Appends flushed after (frame_as form v f)
+      pub one_copied : (next : CopyCounts) → Appends flushed after (frame_as form v (placed placing f))
           → next ≡ counts_after form counts f.body f.reason
-          → CopiedSoFar form v source before (frames ++ f ∷ []) new q next after
+          → CopiedSoFar form placing v source before (frames ++ f ∷ []) new q next after
       one_copied next w is =
           let (found, early, fits) = HasBegun-found v frames source known new p q f so.begun h in
           record {
@@ -136,13 +143,13 @@ module _ (form : FrameForm) (v : Version) (source : Origin) (before : Option (Li
                 is ∙ ap (λ (c : CopyCounts). counts_after form c f.body f.reason) so.counted
                 ∙ counts_of-push form frames f;
             wrote =
-                subst (Appends before after) (sym (frames_as-push form v frames f))
-                (Appends-trans before flushed after _ (frame_as form v f) whole_flushed w);
+                subst (Appends before after) (sym (frames_as-push form placing v frames f))
+                (Appends-trans before flushed after _ (frame_as form v (placed placing f)) whole_flushed w);
           }
 
       -- one more frame was found, and written in part
-      pub one_failed : AppendsBeginning flushed after (frame_as form v f)
-          → CopiesFront form source before after
+      pub one_failed : AppendsBeginning flushed after (frame_as form v (placed placing f))
+          → CopiesFront form placing source before after
       one_failed w =
           let (found, early, fits) = HasBegun-found v frames source known new p q f so.begun h in
           record {
@@ -151,8 +158,8 @@ module _ (form : FrameForm) (v : Version) (source : Origin) (before : Option (Li
             read =
                 inl (HasFound-begins source.may_fail v (frames ++ f ∷ []) source.bytes new q found);
             wrote =
-                subst (AppendsBeginning before after) (sym (frames_as-push form v frames f))
-                (AppendsBeginning-second before flushed after _ (frame_as form v f) whole_flushed
+                subst (AppendsBeginning before after) (sym (frames_as-push form placing v frames f))
+                (AppendsBeginning-second before flushed after _ (frame_as form v (placed placing f)) whole_flushed
                 w);
           }
 
@@ -160,7 +167,7 @@ module _ (form : FrameForm) (v : Version) (source : Origin) (before : Option (Li
     pub all_copied : (stop : Finish) (ended : StreamEnd)
         → Finds source.may_fail p known new q (Stopped stop)
         → ended ≡ record { counts = counts; finish = stop }
-        → CopiesWhole form source before flushed ended
+        → CopiesWhole form placing source before flushed ended
     all_copied stop ended h is = record {
       found = stream_with v (frames, stop);
       read = HasBegun-stopped v frames source known new p q stop so.begun h;

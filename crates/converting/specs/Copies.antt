@@ -14,7 +14,9 @@ use Rattle.frames.specs.Inputs.{AreReadFrom, IsBegunBy}
 use Rattle.converting.specs.declared.forms.FrameForm.{FrameForm}
 use Rattle.converting.specs.declared.forms.FrameForm.TheVariants.{Records, Plain, Reasoned, Text}
 use Rattle.converting.specs.declared.forms.StreamEnd.{StreamEnd}
+use Rattle.converting.specs.declared.placing.Placing.{Placing}
 use Rattle.converting.specs.Counts.{counts_of, is_left_out}
+use Rattle.converting.specs.Placing.{placed}
 use Rattle.converting.specs.Texts.{frame_text}
 
 -- what stands before the frames
@@ -31,31 +33,34 @@ frame_as Plain v f = if is_left_out Plain f.body f.reason then [] else record_by
 frame_as Reasoned v f = record_bytes Two f
 frame_as Text v f = frame_text f
 
--- these frames
-abbrev pub frames_as : FrameForm → Version → List PacketFrame → List ℕ
-frames_as form v frames = start_as form v ++ flat_map (frame_as form v) frames
+-- these frames, each with the interface and the queue of the placing, where it has them
+abbrev pub frames_as : FrameForm → Placing → Version → List PacketFrame → List ℕ
+frames_as form placing v frames =
+    start_as form v ++ flat_map (λ f. frame_as form v (placed placing f)) frames
 
 -- The stream was read to its end, or to a fault: it is the stream of the source's bytes, where they
--- are known. Its frames were written.
-pub record CopiesWhole (form : FrameForm) (source : Origin) (before after : Option (List ℕ))
-    (ended : StreamEnd) : Type 0 where
+-- are known. Its frames were written, with the interface and the queue of the placing.
+pub record CopiesWhole (form : FrameForm) (placing : Placing) (source : Origin)
+    (before after : Option (List ℕ)) (ended : StreamEnd) : Type 0 where
   pub found : Stream
   pub read : AreReadFrom source found
-  pub wrote : Appends before after (frames_as form found.version found.frames)
+  pub wrote : Appends before after (frames_as form placing found.version found.frames)
   pub counts : ended.counts ≡ counts_of form found.frames
   pub finish : ended.finish ≡ found.finish
 
 -- The output failed at what stands before the frames, or at the last of these frames. The source
 -- begins with them, where its bytes are known; or nothing of it is a frame.
-pub record CopiesFront (form : FrameForm) (source : Origin) (before after : Option (List ℕ))
-    : Type 0 where
+pub record CopiesFront (form : FrameForm) (placing : Placing) (source : Origin)
+    (before after : Option (List ℕ)) : Type 0 where
   pub version : Version
   pub frames : List PacketFrame
   pub read : IsBegunBy source version frames
       ⊎ ((finish : Finish) × AreReadFrom source (stream_with version (frames, finish)))
-  pub wrote : AppendsBeginning before after (frames_as form version frames)
+  pub wrote : AppendsBeginning before after (frames_as form placing version frames)
 
-abbrev pub CopiesFrames : FrameForm → Origin → Option (List ℕ) → Option (List ℕ)
+abbrev pub CopiesFrames : FrameForm → Placing → Origin → Option (List ℕ) → Option (List ℕ)
     → Result StreamEnd Unwritten → Type 0
-CopiesFrames form source before after (Ok ended) = CopiesWhole form source before after ended
-CopiesFrames form source before after (Err failed) = CopiesFront form source before after
+CopiesFrames form placing source before after (Ok ended) =
+    CopiesWhole form placing source before after ended
+CopiesFrames form placing source before after (Err failed) =
+    CopiesFront form placing source before after

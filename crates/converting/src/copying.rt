@@ -10,6 +10,7 @@ ghost use Rattle.frames.specs.Inputs.{IsBegunVersion};
 ghost use Rattle.converting.specs.Copies.{CopiesFrames, frame_as, start_as};
 
 use super::forms::{CopyCounts, FrameForm, StreamEnd};
+use super::placing::Placing;
 use super::texts::write_text;
 use frames::{FrameReader, Next, Source, Unwritten, write_record, write_whole};
 use isa_model::{Fault, Finish, FrameHead, MAX_PACKET, Version};
@@ -100,13 +101,15 @@ fn hand_on<R: Source, W: Write>(reader: &FrameReader<R>, out: &mut W)
 
 /// Writes the frames of the stream that a source returns, each of them before the next one is
 /// waited for, and returns how many there were, of how many not all was written, and how the stream
-/// ended.
+/// ended. Each frame gets the interface and the queue of the placing, where it has them.
 pub fn copy_frames<R: Source + Drop, W: Write>(
     form: FrameForm,
+    placing: Placing,
     source: R,
     out: &mut W,
 ) -> Result<StreamEnd, Unwritten>
-    ensures { CopiesFrames form record { bytes = R.remaining source; may_fail = R.may_fail }
+    ensures { CopiesFrames form placing
+        record { bytes = R.remaining source; may_fail = R.may_fail }
         (W.contents out.old) (W.contents out.new) result }
 {
     let mut reader = FrameReader::new(source);
@@ -122,7 +125,8 @@ pub fn copy_frames<R: Source + Drop, W: Write>(
         match reader.next(&mut buffer) {
             Next::Frame(head, length, reason) => {
                 let body = &buffer[..length];
-                match write_as(out, form, version, &head, body, reason) {
+                let own = placing.placed(&head);
+                match write_as(out, form, version, &own, body, reason) {
                     Ok(()) => counts = counts.after(form, body, reason),
                     Err(failed) => return Err(failed),
                 }

@@ -7,8 +7,10 @@
 
 mod copying;
 mod forms;
+mod placing;
 mod rows;
 mod texts;
 
 pub use copying::copy_frames;
 pub use forms::{CopyCounts, FrameForm, StreamEnd};
+pub use placing::Placing;

@@ -4,7 +4,7 @@ use Rattle.converting.proofs.CopiesLaws.{CopiedSoFar}
 use Rattle.converting.proofs.copying.copy_frames.Given as goal
 
 abbrev pub invariant-frames : goal.invariant-frames
-invariant-frames g l = (copied : List PacketFrame) × CopiedSoFar l.form l.version
+invariant-frames g l = (copied : List PacketFrame) × CopiedSoFar l.form l.placing l.version
     (record { bytes = g.R.Source.remaining l.fn.source; may_fail = g.R.Source.may_fail })
     (g.W.Write.contents l.fn.out) copied (g.R.Source.remaining l.reader.source)
     l.reader.position l.counts (g.W.Write.contents l.out)
