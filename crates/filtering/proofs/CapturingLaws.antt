@@ -15,6 +15,7 @@ use Rattle.capture_writer.specs.Writing.{HasWritten, IsWrittenSoFar}
 use Rattle.capture_writer.specs.Reached.{reached_by}
 use Rattle.converting.specs.declared.forms.FrameForm.TheVariants.{Records}
 use Rattle.converting.specs.declared.forms.StreamEnd.{StreamEnd}
+use Rattle.converting.specs.declared.placing.Placing.{Placing}
 use Rattle.converting.specs.Copies.{CopiesFrames, CopiesWhole}
 use Rattle.commands.specs.declared.outcomes.TaskOutcome.{TaskOutcome}
 use Rattle.commands.specs.Streams.{IsBeginningOf}
@@ -67,7 +68,7 @@ begins-reached None (b ∷ waits) handed handed' k = begins-none handed handed' 
 begins-reached (Some kind) waits handed handed' k = begins-none handed handed' k
 
 -- a writer of a capture after the frames of a source were copied to it
-module _ (known : Option CaptureForm) (form : CaptureForm) (source : Origin)
+module _ (known : Option CaptureForm) (form : CaptureForm) (placing : Placing) (source : Origin)
     (failure : Option ErrorKind) (version : Option Version) (part : List ℕ) (d : ℕ) (l : LostCounts)
     (old handed origin before got : Option (List ℕ)) (waits : List ℕ)
     (f : unwrap_or known form ≡ form)
@@ -75,8 +76,8 @@ module _ (known : Option CaptureForm) (form : CaptureForm) (source : Origin)
   where
     -- it is that of all of them, where nothing failed and the buffer is empty
     all-of : (copied : Option (List ℕ)) (end : StreamEnd) → failure ≡ None → waits ≡ []
-        → CopiesWhole Records source old copied end → Keeps copied (reached_by failure waits handed)
-        → CapturesAll known source old origin before got l end
+        → CopiesWhole Records placing source old copied end → Keeps copied (reached_by failure waits handed)
+        → CapturesAll known placing source old origin before got l end
     all-of copied end n e w kept =
         let same : reached_by failure waits handed ≡ handed =
         ap (λ (x : Option ErrorKind). reached_by x waits handed) n
@@ -97,16 +98,16 @@ module _ (known : Option CaptureForm) (form : CaptureForm) (source : Origin)
     -- which is so where copying them succeeded
     pub captures-all : (name : List ℕ) (r : Result StreamEnd TaskOutcome)
         → OnOk r ((failure ≡ None) × (waits ≡ []))
-        → Copies Records source name failure old (reached_by failure waits handed) r
-        → IfOk r (CapturesAll known source old origin before got l)
+        → Copies Records placing source name failure old (reached_by failure waits handed) r
+        → IfOk r (CapturesAll known placing source old origin before got l)
     captures-all name (Err o) whole c = tt
     captures-all name (Ok end) whole c =
         elim c.ends [
           | inl (e, is, same, kept) ↦
               let here : e ≡ end = cc in
               all-of c.handed end whole.0 whole.1
-              (subst (CopiesWhole Records source old c.handed) here
-              (subst (λ (x : Result StreamEnd Unwritten). CopiesFrames Records source old c.handed x)
+              (subst (CopiesWhole Records placing source old c.handed) here
+              (subst (λ (x : Result StreamEnd Unwritten). CopiesFrames Records placing source old c.handed x)
               is c.copies)) kept
           | inr (o, is, fails, begins) ↦ let same : Ok end ≡ Err o = is in absurd (cc same)
         ]

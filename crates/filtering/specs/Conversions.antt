@@ -6,11 +6,14 @@ use Rattle.exact_io.specs.declared.buffering.PromptWriter.{PromptWriter}
 use Rattle.exact_io.specs.Waiting.{behind, failure_of, held}
 use Rattle.frames.specs.Sources.{Origin, read_from}
 use Rattle.captures.specs.declared.counts.CaptureCounts.{CaptureCounts}
+use Rattle.captures.specs.declared.forms.Reasons.TheVariants.{Read}
+use Rattle.captures.specs.declared.packets.CaptureDamage.{CaptureDamage}
 use Rattle.captures.specs.Choices.{IsFramesOf}
 use Rattle.capture_writer.specs.declared.kinds.CaptureKind.{CaptureKind}
 use Rattle.converting.specs.declared.forms.FrameForm.{FrameForm}
 use Rattle.converting.specs.declared.forms.FrameForm.TheVariants.{Records}
 use Rattle.converting.specs.declared.forms.StreamEnd.{StreamEnd}
+use Rattle.converting.specs.declared.placing.Placing.{Placing}
 use Rattle.messages.specs.declared.forms.FileForm.{FileForm}
 use Rattle.words.specs.declared.filter_tasks.FramesKind.{FramesKind}
 use Rattle.words.specs.FilterRequests.{ConvertRequest}
@@ -47,93 +50,102 @@ abbrev pub copied_by : Result StreamEnd TaskOutcome → Lost
 copied_by (Ok end) = lost.Stream end.counts
 copied_by (Err o) = lost.Nothing
 
+-- where all frames came in by, as a request says it
+abbrev pub placing_of : ConvertRequest → Placing
+placing_of request = record { interface = request.interface; queue = request.queue }
+
 -- The frames are copied to an output of this name, which is `old` before and `new` afterwards. The
--- message has at its end what is not kept of them.
+-- message has at its end where a capture is damaged, and what is not kept of the frames.
 pub record CopiesTo {W : Type 0} (contents : W → Option (List ℕ)) (source : Origin)
-    (form : FileForm) (frame_form : FrameForm) (name : List ℕ) (old new : PromptWriter W)
-    (result : Ending) : Type 0 where
+    (form : FileForm) (frame_form : FrameForm) (placing : Placing) (name : List ℕ)
+    (old new : PromptWriter W) (result : Ending) : Type 0 where
   pub ended : Result StreamEnd TaskOutcome
-  pub copies : Copies frame_form source name (failure_of new) (held contents old)
+  pub copies : Copies frame_form placing source name (failure_of new) (held contents old)
       (contents (behind new)) ended
   pub outcome : result.outcome ≡ outcome_of ended form
   pub captured : CaptureCounts
-  pub tells : TellsUnsaid (record { captured = captured; lost = copied_by ended }) result.why
+  pub damage : Option CaptureDamage
+  pub tells : TellsUnsaid
+      (record { damage = damage; captured = captured; lost = copied_by ended }) result.why
 
--- The frames are copied to some output of this name, as a capture. The message has at its end what
--- is not kept of them.
-pub record CapturesTo (source : Origin) (form : FileForm) (kind : CaptureKind) (name : List ℕ)
-    (result : Ending) : Type 0 where
+-- The frames are copied to some output of this name, as a capture. The message has at its end where
+-- a capture that is read is damaged, and what is not kept of the frames.
+pub record CapturesTo (source : Origin) (form : FileForm) (kind : CaptureKind) (placing : Placing)
+    (name : List ℕ) (result : Ending) : Type 0 where
   pub ended : Result StreamEnd TaskOutcome
   pub loss : Loss
-  pub copies : CopiesSome Records source name ended
+  pub copies : CopiesSome Records placing source name ended
   pub is_kind : loss.kind ≡ kind
   pub outcome : result.outcome ≡ outcome_of ended form
   pub captured : CaptureCounts
-  pub tells : TellsUnsaid (record { captured = captured; lost = lost.Capture loss }) result.why
+  pub damage : Option CaptureDamage
+  pub tells : TellsUnsaid
+      (record { damage = damage; captured = captured; lost = lost.Capture loss }) result.why
 
 -- P holds of a stream with the frames of a file with this path, these bytes and this form: its own
--- stream, or that which a capture becomes; or memory ran out before
+-- stream, or that which a capture becomes, with the reasons of its packets; or memory ran out
+-- before
 abbrev pub OnFrames : List ℕ → Option (List ℕ) → FileForm → (Origin → Type 0) → Ending → Type 0
 OnFrames path known form P result =
     Plainly (IsReadFailure path) result
-    ⊎ ((left : Option (List ℕ)) × IsFramesOf known (is_capture form) left × P (read_from left))
+    ⊎ ((left : Option (List ℕ)) × IsFramesOf Read known (is_capture form) left × P (read_from left))
 
 abbrev pub CopiesFrom : {W : Type 0} → (W → Option (List ℕ)) → List ℕ → Option (List ℕ)
-    → FileForm → FrameForm → List ℕ → PromptWriter W → PromptWriter W → Ending → Type 0
-CopiesFrom contents path known form frame_form name old new result =
+    → FileForm → FrameForm → Placing → List ℕ → PromptWriter W → PromptWriter W → Ending → Type 0
+CopiesFrom contents path known form frame_form placing name old new result =
     OnFrames path known form
     (λ source. (told : FileForm) × IsToldForm form told
-    × CopiesTo contents source told frame_form name old new result) result
+    × CopiesTo contents source told frame_form placing name old new result) result
 
-abbrev pub CapturesFrom : List ℕ → Option (List ℕ) → FileForm → CaptureKind → List ℕ → Ending
-    → Type 0
-CapturesFrom path known form kind name result =
+abbrev pub CapturesFrom : List ℕ → Option (List ℕ) → FileForm → CaptureKind → Placing → List ℕ
+    → Ending → Type 0
+CapturesFrom path known form kind placing name result =
     OnFrames path known form
-    (λ source. (told : FileForm) × IsToldForm form told × CapturesTo source told kind name result)
-    result
+    (λ source. (told : FileForm) × IsToldForm form told
+    × CapturesTo source told kind placing name result) result
 
 -- ---- the outputs
 
 -- standard output must not be written to; or the frames are copied to it
 abbrev pub PrintsBegun : {W : Type 0} → (W → Option (List ℕ)) → List ℕ → Option (List ℕ)
-    → FileForm → FrameForm → List ℕ → PromptWriter W → PromptWriter W → Ending → Type 0
-PrintsBegun contents path known form frame_form name old new result =
+    → FileForm → FrameForm → Placing → List ℕ → PromptWriter W → PromptWriter W → Ending → Type 0
+PrintsBegun contents path known form frame_form placing name old new result =
     (Plainly (IsMakeFailure (codes "standard output")) result × (new ≡ old))
-    ⊎ CopiesFrom contents path known form frame_form name old new result
+    ⊎ CopiesFrom contents path known form frame_form placing name old new result
 
 -- the output cannot be made, or must not be overwritten; or the frames are copied to it
 abbrev pub CopiesBegun : {F : Type 0} → (F → Option (List ℕ)) → List ℕ → Option (List ℕ)
-    → FileForm → FrameForm → List ℕ → Ending → Type 0
-CopiesBegun {F = F} files path known form frame_form output result =
+    → FileForm → FrameForm → Placing → List ℕ → Ending → Type 0
+CopiesBegun {F = F} files path known form frame_form placing output result =
     Plainly (IsMakeFailure (output_name output)) result
     ⊎ ((made : PromptWriter F) × (written : PromptWriter F)
-    × CopiesFrom files path known form frame_form (output_name output) made written result)
+    × CopiesFrom files path known form frame_form placing (output_name output) made written result)
 
 -- by whether they are printed: standard output is `old` before and `new` afterwards
 abbrev pub WritesBegun : {W F : Type 0} → Bool → (W → Option (List ℕ)) → (F → Option (List ℕ))
-    → List ℕ → Option (List ℕ) → FileForm → FrameForm → List ℕ → PromptWriter W → PromptWriter W
-    → Ending → Type 0
-WritesBegun true contents files path known form frame_form output old new result =
-    PrintsBegun contents path known form frame_form (output_name output) old new result
-WritesBegun false contents files path known form frame_form output old new result =
-    CopiesBegun files path known form frame_form output result × (new ≡ old)
+    → List ℕ → Option (List ℕ) → FileForm → FrameForm → Placing → List ℕ → PromptWriter W
+    → PromptWriter W → Ending → Type 0
+WritesBegun true contents files path known form frame_form placing output old new result =
+    PrintsBegun contents path known form frame_form placing (output_name output) old new result
+WritesBegun false contents files path known form frame_form placing output old new result =
+    CopiesBegun files path known form frame_form placing output result × (new ≡ old)
 
 -- the same of a capture
-abbrev pub CapturesBegun : List ℕ → Option (List ℕ) → FileForm → CaptureKind → List ℕ → Ending
-    → Type 0
-CapturesBegun path known form kind output result =
+abbrev pub CapturesBegun : List ℕ → Option (List ℕ) → FileForm → CaptureKind → Placing → List ℕ
+    → Ending → Type 0
+CapturesBegun path known form kind placing output result =
     Plainly (IsMakeFailure (output_name output)) result
-    ⊎ CapturesFrom path known form kind (output_name output) result
+    ⊎ CapturesFrom path known form kind placing (output_name output) result
 
 -- by how they are written; `contents` has the bytes of standard output, and `files` those of files
 abbrev pub ConvertsBegun : {W F : Type 0} → (W → Option (List ℕ)) → (F → Option (List ℕ))
-    → List ℕ → Option (List ℕ) → FileForm → WrittenForm → List ℕ → PromptWriter W
+    → List ℕ → Option (List ℕ) → FileForm → WrittenForm → Placing → List ℕ → PromptWriter W
     → PromptWriter W → Ending → Type 0
-ConvertsBegun contents files path known form (Plain frame_form) output old new result =
-    WritesBegun (bytes_eq output (codes "-")) contents files path known form frame_form output old
-    new result
-ConvertsBegun contents files path known form (Capture kind) output old new result =
-    CapturesBegun path known form kind output result × (new ≡ old)
+ConvertsBegun contents files path known form (Plain frame_form) placing output old new result =
+    WritesBegun (bytes_eq output (codes "-")) contents files path known form frame_form placing
+    output old new result
+ConvertsBegun contents files path known form (Capture kind) placing output old new result =
+    CapturesBegun path known form kind placing output result × (new ≡ old)
 
 -- ---- the files
 
@@ -145,7 +157,7 @@ ConvertsTo contents files request old new result =
     ⊎ ((known : Option (List ℕ)) × (form : FileForm) × (kind : FramesKind)
     × (kind_of request form ≡ Some kind)
     × ConvertsBegun contents files (frames_path request.frames) known form (written_as kind)
-    request.out old new result)
+    (placing_of request) request.out old new result)
 
 -- what a request does; or nothing says what the frames are to become
 abbrev pub ConvertsFiles : {W F : Type 0} → (W → Option (List ℕ)) → (F → Option (List ℕ))

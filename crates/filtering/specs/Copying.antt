@@ -9,6 +9,7 @@ use Rattle.capture_writer.specs.declared.kinds.CaptureKind.{CaptureKind}
 use Rattle.capture_writer.specs.declared.kinds.LostCounts.{LostCounts}
 use Rattle.converting.specs.declared.forms.FrameForm.{FrameForm}
 use Rattle.converting.specs.declared.forms.StreamEnd.{StreamEnd}
+use Rattle.converting.specs.declared.placing.Placing.{Placing}
 use Rattle.converting.specs.declared.forms.FrameForm.TheVariants.{Records}
 use Rattle.converting.specs.Copies.{CopiesFrames, CopiesWhole}
 use Rattle.commands.specs.declared.outcomes.TaskOutcome.{TaskOutcome}
@@ -31,27 +32,29 @@ DeliversCopy name cause ended handed got result =
 
 -- What is handed to the buffer of an output of this name is exactly the records, or the text, of
 -- the frames that the source's bytes spell, if those are known, up to the end or the fault of the
--- result.
-pub record Copies (form : FrameForm) (source : Origin) (name : List ℕ) (cause : Option ErrorKind)
-    (old got : Option (List ℕ)) (result : Result StreamEnd TaskOutcome) : Type 0 where
+-- result; each of them has the interface and the queue of the placing, where it has them.
+pub record Copies (form : FrameForm) (placing : Placing) (source : Origin) (name : List ℕ)
+    (cause : Option ErrorKind) (old got : Option (List ℕ)) (result : Result StreamEnd TaskOutcome)
+    : Type 0 where
   pub ended : Result StreamEnd Unwritten
   pub handed : Option (List ℕ)
-  pub copies : CopiesFrames form source old handed ended
+  pub copies : CopiesFrames form placing source old handed ended
   pub ends : DeliversCopy name cause ended handed got result
 
 -- the frames of a source are copied to some output of this name
-pub record CopiesSome (form : FrameForm) (source : Origin) (name : List ℕ)
+pub record CopiesSome (form : FrameForm) (placing : Placing) (source : Origin) (name : List ℕ)
     (result : Result StreamEnd TaskOutcome) : Type 0 where
   pub cause : Option ErrorKind
   pub before : Option (List ℕ)
   pub after : Option (List ℕ)
-  pub copies : Copies form source name cause before after result
+  pub copies : Copies form placing source name cause before after result
 
 -- All frames of a source were captured: what was handed on, from `old` to `handed`, is exactly the
--- stream of the frames that the source's bytes spell, if those are known, up to the end or the fault
--- of `end`; and the file, which had `before`, got the capture of that stream (`HasCaptured`).
-pub record CapturesAll (known : Option CaptureForm) (source : Origin)
+-- stream of the frames that the source's bytes spell, if those are known, up to the end or the
+-- fault of `end`, placed; and the file, which had `before`, got the capture of that stream
+-- (`HasCaptured`).
+pub record CapturesAll (known : Option CaptureForm) (placing : Placing) (source : Origin)
     (old origin before got : Option (List ℕ)) (lost : LostCounts) (end : StreamEnd) : Type 0 where
   pub handed : Option (List ℕ)
-  pub copies : CopiesWhole Records source old handed end
+  pub copies : CopiesWhole Records placing source old handed end
   pub captures : ∥ HasCaptured known lost origin handed before got ∥₁

@@ -11,12 +11,15 @@ use Rattle.words.specs.FilterRequests.{ConvertRequest, FilterRequest, OperatorRe
 use Rattle.words.specs.FilterAsked.{AsksForText, filter_asked}
 use Rattle.commands.specs.declared.endings.Ending.{Ending}
 use Rattle.commands.specs.declared.outcomes.TaskOutcome.{TaskOutcome}
-use Rattle.commands.specs.declared.outcomes.TaskOutcome.TheVariants.{Done}
+use Rattle.commands.specs.declared.outcomes.TaskOutcome.TheVariants.{Done, Faulted}
 use Rattle.commands.specs.Flushing.{Flushes}
 use Rattle.commands.specs.Known.{told_of}
 use Rattle.commands.specs.Saying.{AppendsPart, Says}
 use Rattle.commands.specs.Statuses.{status_of}
 use Rattle.messages.specs.declared.forms.FileForm.{FileForm}
+use Rattle.messages.specs.Forms.{stream_line}
+use Rattle.isa_model.specs.declared.streams.Fault.TheVariants.{BadMagic}
+use Rattle.isa_model.specs.Reporting.Messages.{sentence_of}
 use Rattle.filtering.specs.FrameKinds.{kind_of}
 use Rattle.filtering.specs.Conversions.{ConvertsTo}
 use Rattle.filtering.specs.Files.{FiltersFiles}
@@ -63,12 +66,27 @@ FiltersWhole contents request old new before after status =
 
 abbrev pub usage : List ℕ
 usage =
-    codes "usage: xdpvm_filter IMAGE FRAMES OUT\n       xdpvm_filter convert IN OUT\n       xdpvm_filter show IN\n"
+    codes "usage: xdpvm_filter IMAGE FRAMES OUT\n"
+    ++ (codes "       xdpvm_filter convert IN OUT\n" ++ codes "       xdpvm_filter show IN\n")
 
 -- the message where nothing says what the frames are to become
 abbrev pub unnamed : List ℕ
 unnamed =
-    codes "error: the name of OUT does not say what it is to be: let it end in .pcap, .pcapng, .frames or .txt, or give --to KIND\n"
+    codes "error: the name of OUT does not say what it is to be: let it end in .pcap, "
+    ++ codes ".pcapng, .frames or .txt, or give --to KIND\n"
+
+-- what the file is, where the task ended since it is neither a frame stream nor a capture
+abbrev pub other_form : TaskOutcome → Option FileForm
+other_form (Faulted BadMagic form) = Some form
+other_form outcome = None
+
+-- what is said of how the task ended: of such a file what it is
+abbrev pub converted_lines : Option FileForm → Ending → List ℕ
+converted_lines (Some form) ending = sentence_of BadMagic ++ stream_line form
+converted_lines None ending = told_of ending
+
+abbrev pub told_converted : Ending → List ℕ
+told_converted ending = converted_lines (other_form ending.outcome) ending
 
 -- Frames were written again, or not, and standard error got the messages; or nothing says what they
 -- are to become, and standard error got that and how the arguments are written.
@@ -77,7 +95,7 @@ abbrev pub ConvertsWhole : {W F : Type 0} → (W → Option (List ℕ)) → (F �
     → Type 0
 ConvertsWhole contents files request old new before after status =
     ((ended : Ending) × ConvertsTo contents files request old new ended
-    × (status ≡ status_of ended.outcome) × AppendsPart before after (told_of ended))
+    × (status ≡ status_of ended.outcome) × AppendsPart before after (told_converted ended))
     ⊎ ((form : FileForm) × (kind_of request form ≡ None) × (new ≡ old) × (status ≡ 1)
     × AppendsPart before after (unnamed ++ usage))
 

@@ -1,4 +1,5 @@
--- The lines that say what is not kept of the frames that are read or written.
+-- The lines that say where a capture is damaged, and what is not kept of the frames that are read
+-- or written.
 use Rattle.std.specs.Prelude.{◌≡◌, ℕ, ◌==◌, List, [], ◌++◌, Option, Some, None, String, IfSome, codes, decimal, if◌then◌else◌}
 use Rattle.std.specs.declared.alloc.Global.{Global}
 use Rattle.std.specs.String.{string_bytes}
@@ -9,6 +10,9 @@ use Rattle.filtering.specs.declared.losing.Lost.{Lost}
 use Rattle.filtering.specs.declared.losing.Lost.TheVariants.{Nothing, Capture, Stream}
 use Rattle.filtering.specs.declared.losing.Unsaid.{Unsaid}
 use Rattle.captures.specs.declared.counts.CaptureCounts.{CaptureCounts}
+use Rattle.captures.specs.declared.packets.CaptureDamage.{CaptureDamage}
+use Rattle.captures.specs.declared.packets.PacketFault.{PacketFault}
+use Rattle.captures.specs.declared.packets.PacketFault.TheVariants.{TruncatedRecord, TooLong, TruncatedPacket, BadBlock, UnknownInterface, UnknownInterfaceLink, TooManyInterfaces}
 use Rattle.capture_writer.specs.declared.kinds.CaptureKind.{CaptureKind}
 use Rattle.capture_writer.specs.declared.kinds.CaptureKind.TheVariants.{Pcap, Pcapng}
 use Rattle.capture_writer.specs.declared.kinds.LostCounts.{LostCounts}
@@ -58,9 +62,27 @@ lost_of Nothing = []
 lost_of (Capture loss) = lost_text loss.kind loss.counts
 lost_of (Stream counts) = left_text counts
 
--- what is not kept of the frames
+-- what is wrong with a record of a capture
+abbrev pub damage_words : PacketFault → List ℕ
+damage_words TruncatedRecord = codes "a record that ends within its head"
+damage_words TooLong = codes "a packet or a block that is too long"
+damage_words TruncatedPacket = codes "a record of which the end is missing"
+damage_words BadBlock = codes "a block whose lengths or whose byte-order magic are wrong"
+damage_words UnknownInterface = codes "a packet of an interface that is not described"
+damage_words UnknownInterfaceLink = codes "a packet of an interface with another link type"
+damage_words TooManyInterfaces = codes "a section with more than 4,096 interfaces"
+
+-- where a capture is damaged, if it is: at which byte the record begins
+abbrev pub damage_text : Option CaptureDamage → List ℕ
+damage_text None = []
+damage_text (Some damage) =
+    codes "at byte "
+    ++ (decimal damage.offset ++ (codes ": " ++ (damage_words damage.fault ++ codes "\n")))
+
+-- where a capture is damaged, and what is not kept of the frames
 abbrev pub unsaid_text : Unsaid → List ℕ
-unsaid_text unsaid = captured_text unsaid.captured ++ lost_of unsaid.lost
+unsaid_text unsaid =
+    damage_text unsaid.damage ++ (captured_text unsaid.captured ++ lost_of unsaid.lost)
 
 -- the lines at the end of the message, if there was memory for them
 abbrev pub TellsUnsaid : Unsaid → Option (String Global) → Type 0

@@ -4,16 +4,16 @@ ghost use Rattle.std.specs.Prelude.{◌≡◌, IfErr, bytes_eq, codes};
 ghost use Rattle.words.specs.FilterRequests.{convert_request_of};
 ghost use Rattle.commands.specs.Statuses.{IsMakeFailure};
 ghost use Rattle.filtering.specs.FrameKinds.{written_as};
-ghost use Rattle.filtering.specs.Conversions.{CapturesBegun, CapturesFrom, ConvertsBegun, ConvertsFiles, CopiesBegun, CopiesFrom, PrintsBegun, WritesBegun, copied_by, outcome_of};
+ghost use Rattle.filtering.specs.Conversions.{CapturesBegun, CapturesFrom, ConvertsBegun, ConvertsFiles, CopiesBegun, CopiesFrom, PrintsBegun, WritesBegun, copied_by, outcome_of, placing_of};
 
 use super::copying::{copied, copied_to_capture};
 use super::frame_kinds::{WrittenForm, kind_of, written_as};
 use super::losing::{Lost, Unsaid, ending_with};
 use super::opening::{frames_of, frames_path, is_dash, open_sent, output_name, told_form};
 use capture_writer::{CaptureKind, Unfollowed};
-use captures::Lent;
+use captures::{Lent, Reasons};
 use commands::{Ending, STANDARD_OUTPUT, TaskOutcome, begin_frames, keep_apart, open_frames};
-use converting::{FrameForm, StreamEnd};
+use converting::{FrameForm, Placing, StreamEnd};
 use exact_io::PromptWriter;
 use frames::Source;
 use isa_model::Finish;
@@ -35,12 +35,14 @@ pub enum Conversion<'a> {
     Unnamed,
 }
 
-// Frames whose file was opened by this path, and has this form by its first bytes.
+// Frames whose file was opened by this path, and has this form by its first bytes; and where all of
+// them came in by, if that is said.
 #[derive(Drop)]
 struct Begun<'a, S> {
     path: &'a str,
     source: S,
     form: FileForm,
+    placing: Placing,
 }
 
 // How the task ends after a stream of a file of this form.
@@ -67,7 +69,7 @@ fn copied_by(ended: &Result<StreamEnd, TaskOutcome<'_>>) -> Lost
 }
 
 // Copies the frames of a file to an output of this name, written in this form. At the end of the
-// message is what is not kept of them.
+// message is where a capture is damaged, and what is not kept of the frames.
 fn copy_from<'a, S: Source + Drop, W: Write + Drop>(
     alloc: Global,
     from: Begun<'a, S>,
@@ -76,17 +78,18 @@ fn copy_from<'a, S: Source + Drop, W: Write + Drop>(
     output: &mut PromptWriter<W>,
 ) -> Ending<'a>
     ensures { CopiesFrom W.contents from.entry.path.now (S.remaining from.entry.source)
-        from.entry.form frame_form name.now output.old output.new result }
+        from.entry.form frame_form from.entry.placing name.now output.old output.new result }
 {
     let form = from.form;
-    match frames_of(alloc, from.source, form, from.path) {
+    match frames_of(alloc, from.source, form, Reasons::Read, from.path) {
         Ok(mut frames) => {
             let form = told_form(&frames, form);
             let lent = Lent {
                 source: &mut frames,
             };
-            let ended = copied(frame_form, lent, name, output);
+            let ended = copied(frame_form, from.placing, lent, name, output);
             let unsaid = Unsaid {
+                damage: frames.damage(),
                 captured: frames.counts(),
                 lost: copied_by(&ended),
             };
@@ -97,7 +100,7 @@ fn copy_from<'a, S: Source + Drop, W: Write + Drop>(
 }
 
 // Copies the frames of a file to an output of this name, as a capture. At the end of the message is
-// what is not kept of them.
+// where a capture that is read is damaged, and what is not kept of the frames.
 fn capture_from<'a, S: Source + Drop, W: Write + Drop>(
     alloc: Global,
     from: Begun<'a, S>,
@@ -106,17 +109,25 @@ fn capture_from<'a, S: Source + Drop, W: Write + Drop>(
     output: PromptWriter<W>,
 ) -> Ending<'a>
     ensures { CapturesFrom from.entry.path.now (S.remaining from.entry.source) from.entry.form kind
-        name.now result }
+        from.entry.placing name.now result }
 {
     let form = from.form;
-    match frames_of(alloc, from.source, form, from.path) {
+    match frames_of(alloc, from.source, form, Reasons::Read, from.path) {
         Ok(mut frames) => {
             let form = told_form(&frames, form);
             let lent = Lent {
                 source: &mut frames,
             };
-            let (ended, loss) = copied_to_capture(lent, kind, name, output, Unfollowed);
+            let (ended, loss) = copied_to_capture(
+                from.placing,
+                lent,
+                kind,
+                name,
+                output,
+                Unfollowed,
+            );
             let unsaid = Unsaid {
+                damage: frames.damage(),
                 captured: frames.counts(),
                 lost: Lost::Capture(loss),
             };
@@ -149,7 +160,7 @@ fn print_begun<'a, R: Files, S: Source + Drop, W: Write + Drop>(
     out: &mut PromptWriter<W>,
 ) -> Ending<'a>
     ensures { PrintsBegun W.contents from.entry.path.now (S.remaining from.entry.source)
-        from.entry.form frame_form name.now out.old out.new result }
+        from.entry.form frame_form from.entry.placing name.now out.old out.new result }
 {
     match keep_printed(rt, from.path) {
         Ok(()) => copy_from(alloc, from, frame_form, name, out),
@@ -166,7 +177,7 @@ fn copy_begun<'a, R: Files, S: Source + Drop>(
     output: &'a str,
 ) -> Ending<'a>
     ensures { CopiesBegun R.File.contents from.entry.path.now (S.remaining from.entry.source)
-        from.entry.form frame_form output.now result }
+        from.entry.form frame_form from.entry.placing output.now result }
 {
     match open_sent(rt, alloc, output, &[from.path]) {
         Ok(mut file) => copy_from(alloc, from, frame_form, output_name(output), &mut file),
@@ -184,8 +195,8 @@ fn write_begun<'a, R: Files, S: Source + Drop, W: Write + Drop>(
     out: &mut PromptWriter<W>,
 ) -> Ending<'a>
     ensures { WritesBegun (bytes_eq output.now (codes "-")) W.contents R.File.contents
-        from.entry.path.now (S.remaining from.entry.source) from.entry.form frame_form output.now
-        out.old out.new result }
+        from.entry.path.now (S.remaining from.entry.source) from.entry.form frame_form
+        from.entry.placing output.now out.old out.new result }
 {
     if is_dash(output) {
         print_begun(rt, alloc, from, frame_form, output_name(output), out)
@@ -203,7 +214,7 @@ fn capture_begun<'a, R: Files, S: Source + Drop>(
     output: &'a str,
 ) -> Ending<'a>
     ensures { CapturesBegun from.entry.path.now (S.remaining from.entry.source) from.entry.form
-        kind output.now result }
+        kind from.entry.placing output.now result }
 {
     match open_sent(rt, alloc, output, &[from.path]) {
         Ok(file) => capture_from(alloc, from, kind, output_name(output), file),
@@ -221,12 +232,22 @@ fn convert_begun<'a, R: Files, S: Source + Drop, W: Write + Drop>(
     out: &mut PromptWriter<W>,
 ) -> Ending<'a>
     ensures { ConvertsBegun W.contents R.File.contents from.entry.path.now
-        (S.remaining from.entry.source) from.entry.form (written_as kind) output.now out.old
-        out.new result }
+        (S.remaining from.entry.source) from.entry.form (written_as kind) from.entry.placing
+        output.now out.old out.new result }
 {
     match written_as(kind) {
         WrittenForm::Plain(form) => write_begun(rt, alloc, from, form, output, out),
         WrittenForm::Capture(kind) => capture_begun(rt, alloc, from, kind, output),
+    }
+}
+
+// Where all frames came in by, as the task says it.
+fn placing_of(task: &ConvertTask<'_>) -> Placing
+    ensures { result ≡ placing_of (convert_request_of task.now) }
+{
+    Placing {
+        interface: task.interface,
+        queue: task.queue,
     }
 }
 
@@ -249,7 +270,12 @@ pub fn convert_files<'a, R: Files + Clock, W: Write + Drop>(
     let (source, form) = begin_frames(rt, path, source);
     match kind_of(&task, form) {
         Some(kind) => {
-            let from = Begun { path, source, form };
+            let from = Begun {
+                path,
+                source,
+                form,
+                placing: placing_of(&task),
+            };
             Conversion::Ended(convert_begun(rt, alloc, from, kind, task.out, out))
         }
         None => Conversion::Unnamed,

@@ -10,7 +10,7 @@ use super::losing::Loss;
 use super::sending::SentOutput;
 use capture_writer::{CaptureForm, CaptureKind, CaptureWriter, Followed};
 use commands::TaskOutcome;
-use converting::{FrameForm, StreamEnd, copy_frames};
+use converting::{FrameForm, Placing, StreamEnd, copy_frames};
 use exact_io::PromptWriter;
 use frames::{Source, Unwritten};
 use std::io::Write;
@@ -42,37 +42,41 @@ fn delivered<'a, O: SentOutput>(
 /// the task ends.
 pub fn copied<'a, S: Source + Drop, O: SentOutput>(
     form: FrameForm,
+    placing: Placing,
     source: S,
     name: &'a str,
     sent: &mut O,
 ) -> Result<StreamEnd, TaskOutcome<'a>>
-    ensures copies { Copies form record { bytes = S.remaining source; may_fail = S.may_fail }
-        name.now (O.cause sent.new) (O.contents sent.old) (O.got sent.new) result }
+    ensures copies { Copies form placing
+        record { bytes = S.remaining source; may_fail = S.may_fail } name.now (O.cause sent.new)
+        (O.contents sent.old) (O.got sent.new) result }
     ensures whole { OnOk result (O.IsDelivered sent.new) }
 {
-    let ended = copy_frames(form, source, sent);
+    let ended = copy_frames(form, placing, source, sent);
     delivered(name, ended, sent)
 }
 
 // Copies the frames of a stream as `copied` does. They become a capture.
 fn captured<'a, S: Source + Drop, W: Write + Drop, T: Followed>(
+    placing: Placing,
     source: S,
     name: &'a str,
     sent: &mut CaptureWriter<W, T>,
 ) -> Result<StreamEnd, TaskOutcome<'a>>
-    ensures copies { CopiesSome Records record { bytes = S.remaining source; may_fail = S.may_fail }
-        name.now result }
-    ensures captures { IfOk result (CapturesAll T.form
+    ensures copies { CopiesSome Records placing
+        record { bytes = S.remaining source; may_fail = S.may_fail } name.now result }
+    ensures captures { IfOk result (CapturesAll T.form placing
         record { bytes = S.remaining source; may_fail = S.may_fail } (T.handed sent.old.trail)
         T.origin T.before (W.contents (behind sent.new.output)) sent.new.written.lost) }
 {
-    copied(FrameForm::Records, source, name, sent)
+    copied(FrameForm::Records, placing, source, name, sent)
 }
 
 /// Copies the frames of a stream to an output of this name as a capture of this kind, with all
 /// frames, also those with a reason. Returns how the stream ended, or how the task ends, and what
 /// the capture does not say.
 pub fn copied_to_capture<'a, S: Source + Drop, W: Write + Drop, T: Followed>(
+    placing: Placing,
     source: S,
     kind: CaptureKind,
     name: &'a str,
@@ -82,10 +86,10 @@ pub fn copied_to_capture<'a, S: Source + Drop, W: Write + Drop, T: Followed>(
     requires form { unwrap_or T.form (all_frames kind) ≡ all_frames kind }
     requires before { Keeps T.before (held W.contents output) }
     requires origin { Keeps T.origin (T.handed trail) }
-    ensures copies { CopiesSome Records record { bytes = S.remaining source; may_fail = S.may_fail }
-        name.now result.0 }
+    ensures copies { CopiesSome Records placing
+        record { bytes = S.remaining source; may_fail = S.may_fail } name.now result.0 }
     ensures kind { result.1.kind ≡ kind }
-    ensures captures { IfOk result.0 (λ end. (got : Option (List ℕ)) × CapturesAll T.form
+    ensures captures { IfOk result.0 (λ end. (got : Option (List ℕ)) × CapturesAll T.form placing
         record { bytes = S.remaining source; may_fail = S.may_fail } (T.handed trail)
         T.origin T.before got result.1.counts end) }
 {
@@ -94,7 +98,7 @@ pub fn copied_to_capture<'a, S: Source + Drop, W: Write + Drop, T: Followed>(
         has_reasons: true,
     };
     let mut sent = CaptureWriter::new(output, form, trail);
-    let ended = captured(source, name, &mut sent);
+    let ended = captured(placing, source, name, &mut sent);
     let loss = Loss {
         kind,
         counts: sent.lost(),

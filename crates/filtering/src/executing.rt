@@ -4,14 +4,17 @@ ghost use Rattle.std.specs.Prelude.{◌≡◌, ◌≤◌, map, MatchResult};
 ghost use Rattle.std.specs.String.{string_bytes};
 ghost use Rattle.exact_io.specs.Waiting.{held};
 ghost use Rattle.words.specs.FilterRequests.{convert_request_of, filter_request_of, operator_request_of};
-ghost use Rattle.filtering.specs.Executing.{ConvertsWhole, FiltersWords, FiltersWhole, SaysNoTask, SaysOnOutput, ServesRequest, TellsUnread};
+ghost use Rattle.commands.specs.Saying.{AppendsPart};
+ghost use Rattle.commands.specs.Statuses.{status_of};
+ghost use Rattle.filtering.specs.Executing.{ConvertsWhole, FiltersWords, FiltersWhole, SaysNoTask, SaysOnOutput, ServesRequest, TellsUnread, other_form, told_converted};
 
 use super::conversions::{Conversion, convert_files};
 use super::files::filter_files;
 use super::opening::is_dash;
 use commands::{Ending, TaskOutcome, say_line};
 use exact_io::PromptWriter;
-use messages::write_texts;
+use isa_model::Fault;
+use messages::{FileForm, write_texts};
 use std::alloc::Global;
 use std::io::Write;
 use std::rt::{Clock, Files};
@@ -26,7 +29,8 @@ const USAGE: &str =
 
 // The message for an output of frames that are written again.
 const UNNAMED: &str =
-    "error: the name of OUT does not say what it is to be: let it end in .pcap, .pcapng, .frames or .txt, or give --to KIND\n";
+    "error: the name of OUT does not say what it is to be: let it end in .pcap, .pcapng, .frames \
+     or .txt, or give --to KIND\n";
 
 // Does what the task says: a refusal and the counts are said on standard output.
 fn serve_output<R: Files + Clock, W1: Write + Drop, W2: Write>(
@@ -61,6 +65,35 @@ fn serve_filter<R: Files + Clock, W1: Write + Drop, W2: Write>(
     }
 }
 
+// What the file is, if the task ended since it is neither a frame stream nor a capture.
+fn other_form(outcome: TaskOutcome<'_>) -> Option<FileForm>
+    ensures { result ≡ other_form outcome.entry }
+{
+    match outcome {
+        TaskOutcome::Faulted(fault, form) => match fault {
+            Fault::BadMagic => Some(form),
+            _ => None,
+        },
+        _ => None,
+    }
+}
+
+// Says how the task ended for which frames were written again, and returns the status. Of a file
+// that is neither a frame stream nor a capture it is said what it is.
+fn tell_converted<W: Write>(ending: Ending<'_>, err: &mut W) -> u8
+    ensures status { result ≡ status_of ending.entry.outcome }
+    ensures said { AppendsPart (W.contents err.old) (W.contents err.new)
+        (told_converted ending.entry) }
+{
+    match other_form(ending.outcome) {
+        Some(form) => {
+            let _ = write_texts(err, Fault::BadMagic.sentence(), form.stream_line(), "");
+            3
+        }
+        None => ending.tell(err),
+    }
+}
+
 // Writes frames again. Standard error is said what went wrong, or what a capture does not say.
 fn serve_conversion<R: Files + Clock, W1: Write + Drop, W2: Write>(
     rt: &R,
@@ -73,7 +106,7 @@ fn serve_conversion<R: Files + Clock, W1: Write + Drop, W2: Write>(
         out.new (W2.contents err.old) (W2.contents err.new) result }
 {
     match convert_files(rt, alloc, task, out) {
-        Conversion::Ended(ending) => ending.tell(err),
+        Conversion::Ended(ending) => tell_converted(ending, err),
         Conversion::Unnamed => {
             let _ = write_texts(err, UNNAMED, USAGE, "");
             1

@@ -211,6 +211,7 @@ fn filter_counted<'a, S: Source + Drop, W1: Write + Drop, W2: Write>(
     };
     let outcome = filter_opened(alloc, ready, maps, lent, name, lines, &mut unsaid.lost);
     unsaid.captured = source.counts();
+    unsaid.damage = source.damage();
     outcome
 }
 

@@ -1,5 +1,5 @@
-//! What xdpvm_filter does: runs a program whose maps may be filled on a frame stream, and counts; or
-//! writes frames again in another form.
+//! What xdpvm_filter does: runs a program whose maps may be filled on a frame stream, and counts;
+//! or writes frames again in another form.
 #![tactic(auto)]
 
 mod conversions;

@@ -1,11 +1,12 @@
-//! The lines that say what is not kept of the frames that are read or written.
+//! The lines that say where a capture is damaged, and what is not kept of the frames that are read
+//! or written.
 
 ghost use Rattle.std.specs.Prelude.{◌≡◌, IfOk};
 ghost use Rattle.std.specs.String.{string_bytes};
-ghost use Rattle.filtering.specs.Losing.{TellsUnsaid, captured_text, count_line, interface_words, left_text, lost_line, lost_of, lost_text, unsaid_text};
+ghost use Rattle.filtering.specs.Losing.{TellsUnsaid, captured_text, count_line, damage_text, damage_words, interface_words, left_text, lost_line, lost_of, lost_text, unsaid_text};
 
 use capture_writer::{CaptureKind, LostCounts};
-use captures::CaptureCounts;
+use captures::{CaptureCounts, CaptureDamage, PacketFault};
 use commands::{Ending, TaskOutcome};
 use converting::CopyCounts;
 use std::alloc::{AllocError, Global};
@@ -104,9 +105,38 @@ fn lost_of(alloc: Global, lost: Lost) -> Result<String, AllocError>
     }
 }
 
-/// What is not kept of the frames.
+// What is wrong with a record of a capture.
+fn damage_words(fault: PacketFault) -> &'static str
+    ensures { result.now ≡ damage_words fault }
+{
+    match fault {
+        PacketFault::TruncatedRecord => "a record that ends within its head",
+        PacketFault::TooLong => "a packet or a block that is too long",
+        PacketFault::TruncatedPacket => "a record of which the end is missing",
+        PacketFault::BadBlock => "a block whose lengths or whose byte-order magic are wrong",
+        PacketFault::UnknownInterface => "a packet of an interface that is not described",
+        PacketFault::UnknownInterfaceLink => "a packet of an interface with another link type",
+        PacketFault::TooManyInterfaces => "a section with more than 4,096 interfaces",
+    }
+}
+
+// The line of where a capture is damaged, if it is.
+fn damage_text(alloc: Global, damage: Option<CaptureDamage>) -> Result<String, AllocError>
+    ensures { IfOk result (λ text. string_bytes text ≡ damage_text damage) }
+{
+    match damage {
+        None => Ok(String::new(alloc)),
+        Some(CaptureDamage { fault, offset }) => {
+            let words = damage_words(fault);
+            format!(in alloc; "at byte {offset}: {words}\n")
+        }
+    }
+}
+
+/// Where a capture is damaged, and what is not kept of the frames.
 #[derive(Clone, Copy)]
 pub struct Unsaid {
+    pub damage: Option<CaptureDamage>,
     pub captured: CaptureCounts,
     pub lost: Lost,
 }
@@ -115,22 +145,25 @@ impl Unsaid {
     /// All is kept, as far as is known.
     pub fn nothing() -> Unsaid {
         Unsaid {
+            damage: None,
             captured: CaptureCounts::none(),
             lost: Lost::Nothing,
         }
     }
 }
 
-// The lines of what is not kept.
+// The lines of where a capture is damaged, and of what is not kept.
 fn unsaid_text(alloc: Global, unsaid: Unsaid) -> Result<String, AllocError>
     ensures { IfOk result (λ text. string_bytes text ≡ unsaid_text unsaid) }
 {
+    let damage = damage_text(alloc, unsaid.damage)?;
     let captured = captured_text(alloc, unsaid.captured)?;
     let lost = lost_of(alloc, unsaid.lost)?;
-    format!(in alloc; "{captured}{lost}")
+    format!(in alloc; "{damage}{captured}{lost}")
 }
 
-/// How a task ended, with the lines of what is not kept of the frames, if there is memory for them.
+/// How a task ended, with the lines of where a capture is damaged and of what is not kept of the
+/// frames, if there is memory for them.
 pub fn ending_with<'a>(alloc: Global, outcome: TaskOutcome<'a>, unsaid: Unsaid) -> Ending<'a>
     ensures outcome { result.outcome ≡ outcome.entry }
     ensures why { TellsUnsaid unsaid result.why }

@@ -7,7 +7,7 @@ ghost use Rattle.words.specs.FilterRequests.{filter_request_of};
 ghost use Rattle.filtering.specs.Opening.{IsOpenFailure, IsOutputConflict, IsToldForm, told_form, has_ending, is_capture, kind_by_form, kind_by_name, kind_of_out, MakesNot, frames_path, output_name};
 
 use capture_writer::CaptureKind;
-use captures::{FramesOf, OpenFailure};
+use captures::{FramesOf, OpenFailure, Reasons};
 use commands::{
     STANDARD_OUTPUT, TaskOutcome, Watched, begin_frames, create_output, keep_apart, open_frames,
     open_standard_output,
@@ -181,20 +181,21 @@ fn kind_of_out(name: &str, form: FileForm) -> Option<CaptureKind>
     }
 }
 
-/// The frame stream of a file with this path and this form: that which a capture becomes, or the
-/// file itself.
+/// The frame stream of a file with this path and this form: that which a capture becomes, of which
+/// reasons are read or not, or the file itself.
 pub fn frames_of<'a, S: Source + Drop>(
     alloc: Global,
     source: S,
     form: FileForm,
+    reasons: Reasons,
     path: &'a str,
 ) -> Result<FramesOf<S>, TaskOutcome<'a>>
-    ensures frames { IfOk result (λ frames. IsFramesOf (S.remaining source) (is_capture form)
-        (frames_left S.remaining frames)) }
+    ensures frames { IfOk result (λ frames. IsFramesOf reasons (S.remaining source)
+        (is_capture form) (frames_left S.remaining frames)) }
     ensures failed { IfErr result (IsReadFailure path.now) }
 {
     let is_capture = matches!(form, FileForm::Pcap | FileForm::Pcapng);
-    match FramesOf::open(alloc, source, is_capture) {
+    match FramesOf::open(alloc, source, is_capture, reasons) {
         Ok(frames) => Ok(frames),
         Err(OpenFailure::NoMemory) => Err(TaskOutcome::NoMemory),
         Err(_) => Err(TaskOutcome::CannotRead(path, ErrorKind::Other)),
@@ -240,7 +241,7 @@ pub fn open_all<'a, 'b, R: Files + Clock>(
     let written = [out, task.report.unwrap_or(out)];
     let maps_out = open_wanted(rt, alloc, task.maps_out, &read, &written)?;
     let (source, form) = begin_frames(rt, frames, source);
-    let source = frames_of(alloc, source, form, frames)?;
+    let source = frames_of(alloc, source, form, Reasons::Ignored, frames)?;
     let form = told_form(&source, form);
     Ok(Opened {
         source,
