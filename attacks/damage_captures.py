@@ -6,7 +6,8 @@ usage: python3 attacks/damage_captures.py [XDPVM_FILTER] [--count N] [--seed N] 
 Each of N captures (30,000) is one of tests/captures.py with one to three of these changes: a byte, or four bytes of a length,
 have another value; bytes are left out or put in; or the file is cut. What has to come is worked out here, by the drafts of both
 formats (draft-ietf-opsawg-pcap, draft-ietf-opsawg-pcapng): the packets before the damage, with times and bytes, and then the
-end, or the fault F1 to F4 with its offset in the frame stream. A signal, a traceback of a sanitizer and a run of over ten
+end, or the fault F1 to F4 with its offset in the frame stream, and on standard error the byte at which the damaged record begins.
+A signal, a traceback of a sanitizer and a run of over ten
 seconds are wrong too. With --tshark each capture that has no fault here is also read by tshark, and the counts of packets are
 compared; tshark reads on after some faults, so these are left out.
 
@@ -44,6 +45,7 @@ class Found:
     packets: list[Packet] = field(default_factory=list)
     size: int = 4
     ending: str = ""
+    at: int = 0  # where the last record begins that was looked at
 
     def add(self, time: int, data: bytes) -> None:
         data = b"" if len(data) > MOST_FRAME else data
@@ -88,6 +90,7 @@ def pcap(data: bytes, found: Found) -> None:
     order = ">" if struct.unpack_from(">I", data)[0] in PCAPS else "<"
     unit, link, at = PCAPS[struct.unpack_from(order + "I", data)[0]], struct.unpack_from(order + "I", data, 20)[0] & 0xFFFF, 24
     while at < len(data):
+        found.at = at
         if len(data) - at < 16:
             raise Fault("F2")
         seconds, fraction, size, _ = struct.unpack_from(order + "4I", data, at)
@@ -146,6 +149,7 @@ def pcapng(data: bytes, found: Found) -> None:
     """The packets of a pcapng file, up to its end or a fault."""
     order, interfaces, at = ">", list[Interface](), 0
     while at < len(data):
+        found.at = at
         if len(data) - at < 12:
             raise Fault("F2")
         own = order
@@ -234,6 +238,10 @@ def differs(program: str, path: str, out: str, wanted: Found) -> str:
     said = ran.stdout.decode(errors="replace").splitlines()
     if ran.returncode != status or not said or said[-1] != wanted.ending:
         return f"status {ran.returncode}, {said[-1:]}, wanted {wanted.ending}"
+    places = [line for line in ran.stderr.decode(errors="replace").splitlines() if line.startswith("at byte ")]
+    there = [f"at byte {wanted.at}:"] if status and "F1" not in wanted.ending else []
+    if [line[: line.find(":") + 1] for line in places] != there:
+        return f"it says {places}, wanted {there}"
     got = packets_of_stream(bytes_of(out)) if "F1" not in wanted.ending else []
     return "" if got == wanted.packets else f"{len(got)} packets, wanted {len(wanted.packets)}, or other bytes"
 

@@ -15,7 +15,7 @@ UDP ports and payload, which are read here from the Ethernet frames.
 
 Each capture is also written, as a pcap and as a pcapng: the packets of the pcap, and those that editcap or tshark reads of the
 pcapng where it is installed, have to be the same. tools/frames.py has to make the frame stream of it that `xdpvm_filter convert`
-makes.
+makes, and each frame of that has the reason that its packet's comment says, or 0.
 
 What differs is printed; the last line counts, and the status is 1 if anything differs.
 """
@@ -23,6 +23,7 @@ import hashlib
 import ipaddress
 import os
 import random
+import re
 import shutil
 import struct
 import subprocess
@@ -38,6 +39,7 @@ SEEDS = range(64)
 LINKED = 40  # the first seed of a capture with other link types
 SCALES = (None, 0, 3, 6, 7, 9, 0x80 | 10, 0x80 | 20, 0x80 | 30)  # values of if_tsresol
 OFFSETS = (None, None, 1000, -5)  # values of if_tsoffset, in seconds
+COMMENTS = (b"hello %d", b"reason %d", b"reason %07d", b"reason %d ")  # of a number
 LENGTHS = (14, 15, 60, 61, 62, 63, 90, 1514)
 PCAPS = ((">", 0xA1B2C3D4), ("<", 0xA1B2C3D4), (">", 0xA1B23C4D), ("<", 0xA1B23C4D))
 LINKS = (1, 113, 276, 101, 12, 228, 229, 0, 108)
@@ -124,8 +126,14 @@ def linked_capture(seed: int) -> bytes:
     return made
 
 
-def section(chance: random.Random, order: str) -> bytes:
-    """A section with its interfaces and packets."""
+def reason_of(comment: bytes) -> int:
+    """The reason that a comment says, or 0."""
+    said = re.fullmatch(rb"reason ([0-9]{1,10})", comment)
+    return int(said[1]) if said and int(said[1]) < 2**32 else 0
+
+
+def section(chance: random.Random, order: str, reasons: list[int]) -> bytes:
+    """A section with its interfaces and packets, whose reasons are added to those of the packets before."""
     end = option(order, 0, b"")
     made = block(order, 0x0A0D0D0A, struct.pack(order + "IHHq", 0x1A2B3C4D, 1, 0, -1) + option(order, 1, b"a comment") + end)
     interfaces = []
@@ -142,19 +150,23 @@ def section(chance: random.Random, order: str) -> bytes:
         head = (units >> 32, units % 2**32, len(data), len(data))
         kind = chance.choice((6, 6, 6, 2, 3, 0x80000BAD))
         if kind == 6:
-            padding = bytes(-len(data) % 4)
-            made += block(order, 6, struct.pack(order + "5I", number, *head) + data + padding + option(order, 1, b"hello") + end)
+            padding, said = bytes(-len(data) % 4), COMMENTS[units % len(COMMENTS)] % (units % 10 ** (units % 13))
+            made += block(order, 6, struct.pack(order + "5I", number, *head) + data + padding + option(order, 1, said) + end)
+            reasons.append(reason_of(said))
         elif kind == 2:
             made += block(order, 2, struct.pack(order + "HH4I", number, 7, *head) + data)
+            reasons.append(0)
         elif kind == 3:
             data = data[: interfaces[0][1] or len(data)]
             made += block(order, 3, struct.pack(order + "I", len(data)) + data)
+            reasons.append(0)
         else:
             made += block(order, kind, chance.randbytes(chance.choice((0, 4, 8, 100))))
     return made
 
 
-def capture(seed: int) -> bytes:
+def capture(seed: int, reasons: list[int] | None = None) -> bytes:
+    """The capture of a seed; the list gets the reasons that the comments of its packets say, if it has comments."""
     if seed >= LINKED:
         return linked_capture(seed)
     chance = random.Random(seed)
@@ -165,7 +177,8 @@ def capture(seed: int) -> bytes:
             data = chance.randbytes(chance.choice(LENGTHS))
             made += struct.pack(order + "4I", 1_700_000_000 + at, chance.randrange(10**6), len(data), len(data) + 3) + data
         return made
-    return b"".join(section(chance, order) for order in chance.sample("<><>", chance.randint(1, 4)))
+    said: list[int] = [] if reasons is None else reasons
+    return b"".join(section(chance, order, said) for order in chance.sample("<><>", chance.randint(1, 4)))
 
 
 def packets_of_pcap(data: bytes) -> list[Packet]:
@@ -184,6 +197,16 @@ def packets_of_stream(data: bytes) -> list[Packet]:
     while at < len(data):
         time, _, _, size, _ = struct.unpack_from("<Q4I", data, at)
         found.append((time, data[at + 24 : at + 24 + size]))
+        at += 24 + size
+    return found
+
+
+def reasons_of_stream(data: bytes) -> list[int]:
+    """The reasons of a frame stream of the second version."""
+    found, at = [], 4
+    while at < len(data):
+        size, reason = struct.unpack_from("<2I", data, at + 16)
+        found.append(reason)
         at += 24 + size
     return found
 
@@ -252,14 +275,16 @@ def wrote(program: str, folder: str, path: str, seed: int, kept: str) -> list[st
     return wrong
 
 
-def converted(program: str, folder: str, path: str) -> list[str]:
-    """What differs between the streams that xdpvm_filter and tools/frames.py make of a capture."""
+def converted(program: str, folder: str, path: str, reasons: list[int]) -> list[str]:
+    """What differs between the streams that xdpvm_filter and tools/frames.py make of a capture, and in its reasons."""
     made: list[bytes] = []
     for command in ([program, "convert"], [sys.executable, os.path.join(TOP, "tools/frames.py")]):
         out = os.path.join(folder, f"converted{len(made)}.frames")
         subprocess.run([*command, "--to", "frames", "--reasons", path, out], capture_output=True, check=False)
         made.append(bytes_of(out) if os.path.exists(out) else b"")
-    return [] if made[0] == made[1] and made[0] else ["tools/frames.py makes another stream than xdpvm_filter convert"]
+    wrong = [] if made[0] == made[1] and made[0] else ["tools/frames.py makes another stream than xdpvm_filter convert"]
+    found = reasons_of_stream(made[0])
+    return wrong + ([] if found == (reasons or [0] * len(found)) else ["xdpvm_filter convert reads other reasons"])
 
 
 def main(words: list[str]) -> int:
@@ -274,13 +299,14 @@ def main(words: list[str]) -> int:
             return 0
         stored, wrong, packets = text_of(STORED).splitlines(), 0, 0
         for seed, kept in zip(SEEDS, stored, strict=True):
-            write(path, capture(seed))
+            reasons: list[int] = []
+            write(path, capture(seed, reasons))
             ours, now = read(program, folder, path, seed), from_outside(seed, folder, path)
             packets += int(kept.split()[0])
             if ours != kept or now not in (None, kept):
                 print(f"seed {seed}: {ours}, stored {kept}, Wireshark {now}")
                 wrong += 1
-            for it in wrote(program, folder, path, seed, kept) + converted(program, folder, path):
+            for it in wrote(program, folder, path, seed, kept) + converted(program, folder, path, reasons):
                 print(f"seed {seed}: stored {kept}, {it}")
                 wrong += 1
     print(f"{len(stored)} captures of {packets} packets, {wrong} differ")
