@@ -8,7 +8,7 @@ _xdpvm_filter() {
     fi
     if [[ $word == -* ]]; then
         case $command in
-        convert) mapfile -t COMPREPLY < <(compgen -W "--to --reasons --help" -- "$word") ;;
+        convert) mapfile -t COMPREPLY < <(compgen -W "--to --interface --queue --reasons --help" -- "$word") ;;
         show) mapfile -t COMPREPLY < <(compgen -W "--help" -- "$word") ;;
         *) mapfile -t COMPREPLY < <(compgen -W "--maps --maps-out --table --checked --limit --report --help" -- "$word") ;;
         esac

@@ -7,5 +7,7 @@ complete -c xdpvm_filter -n __fish_use_subcommand -l limit -r -d 'The most steps
 complete -c xdpvm_filter -n __fish_use_subcommand -l report -r -d 'Gets the report, with a line for each frame, as `xdpvm run` writes it'
 complete -c xdpvm_filter -n __fish_use_subcommand -f -a convert -d 'Writes frames again: as a capture, a frame stream or a text'
 complete -c xdpvm_filter -n '__fish_seen_subcommand_from convert' -l to -r -d 'What OUT becomes, whatever its name is: pcap, pcapng, frames or text'
+complete -c xdpvm_filter -n '__fish_seen_subcommand_from convert' -l interface -r -d 'The interface of all frames, from 0 to 4294967295, whatever IN says'
+complete -c xdpvm_filter -n '__fish_seen_subcommand_from convert' -l queue -r -d 'The queue of all frames, from 0 to 4294967295, whatever IN says'
 complete -c xdpvm_filter -n '__fish_seen_subcommand_from convert' -l reasons -d 'A frame stream has reasons (XPF2), and frames of up to 9216 bytes'
 complete -c xdpvm_filter -n __fish_use_subcommand -f -a show -d 'Prints frames as a text, with their bytes in hexadecimal and as characters'
