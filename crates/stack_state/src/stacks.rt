@@ -73,11 +73,10 @@ impl StackState {
     pub fn copy_from(&mut self, other: &StackState)
         ensures { self.new ≡ other.now }
     {
-        self.forget_before(other.known_from);
-        for index in other.known_from..FRAME_SLOTS {
-            self.slots[index] = other.slots[index];
-        }
-        self.known_from = other.known_from;
+        let from = other.known_from;
+        self.forget_before(from);
+        self.slots[from..].copy_from_slice(&other.slots[from..]);
+        self.known_from = from;
     }
 
     /// The slots.

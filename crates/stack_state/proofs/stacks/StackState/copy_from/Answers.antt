@@ -1,39 +1,42 @@
-use Rattle.std.proofs.Common.{◌≡◌, ◌≤◌, List, length, take, drop, replicate, ap, sym, arith, ◌∙◌}
-use Rattle.std.proofs.lemmas.List.{take_all, take-append-le, length-replicate}
+use Rattle.std.proofs.Common.{◌≡◌, ◌≤◌, ◌-◌, ◌++◌, List, length, take, drop, replicate, ap, sym, arith, ◌∙◌}
+use Rattle.std.proofs.lemmas.List.{take_all, take-append-drop, take-append-le, length-replicate, length-drop}
+use Rattle.std.proofs.lemmas.Slice.{take-put_mid}
+use borrow.Rule.Slice.PartMut.{put_mid, same_len_mid}
 use Rattle.stack_state.specs.declared.slots.StackSlot.{StackSlot}
 use Rattle.stack_state.specs.declared.slots.StackSlot.TheVariants.{Written}
 use Rattle.stack_state.specs.Slots.{StackSlots, frame_slots}
 use Rattle.stack_state.proofs.BlankLaws.{blank_taken}
 use Rattle.stack_state.proofs.stacks.StackState.copy_from.Goals as goal
 
-pub loop-index-init : goal.loop-index-init
-loop-index-init c =
-    let n = c.other.inside.known_from in
-    let viewed = ap (λ (s : StackSlots). s.slots) c.self.view_is in
-    let others = ap (λ (s : StackSlots). s.slots) c.other.view_is in
-    let wide : length c.other.inside.slots ≡ frame_slots = c.other.invariant.wide in
-    let rest = drop n c.args.self.now.slots in
-    let count = length-replicate n (Written 0) in
-    record {
-      length = c.self.invariant.wide;
-      done =
-          ap (take n) (viewed ∙ c.forget_before.ensures.before)
-          ∙ take-append-le n (replicate n (Written 0)) rest (omega (arith, count))
-          ∙ take_all n (replicate n (Written 0)) (omega (arith, count))
-          ∙ sym (blank_taken n c.other.inside.slots (omega (arith, wide, c.other.invariant.inside))
-          c.other.invariant.blank)
-          ∙ ap (take n) others;
-    }
-
 pub returns : goal.returns
 returns c =
-    let xs = c.loop-index.self-inside.slots in
-    let ys = c.args.other.now.slots in
-    let others = ap (λ (s : StackSlots). s.slots) c.other.view_is in
-    let wide : length xs ≡ frame_slots = c.loop-index.invariant.length in
-    let other_wide : length ys ≡ frame_slots = ap length (sym others) ∙ c.other.invariant.wide in
-    let over : frame_slots ≤ c.loop-index.index = omega arith in
-    ap (λ (s : List StackSlot). record { slots = s })
-    (sym (take_all c.loop-index.index xs (omega (arith, wide, over)))
-    ∙ c.loop-index.invariant.done
-    ∙ take_all c.loop-index.index ys (omega (arith, other_wide, over)))
+    let n = c.other.inside.known_from in
+    let xs = c.self.inside.slots in
+    let ys = c.other.inside.slots in
+    let zs = c.copy_from_slice.new.self in
+    let wide : length xs ≡ frame_slots = c.self.invariant.wide in
+    let other_wide : length ys ≡ frame_slots = c.other.invariant.wide in
+    let inside : n ≤ frame_slots = c.other.invariant.inside in
+    let count = length-replicate n (Written 0) in
+    let head : take n xs ≡ take n ys =
+    ap (λ (s : StackSlots). take n s.slots) c.self.view_is
+    ∙ ap (take n) c.forget_before.ensures.before
+    ∙ take-append-le n (replicate n (Written 0)) (drop n c.args.self.now.slots)
+    (omega (arith, count))
+    ∙ take_all n (replicate n (Written 0)) (omega (arith, count))
+    ∙ sym (blank_taken n ys (omega (arith, other_wide, inside)) c.other.invariant.blank) in
+    let rest : length (drop n ys) ≡ length ys - n = length-drop n ys in
+    let tail : zs ≡ drop n ys =
+    c.copy_from_slice.ensures.after
+    ∙ take_all (frame_slots - n) (drop n ys) (omega (arith, rest, other_wide)) in
+    let long : length zs ≡ frame_slots - n =
+    ap (λ (s : List StackSlot). length s) tail ∙ omega (arith, rest, other_wide) in
+    let same = same_len_mid n (frame_slots - n) xs zs c.copy_from_slice.ensures.len in
+    let whole : put_mid n (frame_slots - n) xs zs ≡ ys =
+    sym (take_all frame_slots (put_mid n (frame_slots - n) xs zs) (omega (arith, same, wide)))
+    ∙ take-put_mid n (frame_slots - n) xs zs frame_slots (omega (arith, long, inside))
+    (omega (arith, wide, inside))
+    ∙ ap (λ (s : List StackSlot). s ++ zs) head
+    ∙ ap (λ (s : List StackSlot). take n ys ++ s) tail
+    ∙ take-append-drop n ys in
+    ap (λ (s : List StackSlot). record { slots = s }) whole ∙ c.other.view_is
