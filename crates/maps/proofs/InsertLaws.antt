@@ -90,7 +90,7 @@ second_of true b t = t
 second_of false b t = absurd t
 
 -- the keys of a sorted list rise
-rising : (es : Keyed) → T (is_sorted key_order es) → (i j : ℕ) → i < j → j < length es
+pub rising : (es : Keyed) → T (is_sorted key_order es) → (i j : ℕ) → i < j → j < length es
     → IsBelow (pair_in es i).0 (pair_in es j).0
 rising [] s i j l m = absurd (omega arith)
 rising (e ∷ es) s i zero l m = absurd (omega arith)

@@ -1,10 +1,11 @@
 //! All maps of an image.
 
-ghost use Rattle.std.specs.Prelude.{◌≡◌, ◌<◌, ◌≤◌, length, map, All, IfOk, IfSome, Some, slice_get, slice_set, option_copied, ◌+◌, ℕ, vec_capacity};
+ghost use Rattle.std.specs.Prelude.{◌≡◌, ◌<◌, ◌≤◌, List, length, map, All, IfOk, IfSome, Some, slice_get, slice_set, option_copied, ◌+◌, ℕ, vec_capacity};
 ghost use Rattle.std.specs.Borrow.{sem};
 ghost use Rattle.std.specs.FinMap as finmap;
 ghost use Rattle.std.specs.FinMap.{values};
-ghost use Rattle.isa_model.specs.Machine.MapContents.{at_key};
+ghost use Rattle.std.specs.Ordering.{is_lt};
+ghost use Rattle.isa_model.specs.Machine.MapContents.{at_key, key_order};
 ghost use Rattle.map_indexes.specs.BlockRows.{block_row};
 ghost use Rattle.isa_model.specs.declared.map_defs.MapType.TheVariants.{Hash};
 ghost use Rattle.isa_model.specs.Code.MapRows.{IsRow};
@@ -203,6 +204,18 @@ impl Maps {
         ensures { IfSome result (λ i. slice_get list.now i ≡ Some place) }
     {
         self.stores.all[map].index().index_in(list, key, place)
+    }
+
+    /// Whether the key of one place of a map is below that of another, by their bytes.
+    pub fn is_before(&self, map: usize, place: usize, other: usize) -> bool
+        requires map { map < length self.now }
+        requires place { (k : List ℕ) × (finmap.get (map_at self.now map).places k ≡ Some place) }
+        requires other { (k : List ℕ) × (finmap.get (map_at self.now map).places k ≡ Some other) }
+        ensures { (j k : List ℕ) → finmap.get (map_at self.now map).places j ≡ Some place
+            → finmap.get (map_at self.now map).places k ≡ Some other
+            → result ≡ is_lt (key_order j k) }
+    {
+        self.stores.all[map].index().is_before(place, other)
     }
 
     /// Writes bytes into the value at a place, from its `at`th byte on.

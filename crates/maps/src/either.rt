@@ -1,16 +1,35 @@
 //! The index that a map's row asks for.
 
-ghost use Rattle.std.specs.Prelude.{◌≡◌, ◌≤◌, IfOk, IfSome, Some, length, vec_capacity};
+ghost use Rattle.std.specs.Prelude.{◌≡◌, ◌<◌, ◌≤◌, ◌^◌, ℕ, List, IfOk, IfSome, Some, length, vec_capacity};
 ghost use Rattle.std.specs.FinMap.{get, remove, values};
 ghost use Rattle.std.specs.List.{slice_get};
 ghost use Rattle.std.specs.Option.{option_map};
+ghost use Rattle.std.specs.Ordering.{is_lt};
+ghost use Rattle.byteorder.specs.Endian.{little_bytes};
 ghost use Rattle.isa_model.specs.declared.map_defs.MapType.TheVariants.{Hash, Array};
+ghost use Rattle.isa_model.specs.Machine.MapContents.{key_order};
 
 use crate::inserting::insert_place;
 use byteorder::{ByteOrder, LittleEndian};
 use isa_model::{MapDef, MapType};
 use map_indexes::{ArrayIndex, ChainIndex, Index, put_bytes};
 use std::alloc::{AllocError, Global};
+
+// The key of an array's index.
+fn index_key(index: u32) -> [u8; 4]
+    ensures { result ≡ little_bytes 4 index }
+{
+    let mut key = [0; 4];
+    LittleEndian::write_u32(&mut key, index);
+    key
+}
+
+// Whether the key of one index of an array is below that of another.
+fn is_index_before(index: u32, other: u32) -> bool
+    ensures { result ≡ is_lt (key_order (little_bytes 4 index) (little_bytes 4 other)) }
+{
+    index_key(index).cmp(&index_key(other)).is_lt()
+}
 
 /// Says which place each key has: the keys of an array, or those of a hash map by chains.
 #[derive(Drop)]
@@ -88,6 +107,22 @@ impl EitherIndex {
         match self {
             EitherIndex::Array(_) => None,
             EitherIndex::Chain(index) => index.index_in(list, key, place),
+        }
+    }
+
+    /// Whether the key of one place is below that of another, by their bytes.
+    pub fn is_before(&self, place: usize, other: usize) -> bool
+        requires place { (k : List ℕ) × (get (places_of self.now) k ≡ Some place) }
+        requires other { (k : List ℕ) × (get (places_of self.now) k ≡ Some other) }
+        ensures { (j k : List ℕ) → get (places_of self.now) j ≡ Some place
+            → get (places_of self.now) k ≡ Some other → result ≡ is_lt (key_order j k) }
+    {
+        match self {
+            EitherIndex::Array(index) => {
+                let _entries = index.entries();
+                is_index_before(place as u32, other as u32)
+            }
+            EitherIndex::Chain(index) => index.key(place).cmp(index.key(other)).is_lt(),
         }
     }
 
