@@ -1,5 +1,5 @@
--- Laws of two parts that are written one after the other, where one of the writes failed.
-use Rattle.std.proofs.Common.{◌≡◌, ℕ, ◌+◌, List, ◌++◌, length, take, drop, Option, refl, sym, ap, ◌∙◌, subst, length-append, arith}
+-- Laws of two parts that are written one after the other, also where one of the writes failed.
+use Rattle.std.proofs.Common.{◌≡◌, ℕ, ◌+◌, List, ◌++◌, length, take, drop, Option, Result, Ok, Err, OnOk, OnErr, refl, sym, ap, ◌∙◌, subst, length-append, arith}
 use Rattle.std.proofs.lemmas.List.{take_at, drop_at, take-append-le}
 use Rattle.std.specs.Io.KnownBytes.{Appends}
 use Rattle.std.proofs.KnownBytes.{Appends-trans}
@@ -32,3 +32,17 @@ AppendsBeginning-second old mid new front rest p q =
       subst (Appends old new) (sym same)
           (Appends-trans old mid new front (take n rest) p appended),
     )
+
+-- where both parts are written, they are written as one
+pub both_written : {X E : Type 0} (r : Result X E) (old mid new : Option (List ℕ))
+    (front rest : List ℕ) → Appends old mid front → OnOk r (Appends mid new rest)
+    → OnOk r (Appends old new (front ++ rest))
+both_written (Ok x) old mid new front rest p q = Appends-trans old mid new front rest p q
+both_written (Err e) old mid new front rest p q = tt
+
+-- where the second part fails, a beginning of both was written
+pub second_fails : {X E : Type 0} (r : Result X E) (old mid new : Option (List ℕ))
+    (front rest : List ℕ) → Appends old mid front → OnErr r (AppendsBeginning mid new rest)
+    → OnErr r (AppendsBeginning old new (front ++ rest))
+second_fails (Ok x) old mid new front rest p q = tt
+second_fails (Err e) old mid new front rest p q = AppendsBeginning-second old mid new front rest p q

@@ -17,6 +17,7 @@ use Rattle.isa_model.specs.declared.map_defs.MapDef.{MapDef}
 use Rattle.isa_model.specs.Machine.States.{Stored, Content, KeyValues, key_values_of}
 use Rattle.isa_model.specs.Machine.MapContents.{key_order, is_key, at_key, has_key, with_key, without_key, enoent, e2big, eexist, einval, noexist, exist, hash_update, array_update, update_answer_by, delete_answer_by, update_answer, delete_answer}
 use Rattle.isa_model.specs.Machine.MachineStates.{IsKeyValue, keys_of, KeysFit, FitsRow, value_serials}
+use Rattle.isa_model.proofs.TestLaws.{both, less_is}
 use Rattle.isa_model.proofs.PutKeys.{All-with_key, IsStrictlySortedBy-is_sorted}
 use Rattle.isa_model.proofs.SerialLaws.{HasOneMore, HasOneMore-before}
 
@@ -25,18 +26,13 @@ use Rattle.isa_model.proofs.SerialLaws.{HasOneMore, HasOneMore-before}
 abbrev keys_in : {X : Type 0} → List (List ℕ × X) → List (List ℕ)
 keys_in es = map (λ e. e.0) es
 
-both : (a b : Bool) → T a → T b → T (a && b)
-both true b p q = q
-both false b p q = p
-
 below_all-keys : {X : Type 0} (k : List ℕ) (es : List (List ℕ × X))
     → AllByRecursion (λ y. key_order k y ≡ Less) (keys_in es)
     → T (below_all key_order k es)
 below_all-keys k [] h = tt
 below_all-keys k (e ∷ es) h =
     both (is_lt (key_order k e.0)) (below_all key_order k es)
-    (subst (λ o. T (is_lt o)) (sym h.0) tt)
-    (below_all-keys k es h.1)
+    (less_is (key_order k e.0) h.0) (below_all-keys k es h.1)
 
 -- keys in order rise
 pub is_sorted-IsStrictlySortedBy : {X : Type 0} (es : List (List ℕ × X))

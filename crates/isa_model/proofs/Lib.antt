@@ -22,3 +22,6 @@ pub mod ClockLaws
 pub mod EndsLaws
 pub mod OutcomesLaws
 pub mod RunLaws
+pub mod TestLaws
+pub mod MapRowsLaws
+pub mod InstructionLaws

@@ -24,7 +24,7 @@ byte_at-suc (suc i) n = ap (λ x. x % 256)
     (ap (λ x. n / x) (pow-succ' 256 (suc i)) ∙ sym (div-div-eq-div-mul n 256 (256 ^ suc i)))
 
 -- the bytes of a number from the next one on are those of the rest
-bytes_low_first-suc : (i k n : ℕ) → bytes_low_first (suc i) k n ≡ bytes_low_first i k (n / 256)
+pub bytes_low_first-suc : (i k n : ℕ) → bytes_low_first (suc i) k n ≡ bytes_low_first i k (n / 256)
 bytes_low_first-suc i zero n = refl
 bytes_low_first-suc i (suc k) n = rw (byte_at-suc i n, bytes_low_first-suc (suc i) k n) refl
 

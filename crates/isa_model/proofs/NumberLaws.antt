@@ -4,8 +4,8 @@ use Rattle.std.specs.Prelude.{int_div, int_rem, nat_eq, unsigned_abs}
 use Rattle.std.specs.Int.{Width as IntWidth, cast_signed, cast_unsigned}
 use mir.Val.{bits, hbits}
 use lib.Signed.{mag, shr_z}
-use Rattle.std.proofs.Math.Nat.{mod-le, mod-mod, div-le_self}
-use Rattle.std.proofs.lemmas.Nat.{mod_below, pow_pos, or_lt, xor_lt, and_le_l}
+use Rattle.std.proofs.Math.Nat.{mod-le, mod-mod, div-le_self, div-mul-le_self}
+use Rattle.std.proofs.lemmas.Nat.{mod_below, le-div, pow_pos, or_lt, xor_lt, and_le_l}
 use Rattle.std.proofs.lemmas.Bool.{cases_lt, lt-ltb, le-ltb}
 use Rattle.isa_model.specs.declared.sizes.Width.{Width}
 use Rattle.isa_model.specs.declared.sizes.Width.TheVariants.{Low32, Full64}
@@ -37,6 +37,11 @@ width_most Full64 = omega arith
 pub width_positive : (w : Width) → 0 < width_bits w
 width_positive Low32 = omega arith
 width_positive Full64 = omega arith
+
+-- without their low bits, numbers keep their order
+pub div_mono : (a b k : ℕ) → a ≤ b → a / 2 ^ k ≤ b / 2 ^ k
+div_mono a b k h =
+    le-div (a / 2 ^ k) b (2 ^ k) (pow_pos k) (let l = div-mul-le_self a (2 ^ k) in omega arith)
 
 -- the low bits make a number of the width
 pub low_below : (w : Width) (n : ℕ) → low w n < 2 ^ width_bits w

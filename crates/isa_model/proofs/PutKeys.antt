@@ -1,12 +1,11 @@
 -- Laws of a content after a value is put: what holds of its keys and values, their order, and which
 -- keys it has.
-use Rattle.std.specs.Prelude.{◌≡◌, ℕ, ◌+◌, ◌≤◌, ◌&&◌, Bool, true, false, cond, T, List, [], ◌∷◌, map, length, is_some, All, Contains, Some, refl}
+use Rattle.std.specs.Prelude.{◌≡◌, ℕ, ◌+◌, ◌≤◌, Bool, true, false, cond, T, List, [], ◌∷◌, map, length, is_some, All, Contains, Some, refl}
 use Rattle.std.specs.List.{AllByRecursion}
 use Rattle.std.specs.List.Sorted.{IsStrictlySortedBy}
-use Rattle.std.specs.Ordering.{is_lt, is_eq}
+use Rattle.std.specs.Ordering.{is_lt}
 use Rattle.std.specs.Cmp.{eq_by_cmp_equiv}
 use Rattle.std.specs.Cmp.Lexicographic.{nat_list_cmp_total}
-use Rattle.std.specs.declared.cmp.Ordering.{Ordering}
 use Rattle.std.specs.declared.cmp.Ordering.TheVariants.{Less, Equal, Greater}
 use Rattle.std.specs.FinMap.{slice_cmp-IsAntisymmetric, nat_cmp-IsAntisymmetric}
 use Rattle.std.specs.FinMap.Entries.{by_order, below_all, is_sorted, find-put, is_some-find, length-put}
@@ -14,6 +13,7 @@ use Rattle.std.proofs.Common.{ap, sym, subst, ◌∙◌, arith}
 use Rattle.std.proofs.lemmas.List.Elements.{All-nil, All-cons, All-head, All-tail}
 use Rattle.std.proofs.lemmas.Map.Views.{Contains-from_any}
 use Rattle.isa_model.specs.Machine.MapContents.{key_order, is_key, at_key, has_key, with_key}
+use Rattle.isa_model.proofs.TestLaws.{both_parts, is_less, is_equal}
 
 -- what holds of each key with its value holds of each after a value is put, if it holds of the new
 -- pair and does not depend on the value
@@ -31,14 +31,9 @@ All-with_key P k v (e ∷ es) new changed h =
       | Greater ↦ All-cons P e (with_key k v es) first (All-with_key P k v es new changed rest)
     ]
 
-both_parts : (a b : Bool) → T (a && b) → T a × T b
-both_parts true b h = (tt, h)
-both_parts false b h = absurd h
-
-is_less : (o : Ordering) → T (is_lt o) → o ≡ Less
-is_less Less h = refl
-is_less Equal h = absurd h
-is_less Greater h = absurd h
+-- a key is itself
+pub is_key-itself : (k : List ℕ) → is_key k k ≡ true
+is_key-itself k = (eq_by_cmp_equiv nat_list_cmp_total).refl k
 
 -- keys that rise are in order
 pub IsStrictlySortedBy-is_sorted : {X : Type 0} (es : List (List ℕ × X))
@@ -57,11 +52,6 @@ IsStrictlySortedBy-is_sorted {X} (e ∷ es) h =
         let parts = both_parts (is_lt (key_order e.0 f.0)) (below_all key_order e.0 fs) g in
         (is_less (key_order e.0 f.0) parts.0, above fs parts.1)
 
-is_equal : (o : Ordering) → is_eq o ≡ true → o ≡ Equal
-is_equal Less h = absurd (cc)
-is_equal Equal h = refl
-is_equal Greater h = absurd (cc)
-
 -- a key that is found is one of the keys
 pub Contains-has_key : {X : Type 0} (k : List ℕ) (es : List (List ℕ × X)) → has_key k es ≡ true
     → Contains (map (λ e. e.0) es) k
@@ -78,7 +68,7 @@ pub has_key-with_key : {X : Type 0} (k : List ℕ) (v : X) (es : List (List ℕ 
 has_key-with_key k v es =
     ap is_some (find-put key_order nat_list_cmp_total k k v es)
     ∙ ap (λ (b : Bool). is_some (cond b (Some v) (at_key k es)))
-    ((eq_by_cmp_equiv nat_list_cmp_total).refl k)
+    (is_key-itself k)
 
 -- and each key that was
 pub has_key-after_with_key : {X : Type 0} (q k : List ℕ) (v : X) (es : List (List ℕ × X))

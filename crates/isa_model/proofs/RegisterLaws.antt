@@ -1,9 +1,13 @@
 -- Laws of registers and their numbers.
-use Rattle.std.proofs.Common.{◌≡◌, Some, refl, sym, ap, ◌∙◌}
+use Rattle.std.proofs.Common.{◌≡◌, ◌<◌, Some, refl, sym, ap, ◌∙◌, arith}
 use Rattle.std.proofs.lemmas.Option.{same_Some}
 use Rattle.isa_model.specs.declared.registers.Reg.{Reg}
-use Rattle.isa_model.specs.declared.registers.Reg.TheVariants.{R0}
+use Rattle.isa_model.specs.declared.registers.Reg.TheVariants.{R0, R10}
 use Rattle.isa_model.specs.Code.Registers.{reg_number, reg_numbered}
+
+pub reg_number-below : (r : Reg) → reg_number r < 11
+reg_number-below R10 = omega arith
+reg_number-below r = omega arith
 
 -- the number of a register leads back to the register
 pub reg_numbered-reg_number : (r : Reg) → reg_numbered (reg_number r) ≡ Some r

@@ -24,7 +24,7 @@ use Rattle.isa_model.specs.Code.Limits.{max_map_entries}
 
 -- ---- bytes
 
-AreBytes-bytes_low_first : (i k n : ℕ) → AreBytes (bytes_low_first i k n)
+pub AreBytes-bytes_low_first : (i k n : ℕ) → AreBytes (bytes_low_first i k n)
 AreBytes-bytes_low_first i zero n = All-nil (λ b. b < 256)
 AreBytes-bytes_low_first i (suc k) n =
     All-cons (λ b. b < 256) (byte_at i n) (bytes_low_first (suc i) k n) (small i)
