@@ -63,22 +63,23 @@ low_most {v} {m} {x} k h i =
 same_carry : (n p q : ℕ) → p < 2 → q < 2 → ((n + q) % 2 + (n + p) % 2) % 2 ≡ 0 → p ≡ q
 same_carry n p q p_in q_in h = omega arith
 
+-- what the mask of the sum has at a bit, where the least and the greatest carry into it are p and q
+abbrev mask_at : ℕ → ℕ → ℕ → ℕ → ℕ → ℕ → ℕ
+mask_at a am b bm p q =
+    max (max (((max a am + max b bm + q) % 2 + (a + b + p) % 2) % 2) am) bm
+
 sum_at_bit : {a am b bm x y : ℕ} (p c q : ℕ) → Between a am x → Between b bm y → p ≤ c → c ≤ q
     → q < 2
-    → (s ga gb g t m3 m2 mu v : ℕ) → s ≡ (a + b + p) % 2
-    → ga ≡ max a am → gb ≡ max b bm → g ≡ (ga + gb + q) % 2 → t ≡ (x + y + c) % 2
-    → m3 ≡ (g + s) % 2 → m2 ≡ max m3 am → mu ≡ max m2 bm → v ≡ min s (1 - mu) → Between v mu t
-sum_at_bit {a} {am} {b} {bm} {x} {y} p c q ha hb pc cq q_in s ga gb g t m3 m2 mu v es ea eb eg et e3
-    e2 em ev =
-    let two : mu < 2 = omega arith in
-    elim (cases_lt 0 mu) [
+    → Between (min ((a + b + p) % 2) (1 - mask_at a am b bm p q)) (mask_at a am b bm p q)
+    ((x + y + c) % 2)
+sum_at_bit {a} {am} {b} {bm} {x} {y} p c q ha hb pc cq q_in =
+    elim (cases_lt 0 (mask_at a am b bm p q)) [
       | inl h ↦ record { apart = omega arith; least = omega arith; most = omega arith }
       | inr h ↦
           let zero_a : am ≡ 0 = omega arith in
           let zero_b : bm ≡ 0 = omega arith in
-          let zero_m : m3 ≡ 0 = omega arith in
           let eq : p ≡ q = same_carry (a + b) p q (omega arith) q_in (omega arith) in
-          let same : t ≡ s = omega arith in
+          let same : (x + y + c) % 2 ≡ (a + b + p) % 2 = omega arith in
           record { apart = omega arith; least = omega arith; most = omega arith }
     ]
 
@@ -108,22 +109,18 @@ module _ {av am bv bm : ℕ} (ka : Apart av am) (kb : Apart bv bm) where
       member_from_bits k.value_in k.mask_in (omega arith)
       (λ i i_in.
       let top = bit_or av am + bit_or bv bm in
-      let e = without_bit (sum_least av bv) (sum_mask av am bv bm) k.mask_in i i_in in
-      let m1 = bit_at_or (bit_or (bit_xor (top % 2 ^ 64) (sum_least av bv)) am) bm i in
-      let m2 = bit_at_or (bit_xor (top % 2 ^ 64) (sum_least av bv)) am i in
-      let m3 = bit_at_xor (top % 2 ^ 64) (sum_least av bv) i in
-      let l1 = low_bit top 64 i i_in in
-      let l2 = low_bit (av + bv) 64 i i_in in
-      let l3 = low_bit (x + y) 64 i i_in in
-      let s1 = sum_bit (bit_or av am) (bit_or bv bm) i in
-      let s2 = sum_bit av bv i in
-      let s3 = sum_bit x y i in
-      let oa = bit_at_or av am i in
-      let ob = bit_at_or bv bm i in
-      let c1 = carry_mono av bv x y i (low_least hx i) (low_least hy i) in
-      let c2 = carry_mono x y (bit_or av am) (bit_or bv bm) i (low_most ka hx i)
-      (low_most kb hy i) in
-      let c3 = carry_small (bit_or av am) (bit_or bv bm) i in
-      sum_at_bit _ _ _ (bits_between ka hx i i_in)
-      (bits_between kb hy i i_in) c1 c2 c3 _ _ _ _ _ _ _ _ _ (l2 ∙ s2) oa ob (l1 ∙ s1)
-      (l3 ∙ s3) m3 m2 m1 e)
+      rw (
+        without_bit (sum_least av bv) (sum_mask av am bv bm) k.mask_in i i_in,
+        bit_at_or (bit_or (bit_xor (top % 2 ^ 64) (sum_least av bv)) am) bm i,
+        bit_at_or (bit_xor (top % 2 ^ 64) (sum_least av bv)) am i,
+        bit_at_xor (top % 2 ^ 64) (sum_least av bv) i,
+        low_bit top 64 i i_in ∙ sum_bit (bit_or av am) (bit_or bv bm) i,
+        low_bit (av + bv) 64 i i_in ∙ sum_bit av bv i,
+        low_bit (x + y) 64 i i_in ∙ sum_bit x y i,
+        bit_at_or av am i,
+        bit_at_or bv bm i,
+      )
+      (sum_at_bit _ _ _ (bits_between ka hx i i_in) (bits_between kb hy i i_in)
+      (carry_mono av bv x y i (low_least hx i) (low_least hy i))
+      (carry_mono x y (bit_or av am) (bit_or bv bm) i (low_most ka hx i) (low_most kb hy i))
+      (carry_small (bit_or av am) (bit_or bv bm) i)))

@@ -8,6 +8,7 @@ pub mod Sharp
 pub mod Precise
 pub mod Product
 pub mod Order
+pub mod LowParts
 pub mod Prefix
 pub mod Constants
 pub mod Signs

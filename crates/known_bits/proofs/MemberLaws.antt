@@ -2,11 +2,12 @@
 use Rattle.std.specs.Prelude.{ℕ, ◌≡◌, ◌%◌, ◌^◌, ◌<◌, ◌≤◌, ◌-◌, min, bit_and, bit_or}
 use Rattle.std.specs.Int.{w64, bit_not, bit_at}
 use Rattle.std.proofs.Common.{arith, ap, sym, ◌∙◌}
-use Rattle.std.proofs.lemmas.Nat.{and_mask, and_le_l, and_le_r, mod_below, pow_pos}
-use Rattle.std.proofs.lemmas.Nat.Bits.{bit_at_and, bit_at_or, bit_at_not, bit_at_ones, bit_at-lt, same_from_bits_below}
+use Rattle.std.proofs.lemmas.Nat.{and_le_l, and_le_r, mod_below, pow_pos}
+use Rattle.std.proofs.lemmas.Nat.Bits.{bit_at_and, bit_at_or, bit_at_not, bit_at-lt, same_from_bits_below}
 use Rattle.known_bits.specs.Member.{IsMember}
 use Rattle.known_bits.specs.declared.bits.Bits.{Bits}
 use Rattle.known_bits.specs.Bits.{Has, greatest_of}
+use Rattle.known_bits.proofs.Carry.{low_bit}
 
 kept_bit : (m x i : ℕ) → m < 2 ^ 64 → i < 64
     → bit_at (bit_and x (bit_not w64 m)) i ≡ min (bit_at x i) (1 - bit_at m i)
@@ -34,13 +35,6 @@ bit_at-allowed v m x i fits h inside =
     let small = bit_at-lt m i in
     omega arith
 
--- the bits of a low part are those of the number
-bit_at-low : (n w i : ℕ) → i < w → bit_at (n % 2 ^ w) i ≡ bit_at n i
-bit_at-low n w i below =
-    let one = bit_at_ones w i below in
-    let small = bit_at-lt n i in
-    ap (λ m. bit_at m i) (sym (and_mask n w)) ∙ bit_at_and n (2 ^ w - 1) i ∙ omega arith
-
 -- no low part of a member is greater than that of the greatest
 pub low-greatest : (b : Bits) (x w : ℕ) → w ≤ 64 → Has b x → x % 2 ^ w ≤ greatest_of b % 2 ^ w
 low-greatest b x w within h =
@@ -51,8 +45,8 @@ low-greatest b x w within h =
     (let le = and_le_l (x % 2 ^ w) g in let below = mod_below x (2 ^ w) positive in omega arith)
     (mod_below x (2 ^ w) positive)
     (λ i below. bit_at_and (x % 2 ^ w) g i
-    ∙ (let left = bit_at-low x w i below in
-    let right = bit_at-low (greatest_of b) w i below in
+    ∙ (let left = low_bit x w i below in
+    let right = low_bit (greatest_of b) w i below in
     let allowed = bit_at-allowed b.value b.mask x i b.fits h (omega arith) in
     omega arith)) in
     let le = and_le_r (x % 2 ^ w) g in

@@ -1,7 +1,7 @@
 -- The low part of a number, and a product by its terms.
 use Rattle.std.proofs.Common.{◌≡◌, ℕ, ◌+◌, ◌*◌, ◌%◌, ◌^◌, ◌≤◌, sym, ap, ◌∙◌, inl, inr, arith}
 use Rattle.std.specs.Int.{bit_at}
-use Rattle.std.proofs.Math.Nat.{add-mod}
+use Rattle.std.proofs.Math.Nat.{add-mod, mod-le}
 use Rattle.std.proofs.lemmas.Nat.{pow_pos, mod-pow-add, mod_below}
 use Rattle.std.proofs.lemmas.Nat.Bits.{bit_at_above}
 use Rattle.std.proofs.lemmas.Bool.{cases_lt}
@@ -14,12 +14,9 @@ use Rattle.known_bits.proofs.Carry.{low_bit}
 pub high_bit : (n w i : ℕ) → w ≤ i → bit_at (n % 2 ^ w) i ≡ 0
 high_bit n w i h = bit_at_above (n % 2 ^ w) w i (mod_below n (2 ^ w) (pow_pos w)) h
 
-mod_le : (n w : ℕ) → n % 2 ^ w ≤ n
-mod_le n w = let p = pow_pos w in omega arith
-
 pub low_apart : {v m : ℕ} → Apart v m → (w : ℕ) → Apart (v % 2 ^ w) (m % 2 ^ w)
 low_apart {v} {m} k w =
-    let a = k.value_in in let b = k.mask_in in let c = mod_le v w in let d = mod_le m w in
+    let a = k.value_in in let b = k.mask_in in let c = mod-le v (2 ^ w) in let d = mod-le m (2 ^ w) in
     apart_from_bits (omega arith) (omega arith)
     (λ i i_in. elim (cases_lt i w) [
       | inl lt ↦
@@ -32,7 +29,7 @@ pub low_contains : {v m : ℕ} → Apart v m → (w x : ℕ) → IsMember v m x
     → IsMember (v % 2 ^ w) (m % 2 ^ w) (x % 2 ^ w)
 low_contains {v} {m} k w x h =
     let kn = low_apart k w in
-    let b = h.below in let c = mod_le x w in
+    let b = h.below in let c = mod-le x (2 ^ w) in
     member_from_bits kn.value_in kn.mask_in (omega arith)
     (λ i i_in. elim (cases_lt i w) [
       | inl lt ↦

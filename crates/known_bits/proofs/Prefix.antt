@@ -1,11 +1,12 @@
 -- Numbers between two share a prefix of bits, those above the highest in which the two differ.
 use Rattle.std.proofs.Common.{◌≡◌, ℕ, ◌+◌, ◌-◌, ◌*◌, ◌/◌, ◌^◌, ◌<◌, ◌≤◌, w64, inl, inr, sym, ap, ◌∙◌, arith, bit_and, bit_xor}
 use Rattle.std.specs.Int.{bit_at, bit_not, leading_zeros}
-use Rattle.std.proofs.Math.Nat.{div-eq_of_lt, div-mul-le_self, div-lt_iff_lt-mul}
+use Rattle.std.proofs.Math.Nat.{div-eq_of_lt, div-lt_iff_lt-mul}
 use Rattle.std.proofs.Math.Pow.{pow_mono}
-use Rattle.std.proofs.lemmas.Nat.{xor_shr, xor_lt, leading_length, le-div, pow_pos, pow-add}
+use Rattle.std.proofs.lemmas.Nat.{xor_shr, xor_lt, leading_length, pow_pos, pow-add}
 use Rattle.std.proofs.lemmas.Nat.Bits.{bit_at_xor, bit_at-lt, bit_at-zero, same_from_bits, and_high_mask, bit_at_above}
 use Rattle.std.proofs.lemmas.Bool.{cases_lt}
+use Rattle.isa_model.proofs.NumberLaws.{div_mono}
 use Rattle.known_bits.specs.Member.{IsMember}
 
 same_from_xor : (a b : ℕ) → bit_xor a b ≡ 0 → a ≡ b
@@ -13,10 +14,6 @@ same_from_xor a b e =
     same_from_bits a b
     (λ i. let f = sym (bit_at_xor a b i) ∙ ap (λ n. bit_at n i) e ∙ bit_at-zero i in
     let x = bit_at-lt a i in let y = bit_at-lt b i in omega arith)
-
-div_mono : (a b k : ℕ) → a ≤ b → a / 2 ^ k ≤ b / 2 ^ k
-div_mono a b k h =
-    le-div (a / 2 ^ k) b (2 ^ k) (pow_pos k) (let l = div-mul-le_self a (2 ^ k) in omega arith)
 
 pub between_member : (l g x mask : ℕ) → l < 2 ^ 64 → g < 2 ^ 64 → l ≤ x → x ≤ g
     → mask + 1 ≡ 2 ^ (64 - leading_zeros w64 (bit_xor l g))

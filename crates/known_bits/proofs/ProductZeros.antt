@@ -4,7 +4,7 @@ use Rattle.std.specs.Int.{bit_at, trailing_zeros}
 use Rattle.std.specs.Int.Count.{trailing_of_zero}
 use Rattle.std.proofs.lemmas.Nat.{and_le_r, and_mod, or_mod, pow_pos, pow-add, mod-pow-add, mod-mul-add, mod_below}
 use Rattle.std.proofs.lemmas.Nat.Bits.{bit_at-lt, bit_at-zero, bit_at_above, bit_at-trailing_zeros, same_from_bits}
-use Rattle.std.proofs.Math.Nat.{div-eq_of_lt, mod-eq_of_lt}
+use Rattle.std.proofs.Math.Nat.{div-eq_of_lt, mod-eq_of_lt, mod-le}
 use Rattle.std.proofs.Math.Pow.{pow_mono}
 use Rattle.std.proofs.lemmas.Bool.{cases_lt}
 use Rattle.known_bits.specs.Member.{IsMember}
@@ -15,9 +15,6 @@ use Rattle.known_bits.proofs.Parts.{high_bit, low_apart}
 use Rattle.known_bits.proofs.Order.{member_most}
 
 -- ---- multiples of powers of two
-
-pub mod_le : (n w : ℕ) → n % 2 ^ w ≤ n
-mod_le n w = let p = pow_pos w in omega arith
 
 -- a multiple of a power is one of each smaller power
 pub mod-pow_smaller : (n j k : ℕ) → n % 2 ^ k ≡ 0 → j ≤ k → n % 2 ^ j ≡ 0
@@ -72,7 +69,7 @@ mod-trailing_zeros n n_in =
             | inl lt ↦ low_bit n (trailing_zeros w64 n) i lt ∙ t.2 i lt ∙ sym (bit_at-zero i)
             | inr ge ↦ high_bit n (trailing_zeros w64 n) i ge ∙ sym (bit_at-zero i)
           ])
-      | inr none ↦ let l = mod_le n (trailing_zeros w64 n) in omega arith
+      | inr none ↦ let l = mod-le n (2 ^ (trailing_zeros w64 n)) in omega arith
     ]
 
 -- a number has at least j trailing zeros if 2 to the power j divides it
@@ -151,5 +148,5 @@ pub low-limit : {v m x : ℕ} → Apart v m → (w l : ℕ) → bit_or v m < 2 ^
 low-limit {v} {m} k w l small h =
     let most = member_most (low_apart k w) h in
     let e = or_mod v m w in
-    let le = mod_le (bit_or v m) w in
+    let le = mod-le (bit_or v m) (2 ^ w) in
     omega arith

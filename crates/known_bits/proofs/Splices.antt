@@ -221,19 +221,19 @@ spliced-low_bits from count x y =
     (mod_below y (2 ^ count) (pow_pos count)) in
     ap (λ n. (x / 2 ^ (from + count) * 2 ^ count + n) * 2 ^ from + x % 2 ^ from) (sym small)
 
-le_least : (a b c d e : ℕ) → a ≡ b + 0 → b ≤ c → c ≤ d → e ≡ d → a ≤ e
-le_least a b c d e h k l m = omega arith
+le_least : {a b c d e : ℕ} → a ≡ b + 0 → b ≤ c → c ≤ d → e ≡ d → a ≤ e
+le_least h k l m = omega arith
 
-le_greatest : (a b r d e f p : ℕ) → e ≡ d → b + r ≡ d → r < p → b ≤ a → f ≡ a + (p - 1) → e ≤ f
-le_greatest a b r d e f p h k l m n = omega arith
+le_greatest : {a b r d e f : ℕ} (p : ℕ) → e ≡ d → b + r ≡ d → r < p → b ≤ a → f ≡ a + (p - 1) → e ≤ f
+le_greatest p h k l m n = omega arith
 
-le_wider : (a b c d l m : ℕ) → a ≡ b + l → b ≤ c → d ≡ c + m → l ≤ m → a ≤ d
-le_wider a b c d l m h k n o = omega arith
+le_wider : {a b c d : ℕ} (l m : ℕ) → a ≡ b + l → b ≤ c → d ≡ c + m → l ≤ m → a ≤ d
+le_wider l m h k n o = omega arith
 
 pub spliced_least : (from count x y v w : ℕ) → x ≤ v → y ≤ w % 2 ^ count
     → spliced 0 from (spliced from count x y) 0 ≤ spliced from count v w
 spliced_least from count x y v w h k =
-    le_least _ _ _ _ _ (spliced_from_zero from (spliced from count x y) 0 (pow_pos from))
+    le_least (spliced_from_zero from (spliced from count x y) 0 (pow_pos from))
     (spliced_mono from count x y v (w % 2 ^ count) h k (mod_below w (2 ^ count) (pow_pos count)))
     (div-mul-le_self (spliced from count v (w % 2 ^ count)) (2 ^ from))
     (spliced-low_bits from count v w)
@@ -242,7 +242,7 @@ pub spliced_greatest : (from count x y v w : ℕ) → x ≤ v → y % 2 ^ count 
     → spliced from count x y ≤ spliced 0 from (spliced from count v w) (2 ^ from - 1)
 spliced_greatest from count x y v w h k fits =
     let some = pow_pos from in
-    le_greatest _ _ _ _ _ _ (2 ^ from) (spliced-low_bits from count x y)
+    le_greatest (2 ^ from) (spliced-low_bits from count x y)
     (shr_split (spliced from count x (y % 2 ^ count)) from)
     (mod_below (spliced from count x (y % 2 ^ count)) (2 ^ from) some)
     (spliced_mono from count x (y % 2 ^ count) v w h k fits)
@@ -253,7 +253,7 @@ pub spliced_wider : (from count x y v w l m : ℕ) → x ≤ v → y ≤ w → w
     → m < 2 ^ from → l ≤ m
     → spliced 0 from (spliced from count x y) l ≤ spliced 0 from (spliced from count v w) m
 spliced_wider from count x y v w l m h k fits ll mm lm =
-    le_wider _ _ _ _ l m (spliced_from_zero from (spliced from count x y) l ll)
+    le_wider l m (spliced_from_zero from (spliced from count x y) l ll)
     (spliced_mono from count x y v w h k fits)
     (spliced_from_zero from (spliced from count v w) m mm) lm
 

@@ -13,6 +13,7 @@ impl Bits {
     ghost use Rattle.known_bits.specs.Bits.{KnowsProduct};
 
     /// The results of the operation on members of both.
+    #[tactic(auto, unfolding(isa_model::specs::Code::Numbers::alu))]
     pub fn alu(op: AluOp, width: Width, a: Self, b: Self) -> Self
         ensures contains { (x y : ℕ) → Has a x → Has b y → Has result (alu op width x y) }
         ensures sharp { IsPrecise op b → IsSharp a b (alu op width) result.mask }
