@@ -14,7 +14,8 @@ use Rattle.isa_model.specs.declared.instructions.AluOp.TheVariants.{Add, Sub, Mu
 use Rattle.isa_model.specs.Code.Sizes.{width_bits}
 use Rattle.isa_model.specs.Code.Numbers.{result_of, shift, signed, unsigned}
 use Rattle.ranges.specs.Keeps.{KeepsUnsigned, KeepsSigned, KeepsSignedQuotient, KeepsSignedRemainder, signed_of}
-use Rattle.ranges.proofs.Limits.{sum_from, sum_to, difference_from, difference_to, difference_low, div_mono, shl_mono, zero_or_div, self_or_mod, mod_not_by_zero, div_not_by_zero, shr_mono, shr_fits, cast_fits}
+use Rattle.isa_model.proofs.NumberLaws.{div_mono}
+use Rattle.ranges.proofs.Limits.{sum_from, sum_to, difference_from, difference_to, difference_low, shl_mono, zero_or_div, self_or_mod, mod_not_by_zero, div_not_by_zero, shr_mono, shr_fits, cast_fits}
 use Rattle.ranges.proofs.LowLaws.{low_signed_equation}
 use Rattle.ranges.proofs.QuotientLaws.{quotient_up, quotient_down, quotient_fits, quotient_fits_down, remainder_fits, remainder_within, remainder_near, remainder_by_zero, quotient_is, remainder_is, plain_quotient, plain_remainder}
 

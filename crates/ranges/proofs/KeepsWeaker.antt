@@ -5,10 +5,12 @@ use Rattle.std.proofs.Common.{arith}
 use Rattle.std.proofs.lemmas.Int.{ints}
 use Rattle.std.specs.Int.{Width as IntWidth, cast_signed}
 use Rattle.isa_model.specs.declared.sizes.Width.{Width}
-use Rattle.isa_model.specs.declared.sizes.Width.TheVariants.{Low32}
+use Rattle.isa_model.specs.declared.sizes.Width.TheVariants.{Low32, Full64}
 use Rattle.isa_model.specs.declared.instructions.AluOp.{AluOp}
 use Rattle.isa_model.specs.declared.instructions.AluOp.TheVariants.{Add, Sub, Mul, Div, SignedDiv, Or, And, Lsh, Rsh, Mod, SignedMod, Xor, Mov, Arsh}
 use Rattle.ranges.specs.declared.low.Low.{Low}
+use Rattle.ranges.specs.declared.wide.Wide.{Wide}
+use Rattle.ranges.specs.Wides as W
 use Rattle.ranges.specs.Lows.{IsBetween, IsSignedBetween, Encloses, KeepsLimits, KeepsSignedLimits}
 use Rattle.ranges.specs.Keeps.{KeepsUnsigned, KeepsSigned, KeepsSignedQuotient, KeepsSignedRemainder, signed_of}
 
@@ -79,4 +81,19 @@ pub kept_signed_limits : (op : AluOp) (a b l m : Low) → Encloses l m
 kept_signed_limits op a b l m enclosed =
     keeps_signed_weaker op Low32 a.signed_least a.signed_greatest
     b.signed_least b.signed_greatest b.least b.greatest (IsSignedBetween l) (IsSignedBetween m)
+    (λ from to h. (omega (arith, ints, h.0, enclosed.2), omega (arith, ints, h.1, enclosed.3)))
+
+-- and what numbers keep
+pub kept_wide_limits : (op : AluOp) (w : Width) (a b l m : Wide) → W.Encloses l m
+    → W.KeepsLimits op w a b (W.IsBetween l) → W.KeepsLimits op w a b (W.IsBetween m)
+kept_wide_limits op w a b l m enclosed = keeps_weaker op w a.least a.greatest b.least b.greatest
+    (W.IsBetween l) (W.IsBetween m)
+    (λ from to h. (omega (arith, h.0, enclosed.0), omega (arith, h.1, enclosed.1)))
+
+pub kept_wide_signed_limits : (op : AluOp) (a b l m : Wide) → W.Encloses l m
+    → W.KeepsSignedLimits op a b (W.IsSignedBetween l)
+    → W.KeepsSignedLimits op a b (W.IsSignedBetween m)
+kept_wide_signed_limits op a b l m enclosed =
+    keeps_signed_weaker op Full64 a.signed_least a.signed_greatest
+    b.signed_least b.signed_greatest b.least b.greatest (W.IsSignedBetween l) (W.IsSignedBetween m)
     (λ from to h. (omega (arith, ints, h.0, enclosed.2), omega (arith, ints, h.1, enclosed.3)))

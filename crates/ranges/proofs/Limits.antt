@@ -73,10 +73,6 @@ difference_to x y a b c d x_in y_in h1 h2 h3 h4 f g =
       signed_equation ((x + (2 ^ 64 - y)) % 2 ^ 64) (omega arith),
     )
 
-pub div_mono : (a b k : ℕ) → a ≤ b → a / 2 ^ k ≤ b / 2 ^ k
-div_mono a b k h =
-    le-div (a / 2 ^ k) b (2 ^ k) (pow_pos k) (let l = div-mul-le_self a (2 ^ k) in omega arith)
-
 -- a shift that loses no bit
 pub shl_whole_at : (x g k : ℕ) → x ≤ g → g ≤ (2 ^ 64 - 1) / 2 ^ k → (x * 2 ^ k) % 2 ^ 64 ≡ x * 2 ^ k
 shl_whole_at x g k h e =

@@ -12,6 +12,7 @@ impl Wide {
     ghost use Rattle.ranges.specs.Wides.{KeepsSignedLimits};
 
     // The results of the operation on numbers of both.
+    #[tactic(auto, unfolding(isa_model::specs::Code::Numbers::alu), using(isa_model::proofs::NumberLaws::low_below))]
     pub(crate) fn alu(op: AluOp, width: Width, a: Self, b: Self) -> Self
         ensures contains { (x y : ℕ) → Has a x → Has b y → Has result (alu op width x y) }
         ensures fits { result.greatest < 2 ^ width_bits width }

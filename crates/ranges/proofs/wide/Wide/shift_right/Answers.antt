@@ -1,4 +1,4 @@
-use Rattle.ranges.proofs.Limits.{div_mono}
+use Rattle.isa_model.proofs.NumberLaws.{div_mono}
 use Rattle.ranges.proofs.wide.Wide.shift_right.Goals as goal
 
 pub returns-clause-contains : goal.returns-clause-contains
