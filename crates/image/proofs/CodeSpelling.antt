@@ -26,7 +26,7 @@ pub record Laws : Type 0 where
   pub fits : (bytes : List ℕ) (i : Insn) → EachByte bytes → decoded bytes ≡ Ok i → InsnFits i
   pub again : (i : Insn) (rest : List ℕ) → InsnFits i → decoded (spelling_of i ++ rest) ≡ Ok i
 
-bind_ok : {A B : Type 0} (r : Result A ImageError) (f : A → Result B ImageError) (y : B)
+pub bind_ok : {A B : Type 0} (r : Result A ImageError) (f : A → Result B ImageError) (y : B)
     → (r >>= f) ≡ Ok y → (x : A) × (r ≡ Ok x) × (f x ≡ Ok y)
 bind_ok (Ok x) f y e = (x, refl, e)
 bind_ok (Err d) f y e = absurd cc

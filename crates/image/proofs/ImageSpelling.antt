@@ -1,5 +1,5 @@
 -- An image is spelled by its bytes, and these are read as that image.
-use Rattle.std.proofs.Common.{◌≡◌, ℕ, ◌-◌, ◌+◌, ◌*◌, ◌≤◌, false, List, ◌++◌, drop, length, Option, Some, None, Result, Ok, refl, sym, ap, ◌∙◌, arith, drop-drop, length-append}
+use Rattle.std.proofs.Common.{◌≡◌, ℕ, ◌+◌, ◌*◌, ◌≤◌, false, List, ◌++◌, drop, length, Option, Some, None, Result, Ok, refl, sym, ap, ◌∙◌, arith, drop-drop, length-append}
 use Rattle.std.specs.Prelude.{◌==◌, nat_lt, is_none, unwrap_or}
 use Rattle.std.specs.List.{flat_map}
 use Rattle.std.proofs.lemmas.Bool.{le-ltb, ne_eqb}
@@ -16,7 +16,7 @@ use Rattle.image.specs.Images.{magic, row_bytes, code_bytes, image_bytes, IsImag
 use Rattle.image.specs.Refusals.{◌>>=◌, unless, version_at, version_read, map_count, slot_count, size_of, size_refusal, rows_from, room_refusal, code_from, rows_read, code_read, program_read}
 use Rattle.image.proofs.CodeSpelling.{Laws, code_from-code_bytes, length-code_bytes}
 use Rattle.image.proofs.RowSpelling.{rows_from-row_bytes, length-rows}
-use Rattle.image.proofs.Whole.{CodeSlots, within_room, sizes, tests-pass, parts, program_ok}
+use Rattle.image.proofs.Whole.{CodeSlots, within_room, tests-pass, parts, program_ok}
 
 -- ---- images to bytes
 

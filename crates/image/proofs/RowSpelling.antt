@@ -24,13 +24,13 @@ use Rattle.image.proofs.RowLaws.{IsRow-row_fits, row_fits-IsRow}
 abbrev row_ok : MapDef → Result MapDef ImageError
 row_ok row = Ok row
 
-abbrev rows_ok : List MapDef → Result (List MapDef) ImageError
+abbrev pub rows_ok : List MapDef → Result (List MapDef) ImageError
 rows_ok rows = Ok rows
 
 same_row : (x y : MapDef) → row_ok x ≡ row_ok y → x ≡ y
 same_row x y e = cc
 
-same_rows : (x y : List MapDef) → rows_ok x ≡ rows_ok y → x ≡ y
+pub same_rows : (x y : List MapDef) → rows_ok x ≡ rows_ok y → x ≡ y
 same_rows x y e = cc
 
 -- ---- one row

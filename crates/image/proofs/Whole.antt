@@ -22,8 +22,8 @@ use Rattle.isa_model.specs.declared.limits.TheConstants.{MAX_MAPS, MAX_MAP_ROOM,
 use Rattle.image.specs.Images.{magic, row_bytes, head_bytes, image_bytes, IsCode, room_of, IsImage}
 use Rattle.image.specs.Refusals.{◌>>=◌, unless, count_refusal, rows_refusal, maps_refusal, parts_refusal, version_at, version_read, map_count, slot_count, size_of, size_refusal, rows_from, room_refusal, code_from, rows_read, code_read, program_read, refusal_of}
 use Rattle.image.proofs.RowLaws.{All-rows_refusal, NamesMaps-maps_refusal, neither}
-use Rattle.image.proofs.CodeSpelling.{Laws, take-rest, code_from-found}
-use Rattle.image.proofs.RowSpelling.{rows_from-fit, rows_from-found}
+use Rattle.image.proofs.CodeSpelling.{Laws, bind_ok, take-rest, code_from-found}
+use Rattle.image.proofs.RowSpelling.{rows_ok, same_rows, rows_from-fit, rows_from-found}
 
 -- ---- the tests of the sizes
 
@@ -163,29 +163,18 @@ record Read (bytes : List ℕ) (p : Program) : Type 0 where
   code : code_read bytes p.maps ≡ Ok p.insns
   version : version_read bytes ≡ p.version
 
-bind : {A B : Type 0} (r : Result A ImageError) (f : A → Result B ImageError) (y : B)
-    → (r >>= f) ≡ Ok y → (x : A) × (r ≡ Ok x) × (f x ≡ Ok y)
-bind (Ok x) f y e = (x, refl, e)
-bind (Err d) f y e = absurd cc
-
-abbrev rows_ok : List MapDef → Result (List MapDef) ImageError
-rows_ok rows = Ok rows
-
-same_rows : (x y : List MapDef) → rows_ok x ≡ rows_ok y → x ≡ y
-same_rows x y e = cc
-
 unless_ok : (o : Option ImageError) (x y : List MapDef) → unless o x ≡ Ok y → (o ≡ None) × (x ≡ y)
 unless_ok None x y e = (refl, same_rows x y e)
 unless_ok (Some d) x y e = absurd cc
 
 read : (bytes : List ℕ) (p : Program) → program_read bytes ≡ Ok p → Read bytes p
 read bytes p e =
-    let a = bind (rows_read bytes)
+    let a = bind_ok (rows_read bytes)
     (λ rows. code_read bytes rows >>= λ xs. program_ok (parts (version_read bytes) rows xs)) p
     e in
     let c =
-    bind (code_read bytes a.0) (λ xs. program_ok (parts (version_read bytes) a.0 xs)) p a.2 in
-    let r = bind (rows_from (map_count bytes) 0 (drop 8 bytes))
+    bind_ok (code_read bytes a.0) (λ xs. program_ok (parts (version_read bytes) a.0 xs)) p a.2 in
+    let r = bind_ok (rows_from (map_count bytes) 0 (drop 8 bytes))
     (λ rows. unless (room_refusal rows) rows) a.0 a.1 in
     let u = unless_ok (room_refusal r.0) r.0 a.0 r.2 in
     subst (Read bytes) (same_program (parts (version_read bytes) a.0 c.0) p c.2) (record {

@@ -1,6 +1,6 @@
 -- Laws of code and images that were written in part.
 use Rattle.std.proofs.Common.{◌≡◌, ℕ, suc, ◌+◌, ◌<◌, List, [], ◌∷◌, ◌++◌, take, drop, length, get_or, Option, Some, None, Result, Ok, Err, sym, ap, ◌∙◌, subst, drop-cons}
-use Rattle.std.specs.Prelude.{OnOk, OnErr}
+use Rattle.std.specs.Prelude.{OnErr}
 use Rattle.std.specs.List.{flat_map}
 use Rattle.std.proofs.lemmas.Grind.{flat_map-append}
 use Rattle.std.proofs.lemmas.List.{take-append-drop, take_more}
@@ -42,20 +42,6 @@ AppendsBeginning-code old mid new xs k i lt e before part =
     subst (λ (l : List ℕ). AppendsBeginning old new l) (sym (code_bytes-split xs k i lt e))
     (AppendsBeginning-second old mid new (code_bytes (take k xs)) (spelling_of i ++ rest) before
     (AppendsBeginning-first mid new (spelling_of i) rest part))
-
--- where the second part fails, a beginning of both was written
-pub second_fails : {X E : Type 0} (r : Result X E) (old mid new : Option (List ℕ))
-    (front rest : List ℕ) → Appends old mid front → OnErr r (AppendsBeginning mid new rest)
-    → OnErr r (AppendsBeginning old new (front ++ rest))
-second_fails (Ok x) old mid new front rest p q = tt
-second_fails (Err e) old mid new front rest p q = AppendsBeginning-second old mid new front rest p q
-
--- where the second part is written after the first, both were written
-pub second_written : {X E : Type 0} (r : Result X E) (old mid new : Option (List ℕ))
-    (front rest : List ℕ) → Appends old mid front → OnOk r (Appends mid new rest)
-    → OnOk r (Appends old new (front ++ rest))
-second_written (Ok x) old mid new front rest p q = Appends-trans old mid new front rest p q
-second_written (Err e) old mid new front rest p q = tt
 
 -- ---- map rows
 

@@ -66,9 +66,9 @@ within o k rest ho hk hb = record {
 abbrev By : ℕ → Reg → Reg → ℕ → ℕ → List ℕ → Insn → Type 0
 By c d r o k rest i = SpelledBy (slot c (reg_number d) (reg_number r) o k) rest i
 
-pub slot_is : (c c' a a' b b' o o' k k' : ℕ) → c ≡ c' → a ≡ a' → b ≡ b' → o ≡ o' → k ≡ k'
+pub slot_is : {c c' a a' b b' o o' k k' : ℕ} → c ≡ c' → a ≡ a' → b ≡ b' → o ≡ o' → k ≡ k'
     → slot c a b o k ≡ slot c' a' b' o' k'
-slot_is c c' a a' b b' o o' k k' h0 h1 h2 h3 h4 = rw (h0, h1, h2, h3, h4) refl
+slot_is h0 h1 h2 h3 h4 = rw (h0, h1, h2, h3, h4) refl
 
 -- an instruction whose first slot has these fields is spelled by them and what follows
 one : (c : ℕ) (d r : Reg) (o k : ℕ) (rest : List ℕ) (x i : Insn)
@@ -87,7 +87,7 @@ alu_constant w c d r o k rest i h z e =
     (op_selected c o) i e in
     let q = op_is c o s.0 s.1 z.offset in
     one _ d r o k rest _ i
-    (slot_is _ _ _ _ _ _ _ _ _ _ (ap (λ n. n + 0x00 + alu_class w) q.0) refl
+    (slot_is (ap (λ n. n + 0x00 + alu_class w) q.0) refl
     (sym (r0_is r z.src)) q.1 h.imm)
     tt h.constant s.2
 
@@ -100,7 +100,7 @@ alu_register w c d r o k rest i h z e =
     let s = selected_ok (λ op. Alu w op d (Register r)) (op_selected c o) i e in
     let q = op_is c o s.0 s.1 z.offset in
     one _ d r o k rest _ i
-    (slot_is _ _ _ _ _ _ _ _ _ _ (ap (λ n. n + 0x08 + alu_class w) q.0) refl refl q.1
+    (slot_is (ap (λ n. n + 0x08 + alu_class w) q.0) refl refl q.1
     (sym (eqb-true k 0 z.imm)))
     tt tt s.2
 
@@ -111,14 +111,14 @@ mov_register w d r o k rest i z e =
     elim (chosen (o == 0) (done (Alu w ops.Mov d (Register r))) _ _ e) [
       | inl p ↦
           one _ d r o k rest _ i
-          (slot_is _ _ _ _ _ _ _ _ _ _ refl refl refl (sym (eqb-true o 0 p.0))
+          (slot_is refl refl refl (sym (eqb-true o 0 p.0))
           (sym (eqb-true k 0 z.imm)))
           tt tt (ok_is _ _ p.1)
       | inr p ↦
           let s = selected_ok (λ x. MovSx x d r) (extension_selected w o) i p.1 in
           let q = extension_is w o s.0 s.1 in
           one _ d r o k rest _ i
-          (slot_is _ _ _ _ _ _ _ _ _ _ (ap (λ n. 0xb8 + n) q.0) refl refl q.1
+          (slot_is (ap (λ n. 0xb8 + n) q.0) refl refl q.1
           (sym (eqb-true k 0 z.imm)))
           tt tt s.2
     ]
@@ -129,7 +129,7 @@ byte_swap : (order : ByteOrder) (d r : Reg) (o k : ℕ) (rest : List ℕ) (i : I
 byte_swap order d r o k rest i z e =
     let s = selected_ok (λ span. ByteSwap order span d) (span_selected k) i e in
     one _ d r o k rest _ i
-    (slot_is _ _ _ _ _ _ _ _ _ _ refl refl (sym (r0_is r z.src)) (sym (eqb-true o 0 z.offset))
+    (slot_is refl refl (sym (r0_is r z.src)) (sym (eqb-true o 0 z.offset))
     (span_is k s.0 s.1))
     tt tt s.2
 
@@ -138,12 +138,12 @@ call : (d r : Reg) (o k : ℕ) (rest : List ℕ) (i : Insn) → Within o k rest
     → called_by r (fields d r o k) ≡ Ok i → By 0x85 d r o k rest i
 call d R0 o k rest i h z e =
     one _ d R0 o k rest _ i
-    (slot_is _ _ _ _ _ _ _ _ _ _ refl (sym (r0_is d z.dst)) refl
+    (slot_is refl (sym (r0_is d z.dst)) refl
     (sym (eqb-true o 0 z.offset)) h.imm)
     tt h.constant (ok_is _ _ e)
 call d R1 o k rest i h z e =
     one _ d R1 o k rest _ i
-    (slot_is _ _ _ _ _ _ _ _ _ _ refl (sym (r0_is d z.dst)) refl
+    (slot_is refl (sym (r0_is d z.dst)) refl
     (sym (eqb-true o 0 z.offset)) h.imm)
     tt h.constant (ok_is _ _ e)
 call d r o k rest i h z e = absurd cc
@@ -239,7 +239,7 @@ wide_is d R0 o k rest i h ho e =
     let top : (k + a.0 * 2 ^ 32) / 2 ^ 32 ≡ a.0 = omega (arith, h.small) in
     let fits : k + a.0 * 2 ^ 32 < 2 ^ 64 = omega (arith, h.small, s.small) in
     one _ d R0 o k rest (LoadNumber d (k + a.0 * 2 ^ 32)) i
-    (slot_is _ _ _ _ _ _ _ _ _ _ refl refl refl (sym ho) low)
+    (slot_is refl refl refl (sym ho) low)
     (rw top s.bytes) fits (ok_is _ _ a.2)
 wide_is d R5 o k rest i h ho e =
     let a = next_ok (next_imm_read rest) _ i e in
@@ -247,7 +247,7 @@ wide_is d R5 o k rest i h ho e =
     elim (chosen (a.0 == 0) (done (LoadMap d k)) _ _ a.2) [
       | inl p ↦
           one _ d R5 o k rest (LoadMap d k) i
-          (slot_is _ _ _ _ _ _ _ _ _ _ refl refl refl (sym ho) refl)
+          (slot_is refl refl refl (sym ho) refl)
           (s.bytes ∙ ap (λ (n : ℕ). second_bytes (Some n)) (eqb-true a.0 0 p.0)) h.small
           (ok_is _ _ p.1)
       | inr p ↦ absurd cc
@@ -256,7 +256,7 @@ wide_is d R6 o k rest i h ho e =
     let a = next_ok (next_imm_read rest) _ i e in
     let s = second_read rest a.0 h.bytes a.1 in
     one _ d R6 o k rest (LoadMapValue d k a.0) i
-    (slot_is _ _ _ _ _ _ _ _ _ _ refl refl refl (sym ho) refl)
+    (slot_is refl refl refl (sym ho) refl)
     s.bytes (h.small, s.small) (ok_is _ _ a.2)
 wide_is d r o k rest i h ho e = absurd cc
 
@@ -274,46 +274,46 @@ meaning-spelled form.WideLoad d r o k rest i h z e =
 meaning-spelled form.Call d r o k rest i h z e = call d r o k rest i h z e
 meaning-spelled (form.Negate w) d r o k rest i h z e =
     one _ d r o k rest _ i
-    (slot_is _ _ _ _ _ _ _ _ _ _ refl refl (sym (r0_is r z.src)) (sym (eqb-true o 0 z.offset))
+    (slot_is refl refl (sym (r0_is r z.src)) (sym (eqb-true o 0 z.offset))
     (sym (eqb-true k 0 z.imm)))
     tt tt (ok_is _ _ e)
 meaning-spelled (form.Load size) d r o k rest i h z e =
     one _ d r o k rest _ i
-    (slot_is _ _ _ _ _ _ _ _ _ _ refl refl refl h.offset (sym (eqb-true k 0 z.imm)))
+    (slot_is refl refl refl h.offset (sym (eqb-true k 0 z.imm)))
     tt h.signed_offset (ok_is _ _ e)
 meaning-spelled (form.LoadSx size) d r o k rest i h z e =
     one _ d r o k rest _ i
-    (slot_is _ _ _ _ _ _ _ _ _ _ refl refl refl h.offset (sym (eqb-true k 0 z.imm)))
+    (slot_is refl refl refl h.offset (sym (eqb-true k 0 z.imm)))
     tt h.signed_offset (ok_is _ _ e)
 meaning-spelled (form.StoreConstant size) d r o k rest i h z e =
     one _ d r o k rest _ i
-    (slot_is _ _ _ _ _ _ _ _ _ _ refl refl (sym (r0_is r z.src)) h.offset h.imm)
+    (slot_is refl refl (sym (r0_is r z.src)) h.offset h.imm)
     tt (h.signed_offset, h.constant) (ok_is _ _ e)
 meaning-spelled (form.Store size) d r o k rest i h z e =
     one _ d r o k rest _ i
-    (slot_is _ _ _ _ _ _ _ _ _ _ refl refl refl h.offset (sym (eqb-true k 0 z.imm)))
+    (slot_is refl refl refl h.offset (sym (eqb-true k 0 z.imm)))
     tt h.signed_offset (ok_is _ _ e)
 meaning-spelled form.Jump d r o k rest i h z e =
     one _ d r o k rest _ i
-    (slot_is _ _ _ _ _ _ _ _ _ _ refl (sym (r0_is d z.dst)) (sym (r0_is r z.src)) h.offset
+    (slot_is refl (sym (r0_is d z.dst)) (sym (r0_is r z.src)) h.offset
     (sym (eqb-true k 0 z.imm)))
     tt h.signed_offset (ok_is _ _ e)
 meaning-spelled form.JumpLong d r o k rest i h z e =
     one _ d r o k rest _ i
-    (slot_is _ _ _ _ _ _ _ _ _ _ refl (sym (r0_is d z.dst)) (sym (r0_is r z.src))
+    (slot_is refl (sym (r0_is d z.dst)) (sym (r0_is r z.src))
     (sym (eqb-true o 0 z.offset)) h.imm)
     tt h.constant (ok_is _ _ e)
 meaning-spelled (form.JumpIfConstant w c) d r o k rest i h z e =
     one _ d r o k rest _ i
-    (slot_is _ _ _ _ _ _ _ _ _ _ refl refl (sym (r0_is r z.src)) h.offset h.imm)
+    (slot_is refl refl (sym (r0_is r z.src)) h.offset h.imm)
     tt (h.constant, h.signed_offset) (ok_is _ _ e)
 meaning-spelled (form.JumpIfRegister w c) d r o k rest i h z e =
     one _ d r o k rest _ i
-    (slot_is _ _ _ _ _ _ _ _ _ _ refl refl refl h.offset (sym (eqb-true k 0 z.imm)))
+    (slot_is refl refl refl h.offset (sym (eqb-true k 0 z.imm)))
     tt (tt, h.signed_offset) (ok_is _ _ e)
 meaning-spelled form.Exit d r o k rest i h z e =
     one _ d r o k rest _ i
-    (slot_is _ _ _ _ _ _ _ _ _ _ refl (sym (r0_is d z.dst)) (sym (r0_is r z.src))
+    (slot_is refl (sym (r0_is d z.dst)) (sym (r0_is r z.src))
     (sym (eqb-true o 0 z.offset)) (sym (eqb-true k 0 z.imm)))
     tt tt (ok_is _ _ e)
 
@@ -356,7 +356,7 @@ slot_meaning-spelled s rest i fits small e =
           (within _ _ _ fits.offset fits.imm small)
           (zeroes (uses a.0) b.0 c.0 s.offset s.imm p.0) p.1 in
           record {
-            first = m.first ∙ slot_is _ _ _ _ _ _ _ _ _ _
+            first = m.first ∙ slot_is
                 (opcode-form_of s.opcode a.0 fits.opcode a.1)
                 (number-reg_numbered s.dst b.0 fits.dst b.1)
                 (number-reg_numbered s.src c.0 fits.src c.1) refl refl;

@@ -186,7 +186,7 @@ slot_at-slot_bytes : (s : Slot) → FieldsFit s → slot_at (slot_bytes s) ≡ s
 slot_at-slot_bytes s h =
     let d : (s.dst + 16 * s.src) % 16 ≡ s.dst = omega (arith, h.dst) in
     let r : (s.dst + 16 * s.src) / 16 ≡ s.src = omega (arith, h.dst) in
-    slot_is s.opcode s.opcode _ s.dst _ s.src _ s.offset _ s.imm refl d r
+    slot_is refl d r
     (little_number-reads_back 2 s.offset (little_bytes 4 s.imm) h.offset)
     (little_number-reads_back 4 s.imm [] h.imm)
 

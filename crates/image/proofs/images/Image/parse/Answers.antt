@@ -1,11 +1,14 @@
-use Rattle.std.proofs.Common.{◌≡◌, ℕ, List, Some, None, Result, Ok, Err, inl, inr, sym, ap, ◌∙◌, arith}
+use Rattle.std.proofs.Common.{◌≡◌, ℕ, List, Option, Some, None, Result, Ok, Err, inl, inr, sym, ap, ◌∙◌, arith, rules}
 use Rattle.std.specs.Prelude.{◌⊎◌}
 use Rattle.std.proofs.lemmas.Result.{err_from_is_err_and}
+use Rattle.isa_model.specs.declared.map_defs.MapDef.{MapDef}
+use Rattle.isa_model.specs.declared.instructions.Insn.{Insn}
+use Rattle.isa_model.specs.declared.versions.Version.{Version}
 use Rattle.isa_model.specs.Code.Instructions.{Program}
 use Rattle.image.specs.declared.errors.ImageError.{ImageError}
 use Rattle.image.specs.declared.errors.ImageError.TheVariants.{Memory}
 use Rattle.image.specs.Images.{IsImage, image_bytes}
-use Rattle.image.specs.Refusals.{size_refusal, program_read, refusal_of}
+use Rattle.image.specs.Refusals.{size_refusal, version_read, program_read, refusal_of}
 use Rattle.image.proofs.CodeSpelling.{Laws}
 use Rattle.image.proofs.Whole.{parts, sizes, program_read-found, refusal_of-sizes, refusal_of-program, not_both, not_err, same_program}
 use Rattle.image.proofs.ImageSpelling.{image_bytes-read}
@@ -26,135 +29,60 @@ refused : (bytes : List ℕ) (e : ImageError) → size_refusal bytes ≡ None
 refused bytes e s (inl m) = inl m
 refused bytes e s (inr r) = inr (refusal_of-program bytes (Err e) s r)
 
-pub returns-in-Some-clause-only : goal.returns-in-Some-clause-only
-returns-in-Some-clause-only c = λ p h e.
-    let laws : Laws = record {
-      found = c.decoding_laws.ensures.found;
-      fits = c.decoding_laws.ensures.fits;
-      again = c.decoding_laws.ensures.again;
-    } in
-    absurd (not_both c.args.bytes.now c.in-Some.error (sym c.in-Some.ensures)
-    (image_bytes-read laws c.args.bytes.now p h e).sizes)
+-- the parts that were read make the program
+read_as : (bytes : List ℕ) (v : Version) (rows : List MapDef) (xs : List (Option Insn))
+    → program_read bytes ≡ ok (parts (version_read bytes) rows xs) → v ≡ version_read bytes
+    → program_read bytes ≡ ok (parts v rows xs)
+read_as bytes v rows xs e is = e ∙ ap (λ w. ok (parts w rows xs)) (sym is)
 
-pub returns-in-Some-clause-refused : goal.returns-in-Some-clause-refused
-returns-in-Some-clause-refused c =
-    inr (refusal_of-sizes c.args.bytes.now c.in-Some.error (sym c.in-Some.ensures))
+pub returns-in-Some : goal.returns-in-Some
+returns-in-Some c =
+    let bytes = c.args.bytes.now in
+    let laws : Laws = search rules in
+    let refusal = sym c.in-Some.ensures in
+    record {
+      found = search rules;
+      fits = search rules;
+      only = λ p h e.
+          absurd (not_both bytes c.in-Some.error refusal (image_bytes-read laws bytes p h e).sizes);
+      refused = inr (refusal_of-sizes bytes c.in-Some.error refusal);
+    }
 
-pub returns-in_err-maps-clause-only : goal.returns-in_err-maps-clause-only
-returns-in_err-maps-clause-only c = λ p h e.
-    let laws : Laws = record {
-      found = c.decoding_laws.ensures.found;
-      fits = c.decoding_laws.ensures.fits;
-      again = c.decoding_laws.ensures.again;
-    } in
+pub returns-in_err-maps : goal.returns-in_err-maps
+returns-in_err-maps c =
+    let bytes = c.args.bytes.now in
+    let laws : Laws = search rules in
+    let e = c.in_err-maps.field-0.0 in
     let given = err_from_is_err_and c.from_residual.result c.from_residual.ensures.1 in
-    rw (given.1, given.2)
-    (only_memory laws c.args.bytes.now c.in_err-maps.field-0.0 c.in_err-maps.ensures p h e)
-
-pub returns-in_err-maps-clause-refused : goal.returns-in_err-maps-clause-refused
-returns-in_err-maps-clause-refused c =
-    let given = err_from_is_err_and c.from_residual.result c.from_residual.ensures.1 in
-    rw (given.1, given.2)
-    (refused c.args.bytes.now c.in_err-maps.field-0.0
-    (sym c.in_default.ensures) c.in_err-maps.ensures)
+    record {
+      found = rw given.1 tt;
+      fits = rw given.1 tt;
+      only = λ p h is. rw (given.1, given.2) (only_memory laws bytes e c.in_err-maps.ensures p h is);
+      refused = rw (given.1, given.2)
+          (refused bytes e (sym c.in_default.ensures) c.in_err-maps.ensures);
+    }
 
 pub invariant_of-result : goal.invariant_of-result
 invariant_of-result c =
     let bytes = c.args.bytes.now in
-    let laws : Laws = record {
-      found = c.decoding_laws.ensures.found;
-      fits = c.decoding_laws.ensures.fits;
-      again = c.decoding_laws.ensures.again;
-    } in
-    let p : Program = record {
-      insns = c.in_ok-maps.slots.items;
-      maps = c.in_ok-maps.maps.items;
-      version = c.version_of.result;
-    } in
-    let e : program_read bytes ≡ ok p =
-    c.in_ok-maps.ensures
-    ∙ ap (λ v. ok (parts v c.in_ok-maps.maps.items c.in_ok-maps.slots.items))
-    (sym c.version_of.ensures) in
-    let found = program_read-found laws bytes p (λ j. omega (arith, c.type_inv.bytes j))
+    let laws : Laws = search rules in
+    let e = read_as bytes c.version_of.result c.in_ok-maps.maps.items c.in_ok-maps.slots.items
+    c.in_ok-maps.ensures c.version_of.ensures in
+    (program_read-found laws bytes _ (λ j. omega (arith, c.type_inv.bytes j))
+    (sizes bytes (sym c.in_default.ensures)) e).image
+
+pub returns : goal.returns
+returns c =
+    let bytes = c.args.bytes.now in
+    let laws : Laws = search rules in
+    let e = read_as bytes c.version_of.result c.in_ok-maps.maps.items c.in_ok-maps.slots.items
+    c.in_ok-maps.ensures c.version_of.ensures in
+    let found = program_read-found laws bytes _ (λ j. omega (arith, c.type_inv.bytes j))
     (sizes bytes (sym c.in_default.ensures)) e in
-    found.image
-
-pub returns-clause-found : goal.returns-clause-found
-returns-clause-found c =
-    let bytes = c.args.bytes.now in
-    let laws : Laws = record {
-      found = c.decoding_laws.ensures.found;
-      fits = c.decoding_laws.ensures.fits;
-      again = c.decoding_laws.ensures.again;
-    } in
-    let p : Program = record {
-      insns = c.in_ok-maps.slots.items;
-      maps = c.in_ok-maps.maps.items;
-      version = c.version_of.result;
-    } in
-    let e : program_read bytes ≡ ok p =
-    c.in_ok-maps.ensures
-    ∙ ap (λ v. ok (parts v c.in_ok-maps.maps.items c.in_ok-maps.slots.items))
-    (sym c.version_of.ensures) in
-    let found = program_read-found laws bytes p (λ j. omega (arith, c.type_inv.bytes j))
-    (sizes bytes (sym c.in_default.ensures)) e in
-    found.spelled
-
-pub returns-clause-fits : goal.returns-clause-fits
-returns-clause-fits c =
-    let bytes = c.args.bytes.now in
-    let laws : Laws = record {
-      found = c.decoding_laws.ensures.found;
-      fits = c.decoding_laws.ensures.fits;
-      again = c.decoding_laws.ensures.again;
-    } in
-    let p : Program = record {
-      insns = c.in_ok-maps.slots.items;
-      maps = c.in_ok-maps.maps.items;
-      version = c.version_of.result;
-    } in
-    let e : program_read bytes ≡ ok p =
-    c.in_ok-maps.ensures
-    ∙ ap (λ v. ok (parts v c.in_ok-maps.maps.items c.in_ok-maps.slots.items))
-    (sym c.version_of.ensures) in
-    let found = program_read-found laws bytes p (λ j. omega (arith, c.type_inv.bytes j))
-    (sizes bytes (sym c.in_default.ensures)) e in
-    found.image
-
-pub returns-clause-only : goal.returns-clause-only
-returns-clause-only c = λ q h spelled.
-    let bytes = c.args.bytes.now in
-    let laws : Laws = record {
-      found = c.decoding_laws.ensures.found;
-      fits = c.decoding_laws.ensures.fits;
-      again = c.decoding_laws.ensures.again;
-    } in
-    let p : Program = record {
-      insns = c.in_ok-maps.slots.items;
-      maps = c.in_ok-maps.maps.items;
-      version = c.version_of.result;
-    } in
-    let e : program_read bytes ≡ ok p =
-    c.in_ok-maps.ensures
-    ∙ ap (λ v. ok (parts v c.in_ok-maps.maps.items c.in_ok-maps.slots.items))
-    (sym c.version_of.ensures) in
-    same_program p q (sym e ∙ (image_bytes-read laws bytes q h spelled).program)
-
-pub returns-clause-refused : goal.returns-clause-refused
-returns-clause-refused c =
-    let bytes = c.args.bytes.now in
-    let laws : Laws = record {
-      found = c.decoding_laws.ensures.found;
-      fits = c.decoding_laws.ensures.fits;
-      again = c.decoding_laws.ensures.again;
-    } in
-    let p : Program = record {
-      insns = c.in_ok-maps.slots.items;
-      maps = c.in_ok-maps.maps.items;
-      version = c.version_of.result;
-    } in
-    let e : program_read bytes ≡ ok p =
-    c.in_ok-maps.ensures
-    ∙ ap (λ v. ok (parts v c.in_ok-maps.maps.items c.in_ok-maps.slots.items))
-    (sym c.version_of.ensures) in
-    refusal_of-program bytes (Ok p) (sym c.in_default.ensures) e
+    record {
+      found = found.spelled;
+      fits = found.image;
+      only = λ q h spelled.
+          same_program _ q (sym e ∙ (image_bytes-read laws bytes q h spelled).program);
+      refused = refusal_of-program bytes _ (sym c.in_default.ensures) e;
+    }

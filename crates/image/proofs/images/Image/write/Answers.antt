@@ -6,10 +6,10 @@ use Rattle.isa_model.specs.declared.map_defs.MapDef.{MapDef}
 use Rattle.isa_model.specs.declared.instructions.Insn.{Insn}
 use Rattle.isa_model.specs.Code.Instructions.{Program}
 use Rattle.exact_io.specs.Transfers.{AppendsBeginning}
-use Rattle.exact_io.proofs.TransferLaws.{AppendsBeginning-first, AppendsBeginning-second}
+use Rattle.exact_io.proofs.TransferLaws.{AppendsBeginning-first, AppendsBeginning-second, both_written, second_fails}
 use Rattle.image.specs.Images.{row_bytes, code_bytes}
 use Rattle.image.proofs.ImageSpelling.{image_bytes-written}
-use Rattle.image.proofs.Writing.{on_err, second_fails, second_written}
+use Rattle.image.proofs.Writing.{on_err}
 use Rattle.image.proofs.images.Image.write.Goals as goal
 
 pub returns-in_err-write_bytes-clause-err : goal.returns-in_err-write_bytes-clause-err
@@ -81,8 +81,8 @@ returns-clause-ok g c =
     subst (λ (l : List ℕ). OnOk c.write_code.result
     (Appends (g.W.Write.contents c.args.writer.now)
     (g.W.Write.contents c.write_code.new.writer) l)) same
-    (second_written c.write_code.result _ _ _ head (rows ++ code) c.in_ok-write_bytes.ensures.ok
-    (second_written c.write_code.result _ _ _ rows code first last))
+    (both_written c.write_code.result _ _ _ head (rows ++ code) c.in_ok-write_bytes.ensures.ok
+    (both_written c.write_code.result _ _ _ rows code first last))
 
 pub returns-clause-err : goal.returns-clause-err
 returns-clause-err g c =
