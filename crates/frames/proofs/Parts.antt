@@ -2,33 +2,18 @@
 use Rattle.std.proofs.Common.{◌≡◌, ℕ, List, ◌++◌, length, take, drop, Option, Result, Ok, Err, OnOk, OnErr, refl, sym, ap, ◌∙◌, subst}
 use Rattle.std.proofs.lemmas.List.{take-append-drop}
 use Rattle.std.specs.Io.KnownBytes.{Appends}
-use Rattle.std.proofs.KnownBytes.{Appends-trans}
 use Rattle.exact_io.specs.Transfers.{AppendsBeginning}
-use Rattle.exact_io.proofs.TransferLaws.{AppendsBeginning-first, AppendsBeginning-second}
+use Rattle.exact_io.proofs.TransferLaws.{AppendsBeginning-first, both_written, second_fails}
 use Rattle.isa_model.specs.declared.frames.FrameHead.{FrameHead}
 use Rattle.isa_model.specs.declared.versions.Version.{Version}
 use Rattle.isa_model.specs.declared.versions.Version.TheVariants.{One, Two}
 use Rattle.isa_model.specs.Reporting.Streams.{head_bytes}
-
--- where both parts are written, they are written as one
-both_written : {X E : Type 0} (r : Result X E) (old mid new : Option (List ℕ))
-    (front rest : List ℕ) → Appends old mid front → OnOk r (Appends mid new rest)
-    → OnOk r (Appends old new (front ++ rest))
-both_written (Ok x) old mid new front rest p q = Appends-trans old mid new front rest p q
-both_written (Err e) old mid new front rest p q = tt
 
 -- where the first part fails, a beginning of both was written
 first_fails : {X E : Type 0} (r : Result X E) (old mid : Option (List ℕ)) (front rest : List ℕ)
     → AppendsBeginning old mid front → OnErr r (AppendsBeginning old mid (front ++ rest))
 first_fails (Ok x) old mid front rest p = tt
 first_fails (Err e) old mid front rest p = AppendsBeginning-first old mid front rest p
-
--- where the second part fails, a beginning of both was written
-pub second_fails : {X E : Type 0} (r : Result X E) (old mid new : Option (List ℕ))
-    (front rest : List ℕ) → Appends old mid front → OnErr r (AppendsBeginning mid new rest)
-    → OnErr r (AppendsBeginning old new (front ++ rest))
-second_fails (Ok x) old mid new front rest p q = tt
-second_fails (Err e) old mid new front rest p q = AppendsBeginning-second old mid new front rest p q
 
 -- where a write took the first n bytes, and the rest fails, a beginning of all was written
 pub rest_fails : {X E : Type 0} (r : Result X E) (old mid new : Option (List ℕ)) (n : ℕ)

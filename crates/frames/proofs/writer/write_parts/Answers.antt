@@ -1,4 +1,4 @@
-use Rattle.frames.proofs.Parts.{second_fails}
+use Rattle.exact_io.proofs.TransferLaws.{second_fails}
 use Rattle.frames.proofs.writer.write_parts.Goals as goal
 
 pub returns-in-Ok-clause-err : goal.returns-in-Ok-clause-err
