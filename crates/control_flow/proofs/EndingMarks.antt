@@ -1,20 +1,22 @@
 -- What a loop from the last slot to the first marks: the slots from which only plain code follows.
-use Rattle.std.proofs.Common.{◌≡◌, ℕ, ◌+◌, ◌<◌, ◌≤◌, Bool, true, false, not, nat_lt, List, length, get_or, replicate, Option, Some, None, refl, sym, ◌∙◌, subst, arith, inl, inr}
+use Rattle.std.proofs.Common.{◌≡◌, ℕ, ◌+◌, ◌<◌, ◌≤◌, Bool, true, false, not, nat_lt, List, length, replicate, Option, Some, None, sym, ◌∙◌, subst, arith, inl, inr}
 use Rattle.std.specs.Prelude.{◌↔◌, ◌≢◌, IsTrue}
-use Rattle.std.proofs.lemmas.Bool.{cases_lt, not-true, not_from_false, ltb-true, lt-ltb}
+use Rattle.std.proofs.lemmas.Bool.{not-true, not_from_false, ltb-true, lt-ltb}
 use Rattle.std.proofs.lemmas.Option.{same_Some}
-use Rattle.std.proofs.lemmas.List.{length-replicate, get_or-replicate, get_or_past}
+use Rattle.std.proofs.lemmas.List.{length-replicate}
 use Rattle.isa_model.specs.declared.registers.Reg.{Reg}
 use Rattle.isa_model.specs.declared.registers.Reg.TheVariants.{R10}
 use Rattle.isa_model.specs.declared.versions.Version.TheVariants.{One}
 use Rattle.isa_model.specs.declared.instructions.Insn.{Insn}
 use Rattle.isa_model.specs.Code.Instructions.{Program, fetch, writes, is_frame_pointer}
 use Rattle.isa_model.specs.MustAccept.Paths.{IsPlainForm}
+use Rattle.isa_model.proofs.InstructionLaws.{is_frame_pointer-other}
 use Rattle.control_flow.specs.Graph.{fall_to, jump_to}
 use Rattle.control_flow.specs.Liveness.{GoesTo}
 use Rattle.control_flow.specs.Endings.{EndsPlainly, Ends}
 use Rattle.control_flow.specs.Flows.{IsMarked}
 use Rattle.control_flow.proofs.FlowLaws.{BeginsInsn-inside, fetch-BeginsInsn}
+use Rattle.control_flow.proofs.MarkLemmas.{new-IsMarked}
 
 -- ---- one slot
 
@@ -76,16 +78,11 @@ keeps_frame (Some R10) e h = absurd cc
 keeps_frame (Some r) e h = absurd cc
 keeps_frame None e h = absurd cc
 
-frame_kept : (o : Option Reg) → o ≢ Some R10 → is_frame_pointer o ≡ false
-frame_kept (Some R10) keeps = absurd (keeps refl)
-frame_kept (Some r) keeps = refl
-frame_kept None keeps = refl
-
 pub plain_step : (i : Insn) (form frame : Bool) → form ≡ true → IsTrue form ↔ IsPlainForm i
     → frame ≡ is_frame_pointer (writes i) → IsTrue (not frame) ↔ IsPlainStep i
 plain_step i form frame so f w = (
   λ h. (f.0 so, keeps_frame (writes i) (sym w ∙ not-true frame h)),
-  λ step. not_from_false frame (w ∙ frame_kept (writes i) step.1),
+  λ step. not_from_false frame (w ∙ is_frame_pointer-other (writes i) step.1),
 )
 
 pub other_step : (i : Insn) (form : Bool) → form ≡ false → IsTrue form ↔ IsPlainForm i
@@ -137,22 +134,11 @@ pub record MarksLast (p : Program) (count : ℕ) (marks : List Bool) : Type 0 wh
   pub same : length marks ≡ length p.insns
   pub right : (k : ℕ) → length p.insns ≤ k + count → IsMarked marks k ↔ EndsPlainly p k
 
-unmarked : (n k : ℕ) → IsMarked (replicate n false) k → ⊥
-unmarked n k h = elim (cases_lt k n) [
-  | inl inside ↦
-      let e : get_or (replicate n false) k false ≡ false =
-      get_or-replicate n k false false inside in absurd cc
-  | inr past ↦
-      let e : get_or (replicate n false) k false ≡ false =
-      get_or_past (replicate n false) k false (omega (arith, length-replicate n false)) in
-      absurd cc
-]
-
 pub last_none : (p : Program) (n : ℕ) → n ≡ length p.insns → MarksLast p 0 (replicate n false)
 last_none p n is = record {
   same = length-replicate n false ∙ is;
   right = λ k past. (
-    λ h. absurd (unmarked n k h),
+    λ h. absurd (new-IsMarked n k h),
     λ e. let inside = end_inside p k e in absurd (omega arith),
   );
 }

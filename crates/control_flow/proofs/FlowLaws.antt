@@ -5,10 +5,10 @@ use Rattle.std.specs.Option.{option_map, option_and_then, option_flatten}
 use Rattle.std.proofs.lemmas.Bool.{cases_lt, cases_order}
 use Rattle.std.proofs.lemmas.Option.{slice_get_past, cond_some}
 use Rattle.isa_model.specs.declared.instructions.Insn.{Insn}
-use Rattle.isa_model.specs.declared.instructions.Insn.TheVariants.{LoadNumber, LoadMap, LoadMapValue}
 use Rattle.isa_model.specs.Code.Instructions.{Program, fetch, slots_filled}
 use Rattle.isa_model.specs.Machine.Steps.{destination}
 use Rattle.isa_model.specs.Machine.Successors.{jump_distance, falls_through, Follows}
+use Rattle.isa_model.proofs.InstructionLaws.{slots_filled-some}
 use Rattle.control_flow.specs.declared.errors.FlowError.{FlowError}
 use Rattle.control_flow.specs.declared.errors.FlowError.TheVariants.{TargetOutside, SecondHalf, OtherFunction, FallsOff, Unreachable, Memory}
 use Rattle.control_flow.specs.Graph.{call_distance, BeginsInsn, jump_to, call_to, slot_behind, fall_to, HasEdge, Falls, Jumps, Calls}
@@ -173,12 +173,6 @@ IsFlow-EndsFunction p slot to up begins same (inl past) =
     let inside = BeginsInsn-inside p to begins in absurd (omega arith)
 IsFlow-EndsFunction p slot to up begins same (inr function) =
     let down : to ≤ slot = (same.none to function).1 (omega arith) in absurd (omega arith)
-
-slots_filled-some : (i : Insn) → 1 ≤ slots_filled i
-slots_filled-some (LoadNumber d n) = omega arith
-slots_filled-some (LoadMap d m) = omega arith
-slots_filled-some (LoadMapValue d m offset) = omega arith
-slots_filled-some i = omega arith
 
 -- control falls through upwards
 fall_to-up : (p : Program) (slot to : ℕ) → fall_to p slot ≡ Some to → slot < to

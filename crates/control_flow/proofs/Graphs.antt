@@ -9,6 +9,7 @@ use Rattle.isa_model.specs.declared.instructions.Insn.{Insn}
 use Rattle.isa_model.specs.declared.instructions.Insn.TheVariants.{Load, LoadSx, Store, Atomic, Exchange, CompareExchange}
 use Rattle.isa_model.specs.Code.Instructions.{Program, fetch}
 use Rattle.isa_model.specs.MustAccept.Paths.{IsOneOf}
+use Rattle.isa_model.proofs.InstructionLaws.{slots_filled-cases}
 use Rattle.control_flow.specs.declared.homes.HomeMask.{HomeMask}
 use Rattle.control_flow.specs.declared.nodes.Node.{Node}
 use Rattle.control_flow.specs.Accesses.{read_registers}
@@ -22,7 +23,6 @@ use Rattle.control_flow.specs.TestedNumbers.{TestsNumbers, TestsHome, MayBeInSlo
 use Rattle.control_flow.specs.Nodes.{HasEdges, IsBlankNode, ShowsReads, ShowsTests, AreNodes, fall_from, jump_from, FallsNear}
 use Rattle.control_flow.proofs.MaskLemmas.{no_home, no_slot}
 use Rattle.control_flow.proofs.TargetTests.{jump-inside}
-use Rattle.control_flow.proofs.Whole.{slots_filled-cases}
 
 -- ---- making nodes
 

@@ -9,10 +9,10 @@ use Rattle.std.proofs.lemmas.Option.{same_Some}
 use Rattle.std.proofs.lemmas.List.{length-replicate, get_or-replicate, get_or_past}
 use Rattle.isa_model.specs.declared.registers.Reg.{Reg}
 use Rattle.isa_model.specs.Code.Registers.{reg_number}
-use Rattle.isa_model.proofs.RegisterLaws.{same_number}
+use Rattle.isa_model.proofs.RegisterLaws.{same_number, reg_number-below}
 use Rattle.control_flow.specs.declared.masks.RegisterMask.{RegisterMask}
 use Rattle.control_flow.specs.declared.slot_masks.SlotMask.{SlotMask}
-use Rattle.control_flow.proofs.RegisterLaws.{number_below, numbered}
+use Rattle.control_flow.proofs.RegisterLaws.{numbered}
 use Rattle.control_flow.specs.declared.homes.HomeMask.{HomeMask}
 use Rattle.control_flow.specs.Liveness.{Home, InRegister, InSlot}
 use Rattle.control_flow.specs.Masks.{no_registers, HasRegister, no_slots, HasSlot, no_homes, HasHome, mask_at}
@@ -41,7 +41,7 @@ pub with_has : (mask : RegisterMask) (register : Reg) (n : ℕ) → n ≡ reg_nu
     → (bit_at (bit_or mask.bits (1 * 2 ^ n % 2 ^ 16)) (reg_number r) ≡ 1)
     ↔ (HasRegister mask r ⊎ (r ≡ register))
 with_has mask register n is r =
-    let low = number_below register in
+    let low = reg_number-below register in
     let test = with_bit mask.bits n (reg_number r) (omega arith) in (
       λ h. elim (test.0 h) [ inl had ↦ inl had | inr e ↦ inr (same_number r register (e ∙ is)) ],
       λ w. test.1 (elim w [ inl had ↦ inl had | inr e ↦ inr (ap reg_number e ∙ sym is) ]),
@@ -138,7 +138,7 @@ registers_meet a b =
           (ne_eqb low 0
           (no_bit low j
           (both_bit both 0x7ff j (both_bit a.bits b.bits j x y)
-          (bit_at_ones 11 j (number_below r))))),
+          (bit_at_ones 11 j (reg_number-below r))))),
     )
 
 -- ---- no home

@@ -8,6 +8,7 @@ use Rattle.isa_model.specs.declared.instructions.Insn.{Insn}
 use Rattle.isa_model.specs.declared.instructions.Insn.TheVariants.{CallHelper, CallLocal, Exit}
 use Rattle.isa_model.specs.Code.Instructions.{reads, writes}
 use Rattle.isa_model.specs.MustAccept.Paths.{IsOneOf}
+use Rattle.isa_model.proofs.InstructionLaws.{IsOneOf-option}
 use Rattle.control_flow.specs.Accesses.{read_registers, written_registers}
 
 -- ---- registers among registers
@@ -31,17 +32,12 @@ option-one : (o : Option Reg) (r : Reg) → o ≡ Some r → IsOneOf (option_to_
 option-one (Some d) r e = inl (sym (same_Some d r e))
 option-one None r e = absurd cc
 
-one-option : (o : Option Reg) (r : Reg) → IsOneOf (option_to_list o) r → o ≡ Some r
-one-option (Some d) r (inl e) = let same : d ≡ r = sym e in cc
-one-option (Some d) r (inr h) = absurd h
-one-option None r h = absurd h
-
 -- what begins with no register, and gets that of an option if there is one, has just that one
 pub found-with : (A B : Type 0) (o q : Option Reg) (r : Reg) → o ≡ q → (A → ⊥)
     → B ↔ (A ⊎ (o ≡ Some r)) → B ↔ IsOneOf (option_to_list q) r
 found-with A B o q r same none x = (
   λ b. elim (x.0 b) [ inl a ↦ absurd (none a) | inr e ↦ option-one q r (sym same ∙ e) ],
-  λ among. x.1 (inr (same ∙ one-option q r among)),
+  λ among. x.1 (inr (same ∙ IsOneOf-option q r among)),
 )
 
 -- it is one of the first two, or one of the others
@@ -72,13 +68,13 @@ pub among-cases : (a b c d : Option Reg) (r : Reg)
 among-cases a b c d r h =
     elim (append-cases ((option_to_list a ++ option_to_list b) ++ option_to_list c)
     (option_to_list d) r h) [
-      | inr last ↦ inr (inr (one-option d r last))
+      | inr last ↦ inr (inr (IsOneOf-option d r last))
       | inl three ↦
           elim (append-cases (option_to_list a ++ option_to_list b) (option_to_list c) r three) [
-            | inr third ↦ inr (inl (one-option c r third))
+            | inr third ↦ inr (inl (IsOneOf-option c r third))
             | inl two ↦ elim (append-cases (option_to_list a) (option_to_list b) r two) [
-              | inl first ↦ inl (inl (one-option a r first))
-              | inr second ↦ inl (inr (one-option b r second))
+              | inl first ↦ inl (inl (IsOneOf-option a r first))
+              | inr second ↦ inl (inr (IsOneOf-option b r second))
             ]
           ]
     ]

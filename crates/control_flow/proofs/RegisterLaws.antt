@@ -27,7 +27,3 @@ number_of n r h e =
     let found = numbered n h in
     let same : r ≡ found.0 = same_Some r found.0 (e ∙ found.1) in
     ap reg_number same ∙ found.2
-
-pub number_below : (r : Reg) → reg_number r < 11
-number_below R10 = omega arith
-number_below r = omega arith

@@ -1,10 +1,9 @@
 -- The tests as a whole: what they say together.
 use Rattle.std.proofs.Common.{◌≡◌, ℕ, ◌+◌, ◌<◌, ◌≤◌, Bool, false, List, length, Some, None, refl, ap, ◌∙◌, subst, arith, inl, inr}
-use Rattle.std.specs.Prelude.{◌↔◌, ◌⊎◌, ◌≢◌, slice_index_or}
+use Rattle.std.specs.Prelude.{◌↔◌, ◌≢◌, slice_index_or}
 use Rattle.std.proofs.lemmas.Bool.{cases_lt, cases_eq, cases_Bool}
-use Rattle.isa_model.specs.declared.instructions.Insn.{Insn}
-use Rattle.isa_model.specs.declared.instructions.Insn.TheVariants.{LoadNumber, LoadMap, LoadMapValue}
 use Rattle.isa_model.specs.Code.Instructions.{Program, fetch, slots_filled}
+use Rattle.isa_model.proofs.InstructionLaws.{slots_filled-cases}
 use Rattle.image.specs.Images.{IsImage}
 use Rattle.image.proofs.ImageLaws.{fetch-next, fetch-second}
 use Rattle.control_flow.specs.declared.errors.FlowError.{FlowError}
@@ -87,12 +86,6 @@ function-BeginsInsn : (p : Program) → Passes p TargetOutside → Passes p Seco
     → BeginsFunction p f → f ≢ 0 → BeginsInsn p f
 function-BeginsInsn p a b f (inl first) other = absurd (other first)
 function-BeginsInsn p a b f (inr (from, call)) other = target-BeginsInsn p a b from f (inr call)
-
-pub slots_filled-cases : (i : Insn) → (slots_filled i ≡ 1) ⊎ (slots_filled i ≡ 2)
-slots_filled-cases (LoadNumber d n) = inr refl
-slots_filled-cases (LoadMap d m) = inr refl
-slots_filled-cases (LoadMapValue d m offset) = inr refl
-slots_filled-cases i = inl refl
 
 -- no function begins between a slot and the one after its instruction, nor there
 falls_within : (p : Program) → IsImage p → Passes p TargetOutside → Passes p SecondHalf

@@ -1,5 +1,5 @@
 -- Laws of keys found by chains: a key more or less, the free places, and look-ups.
-use Rattle.std.proofs.Common.{◌≡◌, ℕ, zero, suc, ◌+◌, ◌-◌, ◌<◌, ◌≤◌, List, [], ◌∷◌, ◌++◌, length, Option, Some, None, true, refl, sym, ap, subst, ◌∙◌, arith, inl, inr}
+use Rattle.std.proofs.Common.{◌≡◌, ℕ, ◌+◌, ◌-◌, ◌<◌, ◌≤◌, List, [], ◌∷◌, ◌++◌, length, Option, Some, None, true, refl, sym, ap, subst, ◌∙◌, arith, inl, inr}
 use Rattle.std.proofs.lemmas.Bool.{cases_lt}
 use Rattle.std.proofs.lemmas.List.{get_or_append_left, length-append, length-set, length-replicate}
 use Rattle.std.proofs.Math.Logic.{∥∥₁_map}
@@ -14,7 +14,7 @@ use Rattle.map_indexes.specs.Chains.{in_chain}
 use Rattle.map_indexes.proofs.ChainLaws.{link_of, in_chain-is}
 use Rattle.map_indexes.specs.Hashing.{chain_of}
 use Rattle.map_indexes.specs.PlaceKeys.{PlaceKeys, key_in, places, IsScan}
-use Rattle.map_indexes.proofs.PlaceKeysLaws.{same_or_not, set_here, set_else, get_here}
+use Rattle.map_indexes.proofs.PlaceKeysLaws.{key_in-none, same_or_not, set_here, set_else, get_here}
 use Rattle.map_indexes.specs.ScanLaws.{key_inside}
 use Rattle.map_indexes.proofs.ScanLaws.{scan-added, scan-emptied, scan_some}
 use Rattle.map_indexes.proofs.ScanLaws.{scan-none}
@@ -43,11 +43,6 @@ has_chain : (chains : ℕ) (o : Option (List ℕ)) (c : ℕ) (key : List ℕ) �
     → c ≡ chain_of key chains
     → option_map (λ key. chain_of key chains) o ≡ Some c
 has_chain chains o c key e f = ap (option_map (λ key. chain_of key chains)) e ∙ ap Some (sym f)
-
-pub key_in-none : (n i : ℕ) → key_in (replicate n None) i ≡ None
-key_in-none zero i = refl
-key_in-none (suc n) zero = refl
-key_in-none (suc n) (suc i) = key_in-none n i
 
 -- places without keys are free
 pub chain_index-none : (n chains : ℕ) (free : List ℕ) (chain_places : ℕ → Option (ℕ × ℕ))

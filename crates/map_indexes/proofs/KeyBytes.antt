@@ -1,18 +1,15 @@
 -- The keys of places are bytes and have the map's key size, also after one is put or cleared, and
 -- in an array.
-use Rattle.std.specs.Prelude.{◌≡◌, ℕ, zero, suc, ◌<◌, List, length, Some, None, slice_set, replicate}
+use Rattle.std.specs.Prelude.{◌≡◌, ℕ, ◌<◌, List, length, Some, None, slice_set, replicate}
 use Rattle.std.specs.FinMap.{get}
-use Rattle.std.specs.Int.{byte_at, bytes_low_first}
-use Rattle.std.proofs.Common.{sym, ap, subst, ◌∙◌, arith, inl, inr}
-use Rattle.std.proofs.lemmas.List.Elements.{All-nil, All-cons}
+use Rattle.std.proofs.Common.{sym, ap, subst, ◌∙◌, inl, inr}
 use Rattle.byteorder.specs.Endian.{little_bytes}
 use Rattle.byteorder.specs.Numbers.{length-bytes_low_first}
-use Rattle.isa_model.specs.Machine.MachineStates.{AreBytes}
+use Rattle.isa_model.proofs.StartingContents.{AreBytes-bytes_low_first}
 use Rattle.map_indexes.specs.ArrayPlaces.{array_places}
 use Rattle.map_indexes.specs.ArrayLaws.{got_index}
-use Rattle.map_indexes.proofs.ChainIndexesLaws.{key_in-none}
 use Rattle.map_indexes.specs.PlaceKeys.{PlaceKeys, key_in, places, IsKey, AreKeys}
-use Rattle.map_indexes.proofs.PlaceKeysLaws.{same_or_not, set_here, set_else}
+use Rattle.map_indexes.proofs.PlaceKeysLaws.{key_in-none, same_or_not, set_here, set_else}
 use Rattle.map_indexes.specs.PlaceKeyLaws.{got}
 
 pub AreKeys-none : (size n : ℕ) → AreKeys size (replicate n None)
@@ -47,16 +44,6 @@ module _ (size : ℕ) (keys : PlaceKeys) (are : AreKeys size keys) (p : ℕ)
 pub key_found : (size : ℕ) (keys : PlaceKeys) → AreKeys size keys → (k : List ℕ) (p : ℕ)
     → get (places keys) k ≡ Some p → IsKey size k
 key_found size keys are k p e = are p k (got keys k p e)
-
-AreBytes-bytes_low_first : (i k n : ℕ) → AreBytes (bytes_low_first i k n)
-AreBytes-bytes_low_first i zero n = All-nil (λ b. b < 256)
-AreBytes-bytes_low_first i (suc k) n =
-    All-cons (λ b. b < 256) (byte_at i n) (bytes_low_first (suc i) k n) (below i)
-    (AreBytes-bytes_low_first (suc i) k n)
-  where
-    below : (j : ℕ) → byte_at j n < 256
-    below zero = omega arith
-    below (suc j) = omega arith
 
 IsKey-index : (i : ℕ) → IsKey 4 (little_bytes 4 i)
 IsKey-index i =

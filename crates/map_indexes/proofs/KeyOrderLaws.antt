@@ -1,6 +1,6 @@
 -- Laws of the places of keys in the order of the keys.
-use Rattle.std.proofs.Common.{◌≡◌, ℕ, zero, suc, ◌+◌, ◌<◌, ◌≤◌, List, [], ◌∷◌, ◌++◌, Option, Some, None, Bool, true, false, cond, map, take, length, unwrap_or, refl, sym, ap, subst, ◌∙◌, arith}
-use Rattle.std.specs.Prelude.{T, ◌&&◌, is_some, slice_index_or, All, IsPermutation}
+use Rattle.std.proofs.Common.{◌≡◌, ℕ, zero, suc, ◌+◌, ◌<◌, List, [], ◌∷◌, ◌++◌, Option, Some, None, true, false, cond, map, take, length, unwrap_or, refl, sym, ap, subst, ◌∙◌, arith}
+use Rattle.std.specs.Prelude.{T, is_some, slice_index_or, All, IsPermutation}
 use Rattle.std.specs.List.{AllByRecursion, IsDistinct}
 use Rattle.std.specs.List.Sorted.{IsSortedByKey}
 use Rattle.std.specs.Ordering.{is_lt, ordering_reverse}
@@ -15,6 +15,7 @@ use Rattle.std.proofs.lemmas.List.Sorted.{ranks_by, sorted_far, All-permutation,
 use Rattle.std.proofs.lemmas.Map.Keys.{IsDistinct-IsPermutation}
 use Rattle.std.proofs.Math.Dec.{eqb}
 use Rattle.isa_model.specs.Machine.MapContents.{key_order, is_key}
+use Rattle.isa_model.proofs.TestLaws.{both, less_is}
 use Rattle.map_indexes.specs.PlaceKeys.{PlaceKeys, key_in, places, IsDistinct as IsApart}
 use Rattle.map_indexes.proofs.PlaceKeysLaws.{is_key-itself, get_here}
 use Rattle.map_indexes.specs.PlaceKeyLaws.{is_key-equal, got}
@@ -125,20 +126,6 @@ not_less Less e d = refl
 not_less Equal e d = absurd (d refl)
 not_less Greater e d = absurd (cc)
 
-joins : (a b : Bool) → T a → T b → T (a && b)
-joins true b p q = q
-joins false b p q = p
-
-less_is : (r : Ordering) → r ≡ Less → T (is_lt r)
-less_is Less e = tt
-less_is Equal e = absurd (cc)
-less_is Greater e = absurd (cc)
-
-is_less : (r : Ordering) → T (is_lt r) → r ≡ Less
-is_less Less t = refl
-is_less Equal t = absurd t
-is_less Greater t = absurd t
-
 module _ (keys : PlaceKeys) (apart : IsApart keys) where
   abbrev key : ℕ → List ℕ
   key = key_or_none keys
@@ -166,7 +153,7 @@ module _ (keys : PlaceKeys) (apart : IsApart keys) where
       let same : key p ≡ key r =
       slice_cmp-IsAntisymmetric nat_cmp-IsAntisymmetric (key p) (key r) e in
       eqb-false p r d.0 (apart p r (key p) h (there ∙ ap Some (sym same)))) in
-      joins (is_lt (key_order (key p) (key r))) (below_all key_order (key p) (keyed ps))
+      both (is_lt (key_order (key p) (key r))) (below_all key_order (key p) (keyed ps))
       (less_is _ less)
       (below p ps h (All-tail IsUsed r ps all) d.1
       (All-tail (λ r. is_lt (key_order (key r) (key p)) ≡ false) r ps up))
@@ -179,7 +166,7 @@ module _ (keys : PlaceKeys) (apart : IsApart keys) where
       let far : All (λ r. is_lt (key_order (key r) (key p)) ≡ false) ps =
       λ (k : ℕ) (e : ℕ) (l : k < length ps). sorted_far (λ x y. is_lt (key_order (key x) (key y)))
       (ranks_by nat_list_cmp_total key) (p ∷ ps) up 0 (suc k) e (omega arith) (omega arith) in
-      joins (below_all key_order (key p) (keyed ps)) (is_sorted key_order (keyed ps))
+      both (below_all key_order (key p) (keyed ps)) (is_sorted key_order (keyed ps))
       (below p ps (All-head IsUsed p ps all) (All-tail IsUsed p ps all) d.0 far)
       (sorted ps (All-tail IsUsed p ps all) d.1 (λ k e l m.
       let s : suc k + 1 ≡ suc (k + 1) = omega arith in

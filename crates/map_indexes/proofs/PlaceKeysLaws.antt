@@ -1,15 +1,17 @@
 -- Laws of the keys of places: the place of a key is found, and what is there after one was set.
 use Rattle.std.proofs.Common.{◌≡◌, ℕ, zero, suc, ◌+◌, ◌<◌, List, [], ◌∷◌, Option, Some, None, Bool, true, false, cond, length, refl, sym, ap, ◌∙◌, arith, inl, inr, ◌⊎◌}
-use Rattle.std.specs.Prelude.{slice_set}
-use Rattle.std.specs.Cmp.{eq_by_cmp_equiv}
+use Rattle.std.specs.Prelude.{slice_set, replicate}
 use Rattle.std.specs.Cmp.Lexicographic.{nat_list_cmp_total}
 use Rattle.std.specs.FinMap.{find, get, insert, remove, get-insert, get-remove, get-from_entries, same_map, slice_cmp-IsAntisymmetric, nat_cmp-IsAntisymmetric}
 use Rattle.isa_model.specs.Machine.MapContents.{key_order, is_key}
 use Rattle.map_indexes.specs.PlaceKeys.{Places, PlaceKeys, pairs_from, places, key_in, IsDistinct}
 use Rattle.map_indexes.specs.PlaceKeyLaws.{got, is_key-equal}
+pub use Rattle.isa_model.proofs.PutKeys.{is_key-itself}
 
-pub is_key-itself : (k : List ℕ) → is_key k k ≡ true
-is_key-itself k = (eq_by_cmp_equiv nat_list_cmp_total).refl k
+pub key_in-none : (n i : ℕ) → key_in (replicate n None) i ≡ None
+key_in-none zero i = refl
+key_in-none (suc n) zero = refl
+key_in-none (suc n) (suc i) = key_in-none n i
 
 -- a place with this key, which no other place has, is found
 pub find_here : (keys : PlaceKeys) (at i : ℕ) (k : List ℕ) → key_in keys i ≡ Some k

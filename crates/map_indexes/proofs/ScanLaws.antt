@@ -5,18 +5,13 @@ use Rattle.std.specs.Cmp.Lexicographic.{nat_list_cmp_total}
 use Rattle.std.specs.FinMap.{get, len, empty, from_entries, len-insert, len-remove, len-empty}
 use Rattle.isa_model.specs.Machine.MapContents.{key_order}
 use Rattle.map_indexes.specs.PlaceKeys.{PlaceKeys, key_in, pairs_from, places, IsScan, key_count}
-use Rattle.map_indexes.proofs.PlaceKeysLaws.{get_here}
+use Rattle.map_indexes.proofs.PlaceKeysLaws.{get_here, key_in-none}
 use Rattle.map_indexes.proofs.PlaceKeysLaws.{added-distinct, places-added, emptied-distinct, places-emptied}
 use Rattle.map_indexes.specs.ScanLaws.{key_inside}
 
 pairs_from-none : (at n : ℕ) → pairs_from at (replicate n None) ≡ []
 pairs_from-none at zero = refl
 pairs_from-none at (suc n) = pairs_from-none (at + 1) n
-
-key_in-none : (n i : ℕ) → key_in (replicate n None) i ≡ None
-key_in-none zero i = refl
-key_in-none (suc n) zero = refl
-key_in-none (suc n) (suc i) = key_in-none n i
 
 key_count-none : (n : ℕ) → key_count (replicate n None) ≡ 0
 key_count-none zero = refl

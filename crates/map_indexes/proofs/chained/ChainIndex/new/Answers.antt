@@ -5,7 +5,8 @@ use Rattle.map_indexes.proofs.ScanLaws.{places-none}
 use Rattle.map_indexes.specs.Chains.{link_in}
 use Rattle.map_indexes.specs.ChainIndexes.{IsChainIndex}
 use Rattle.map_indexes.specs.Overflow.{found_places, AreRising}
-use Rattle.map_indexes.proofs.ChainIndexesLaws.{chain_index-none, key_in-none}
+use Rattle.map_indexes.proofs.ChainIndexesLaws.{chain_index-none}
+use Rattle.map_indexes.proofs.PlaceKeysLaws.{key_in-none}
 use Rattle.map_indexes.proofs.FoundPlaces.{found_nothing}
 use Rattle.map_indexes.proofs.OverflowLaws.{rising-nil}
 use Rattle.map_indexes.proofs.chained.ChainIndex.new.Goals as goal

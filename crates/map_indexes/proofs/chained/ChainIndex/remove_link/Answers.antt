@@ -8,8 +8,7 @@ use Rattle.map_indexes.proofs.ScanLaws.{scan_some}
 use Rattle.map_indexes.specs.Chains.{link_in}
 use Rattle.map_indexes.specs.ChainIndexes.{IsChainIndex}
 use Rattle.map_indexes.specs.Overflow.{found_places, AreRising}
-use Rattle.map_indexes.proofs.IndexChanges.{some_link, linked_key, link_removed, rising_without, unlinked_without}
-use Rattle.map_indexes.proofs.ListedLinks.{link_own}
+use Rattle.map_indexes.proofs.IndexChanges.{chain_index, some_link, linked_key, link_removed, rising_without, unlinked_without}
 use Rattle.map_indexes.proofs.chained.ChainIndex.remove_link.Goals as goal
 use Rattle.map_indexes.proofs.chained.ChainIndex.remove_link.Goals.{After-remove}
 
@@ -25,9 +24,7 @@ its_key : (c : After-remove) → (key : List ℕ)
 its_key c =
     let s = c.args.self.now in
     let l = link c in
-    linked_key s.keys.by_place s.free.items s.chains.count s.overflow.places.items
-    (link_in s.chains.chains s.chains.nexts) s.index (link_own s.chains.chains s.chains.nexts)
-    s.rising s.unlinked c.args.place l.0 l.1
+    linked_key (chain_index s) c.args.place l.0 l.1
 
 pub clear-requires : goal.clear-requires
 clear-requires c =
@@ -65,8 +62,7 @@ invariant_of-self-clause-index c =
     (found_places (slice_set keys p None) t.count listed led)) (sym c.push_reserved.ensures.items)
     (subst (λ (x : ℕ). IsChainIndex (slice_set keys p None) (free ++ p ∷ []) x
     (found_places (slice_set keys p None) x listed led)) (sym e.count)
-    (link_removed keys free s.chains.count listed (link_in s.chains.chains s.chains.nexts) s.index
-    (link_own s.chains.chains s.chains.nexts) s.rising s.unlinked p k.0 k.1 l.0 l.1 led e.removed (λ j d. e.others j d))))
+    (link_removed (chain_index s) p k.0 k.1 l.0 l.1 led e.removed (λ j d. e.others j d))))
 
 pub invariant_of-self-clause-rising : goal.invariant_of-self-clause-rising
 invariant_of-self-clause-rising c =
@@ -77,9 +73,7 @@ invariant_of-self-clause-rising c =
     let l = link w in
     let k = its_key w in
     subst (λ (x : PlaceKeys). AreRising x s.overflow.places.items) (sym c.clear.ensures.keys)
-    (rising_without s.keys.by_place s.free.items s.chains.count s.overflow.places.items
-    (link_in s.chains.chains s.chains.nexts) s.index (link_own s.chains.chains s.chains.nexts)
-    s.rising s.unlinked c.args.place k.0 k.1 l.0 l.1 (link_in t.chains t.nexts)
+    (rising_without (chain_index s) c.args.place k.0 k.1 l.0 l.1 (link_in t.chains t.nexts)
     e.removed (λ j d. e.others j d))
 
 pub invariant_of-self-clause-unlinked : goal.invariant_of-self-clause-unlinked
@@ -90,9 +84,7 @@ invariant_of-self-clause-unlinked c =
     let w = (goal.at.invariant_of-self-clause-unlinked c).After-remove in
     let l = link w in
     let k = its_key w in
-    unlinked_without s.keys.by_place s.free.items s.chains.count s.overflow.places.items
-    (link_in s.chains.chains s.chains.nexts) s.index (link_own s.chains.chains s.chains.nexts)
-    s.rising s.unlinked c.args.place k.0 k.1 l.0 l.1 (link_in t.chains t.nexts)
+    unlinked_without (chain_index s) c.args.place k.0 k.1 l.0 l.1 (link_in t.chains t.nexts)
     e.removed (λ j d. e.others j d)
 
 pub invariant_of-self-clause-sized : goal.invariant_of-self-clause-sized

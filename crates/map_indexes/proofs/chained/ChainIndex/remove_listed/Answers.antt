@@ -7,8 +7,7 @@ use Rattle.map_indexes.proofs.ScanLaws.{scan_some}
 use Rattle.map_indexes.specs.Chains.{link_in}
 use Rattle.map_indexes.specs.ChainIndexes.{IsChainIndex}
 use Rattle.map_indexes.specs.Overflow.{is_listed, found_places, AreRising, AreUnlinked}
-use Rattle.map_indexes.proofs.IndexChanges.{listed_key, listed_removed, rising_fewer, unlinked_fewer}
-use Rattle.map_indexes.proofs.ListedLinks.{link_own}
+use Rattle.map_indexes.proofs.IndexChanges.{chain_index, listed_key, listed_removed, rising_fewer, unlinked_fewer}
 use Rattle.map_indexes.proofs.OverflowLaws.{listed_at}
 use Rattle.map_indexes.proofs.chained.ChainIndex.remove_listed.Goals as goal
 use Rattle.map_indexes.proofs.chained.ChainIndex.remove_listed.Goals.{After-at-place}
@@ -19,9 +18,7 @@ its_key : (c : After-at-place) → (key : List ℕ)
 its_key c =
     let s = c.args.self.now in
     let listed : List ℕ = s.overflow.places.items in
-    listed_key s.keys.by_place s.free.items s.chains.count listed
-    (link_in s.chains.chains s.chains.nexts) s.index (link_own s.chains.chains s.chains.nexts)
-    s.rising s.unlinked c.at-place.result
+    listed_key (chain_index s) c.at-place.result
     (subst (λ (p : ℕ). is_listed listed p ≡ true) (sym c.at-place.ensures)
     (listed_at listed c.args.i c.requires))
 
@@ -70,8 +67,7 @@ invariant_of-self-clause-index c =
     (found_places (slice_set keys p None) n rest links)) (sym c.push_reserved.ensures.items)
     (subst (λ (x : List ℕ). IsChainIndex (slice_set keys p None) (free ++ p ∷ []) n
     (found_places (slice_set keys p None) n x links)) (sym c.remove.ensures.rest)
-    (listed_removed keys free n listed links s.index (link_own s.chains.chains s.chains.nexts)
-    s.rising s.unlinked p k.0 k.1 c.args.i c.requires (sym c.at-place.ensures))))
+    (listed_removed (chain_index s) p k.0 k.1 c.args.i c.requires (sym c.at-place.ensures))))
 
 pub invariant_of-self-clause-rising : goal.invariant_of-self-clause-rising
 invariant_of-self-clause-rising c =
@@ -82,9 +78,7 @@ invariant_of-self-clause-rising c =
     subst (λ (x : PlaceKeys). AreRising x c.remove.new.self.places.items)
     (sym c.clear.ensures.keys)
     (subst (λ (x : List ℕ). AreRising (slice_set keys p None) x) (sym c.remove.ensures.rest)
-    (rising_fewer keys s.free.items s.chains.count s.overflow.places.items
-    (link_in s.chains.chains s.chains.nexts) s.index (link_own s.chains.chains s.chains.nexts)
-    s.rising s.unlinked p k.0 k.1 c.args.i c.requires (sym c.at-place.ensures)))
+    (rising_fewer (chain_index s) p k.0 k.1 c.args.i c.requires (sym c.at-place.ensures)))
 
 pub invariant_of-self-clause-unlinked : goal.invariant_of-self-clause-unlinked
 invariant_of-self-clause-unlinked c =
@@ -93,9 +87,7 @@ invariant_of-self-clause-unlinked c =
     let k = its_key (goal.at.invariant_of-self-clause-unlinked c).After-at-place in
     subst (λ (x : List ℕ). AreUnlinked (link_in s.chains.chains s.chains.nexts) x)
     (sym c.remove.ensures.rest)
-    (unlinked_fewer s.keys.by_place s.free.items s.chains.count s.overflow.places.items
-    (link_in s.chains.chains s.chains.nexts) s.index (link_own s.chains.chains s.chains.nexts)
-    s.rising s.unlinked p k.0 k.1 c.args.i c.requires (sym c.at-place.ensures))
+    (unlinked_fewer (chain_index s) p k.0 k.1 c.args.i c.requires (sym c.at-place.ensures))
 
 pub invariant_of-self-clause-sized : goal.invariant_of-self-clause-sized
 invariant_of-self-clause-sized c =
