@@ -127,10 +127,6 @@ content-added size n P P' block k v p long whole inside takes =
     (λ q t. at q ∙ ap (λ (b : Bool). cond b (Some p) (get P q)) t)
     (λ q t e. takes.free q e)
 
-negated : {A : Type 0} (b : Bool) (x y : A) → cond (not b) x y ≡ cond b y x
-negated true x y = refl
-negated false x y = refl
-
 -- a key is removed
 pub content-removed : (size : ℕ) (P : Places) (block k : List ℕ)
     → content size (remove P k) block ≡ without_key k (content size P block)
@@ -146,7 +142,9 @@ content-removed size P block k =
     ∙ ap (cond (is_key q k) None) (sym (at_key-content size P block q))
     ∙ ap (λ (b : Bool). cond b None (at_key q (content size P block)))
     ((eq_by_cmp_equiv nat_list_cmp_total).symm q k)
-    ∙ sym (negated (is_key k q) (at_key q (content size P block)) None)
+    ∙ elim (is_key k q) as (λ b. cond b None (at_key q (content size P block))
+    ≡ cond (not b) (at_key q (content size P block)) None)
+    [ true ↦ refl | false ↦ refl ]
     ∙ sym (find-where_key key_order (λ x. not (is_key k x)) q
     (λ x e. ap (λ (y : List ℕ). not (is_key k y))
     (sym (slice_cmp-IsAntisymmetric nat_cmp-IsAntisymmetric q x e))) (content size P block)))

@@ -1,6 +1,6 @@
 -- A key's place among the places of all other keys, in the order of the keys.
 use Rattle.std.proofs.Common.{◌≡◌, ℕ, zero, suc, ◌+◌, ◌<◌, ◌≤◌, List, [], ◌∷◌, ◌++◌, Some, None, Bool, true, false, cond, map, take, drop, length, refl, sym, ap, subst, ◌∙◌, arith, inl, inr}
-use Rattle.std.specs.Prelude.{◌≢◌, T, ◌&&◌, slice_index_or}
+use Rattle.std.specs.Prelude.{◌≢◌, T, slice_index_or}
 use Rattle.std.specs.List.{insert}
 use Rattle.std.specs.Ordering.{is_lt, ordering_reverse}
 use Rattle.std.specs.declared.cmp.Ordering.{Ordering}
@@ -15,6 +15,7 @@ use Rattle.map_indexes.specs.BlockRowLaws.{below_or_above}
 use Rattle.std.proofs.lemmas.List.{length-map}
 use Rattle.std.proofs.lemmas.Option.{slice_get-get_or}
 use Rattle.isa_model.specs.Machine.MapContents.{key_order, is_key}
+use Rattle.isa_model.proofs.TestLaws.{both_parts, less_is, is_less}
 use Rattle.map_indexes.specs.PlaceKeys.{Places, PlaceKeys, key_in, places}
 use Rattle.map_indexes.specs.PlaceKeyLaws.{got, is_key-equal}
 use Rattle.map_indexes.proofs.PlaceKeysLaws.{is_key-itself}
@@ -33,21 +34,13 @@ pair_in es j = slice_index_or es j no_key
 abbrev pub IsBelow : List ℕ → List ℕ → Type 0
 IsBelow j k = T (is_lt (key_order j k))
 
-less_is : (r : Ordering) → T (is_lt r) → r ≡ Less
-less_is Less t = refl
-less_is Equal t = absurd t
-less_is Greater t = absurd t
-
-is_less : (r : Ordering) → r ≡ Less → T (is_lt r)
-is_less r e = subst (λ (o : Ordering). T (is_lt o)) (sym e) tt
-
 reversed : (j k : List ℕ) → IsBelow j k → key_order k j ≡ Greater
-reversed j k l = nat_list_cmp_total.antisymm k j ∙ ap ordering_reverse (less_is (key_order j k) l)
+reversed j k l = nat_list_cmp_total.antisymm k j ∙ ap ordering_reverse (is_less (key_order j k) l)
 
 pub below-below : (j k l : List ℕ) → IsBelow j k → IsBelow k l → IsBelow j l
 below-below j k l a b =
-    is_less (key_order j l)
-    (nat_list_cmp_total.trans j k l (less_is (key_order j k) a) (less_is (key_order k l) b))
+    less_is (key_order j l)
+    (nat_list_cmp_total.trans j k l (is_less (key_order j k) a) (is_less (key_order k l) b))
 
 -- what is neither below nor equal is above
 not_below : (r : Ordering) → is_lt r ≡ false → r ≢ Equal → ordering_reverse r ≡ Less
@@ -57,7 +50,7 @@ not_below Greater e d = refl
 
 pub below_else_above : (j k : List ℕ) → is_lt (key_order j k) ≡ false → j ≢ k → IsBelow k j
 below_else_above j k e d =
-    is_less (key_order k j) (nat_list_cmp_total.antisymm k j
+    less_is (key_order k j) (nat_list_cmp_total.antisymm k j
     ∙ not_below (key_order j k) e
     (λ same. d (slice_cmp-IsAntisymmetric nat_cmp-IsAntisymmetric j k same)))
 
@@ -70,7 +63,7 @@ put_at key p [] zero l below after = refl
 put_at key p [] (suc r) l below after = absurd (omega arith)
 put_at key p (e ∷ es) zero l below after =
     let first : key_order key e.0 ≡ Less =
-    less_is (key_order key e.0) (after 0 (omega arith) (omega arith)) in
+    is_less (key_order key e.0) (after 0 (omega arith) (omega arith)) in
     ap (λ (o : Ordering). by_order o ((key, p) ∷ e ∷ es) ((e.0, p) ∷ es)
     (e ∷ put key_order key p es)) first
 put_at key p (e ∷ es) (suc r) l below after =
@@ -81,14 +74,6 @@ put_at key p (e ∷ es) (suc r) l below after =
     (put_at key p es r (omega arith) (λ j m. below (suc j) (omega arith))
     (λ j m n. after (suc j) (omega arith) (omega arith)))
 
-first_of : (a b : Bool) → T (a && b) → T a
-first_of true b t = tt
-first_of false b t = absurd t
-
-second_of : (a b : Bool) → T (a && b) → T b
-second_of true b t = t
-second_of false b t = absurd t
-
 -- the keys of a sorted list rise
 pub rising : (es : Keyed) → T (is_sorted key_order es) → (i j : ℕ) → i < j → j < length es
     → IsBelow (pair_in es i).0 (pair_in es j).0
@@ -96,10 +81,10 @@ rising [] s i j l m = absurd (omega arith)
 rising (e ∷ es) s i zero l m = absurd (omega arith)
 rising (e ∷ es) s zero (suc j) l m =
     above e.0 es j (pair_in es j)
-    (first_of (below_all key_order e.0 es) (is_sorted key_order es) s)
+    (both_parts (below_all key_order e.0 es) (is_sorted key_order es) s).0
     (slice_get-get_or es j no_key (omega arith))
 rising (e ∷ es) s (suc i) (suc j) l m =
-    rising es (second_of (below_all key_order e.0 es) (is_sorted key_order es) s) i j (omega arith)
+    rising es (both_parts (below_all key_order e.0 es) (is_sorted key_order es) s).1 i j (omega arith)
     (omega arith)
 
 pub length-values_of : (P : Places) → length (values P) ≡ length (entries P)

@@ -3,7 +3,7 @@ use Rattle.std.proofs.Common.{◌≡◌, ℕ, zero, suc, ◌+◌, ◌^◌, ◌<�
 use Rattle.std.proofs.lemmas.Bool.{cases_lt}
 use Rattle.std.proofs.lemmas.List.FromFn.{get_or-range_with_len, length-range_with_len}
 use Rattle.std.proofs.lemmas.Option.{slice_get-map, slice_get-get_or, slice_get_past}
-use Rattle.std.specs.Prelude.{T, ◌&&◌, is_some}
+use Rattle.std.specs.Prelude.{T, is_some}
 use Rattle.std.specs.Cmp.Lexicographic.{nat_list_cmp_total}
 use Rattle.std.specs.FinMap.{entries, entries_sorted, find, get, get-entries, is_sorted, values}
 use Rattle.std.specs.FinMap.Entries.{below_all}
@@ -18,6 +18,7 @@ use Rattle.isa_model.specs.declared.map_defs.MapType.TheVariants.{Hash, Array}
 use Rattle.isa_model.specs.Machine.MapContents.{key_order, is_key}
 use Rattle.isa_model.specs.Machine.States.{KeyValues}
 use Rattle.isa_model.specs.Reporting.Reports.{in_report_order, key_value_by_index}
+use Rattle.isa_model.proofs.TestLaws.{both_parts}
 use Rattle.maps.specs.declared.either.EitherIndex.{EitherIndex}
 use Rattle.maps.specs.declared.either.EitherIndex.TheVariants as either
 use Rattle.map_indexes.proofs.ArrayLaws.{get_index}
@@ -74,14 +75,6 @@ listed-past n k l =
     ∙ ap (option_map (λ (i : ℕ). (little_bytes 4 i, i)))
     (slice_get_past (range_with_len 0 n) k (omega arith))
 
-first_of : (a b : Bool) → T (a && b) → T a
-first_of true b t = tt
-first_of false b t = absurd t
-
-second_of : (a b : Bool) → T (a && b) → T b
-second_of true b t = t
-second_of false b t = absurd t
-
 behind_less : (r : Ordering) → T (is_lt r) → is_eq (ordering_reverse r) ≡ false
 behind_less Less t = refl
 behind_less Equal t = absurd t
@@ -93,9 +86,9 @@ above x [] k e b g = absurd (cc)
 above x (y ∷ es) zero e b g =
     let same : y ≡ e = cc in
     subst (λ (z : List ℕ × ℕ). T (is_lt (key_order x z.0))) same
-    (first_of (is_lt (key_order x y.0)) (below_all key_order x es) b)
+    (both_parts (is_lt (key_order x y.0)) (below_all key_order x es) b).0
 above x (y ∷ es) (suc k) e b g =
-    above x es k e (second_of (is_lt (key_order x y.0)) (below_all key_order x es) b) g
+    above x es k e (both_parts (is_lt (key_order x y.0)) (below_all key_order x es) b).1 g
 
 placed : (es : List (List ℕ × ℕ)) (k : ℕ) (e : List ℕ × ℕ) → T (is_sorted key_order es)
     → slice_get es k ≡ Some e → find key_order e.0 es ≡ Some e.1
@@ -107,11 +100,11 @@ placed (x ∷ es) zero e s g =
     ∙ ap (λ (z : List ℕ × ℕ). Some z.1) same
 placed (x ∷ es) (suc k) e s g =
     let less =
-    above x.0 es k e (first_of (below_all key_order x.0 es) (is_sorted key_order es) s) g in
+    above x.0 es k e (both_parts (below_all key_order x.0 es) (is_sorted key_order es) s).0 g in
     let other : is_key e.0 x.0 ≡ false =
     ap is_eq (nat_list_cmp_total.antisymm e.0 x.0) ∙ behind_less (key_order x.0 e.0) less in
     ap (λ (b : Bool). cond b (Some x.1) (find key_order e.0 es)) other
-    ∙ placed es k e (second_of (below_all key_order x.0 es) (is_sorted key_order es) s) g
+    ∙ placed es k e (both_parts (below_all key_order x.0 es) (is_sorted key_order es) s).1 g
 
 -- a key that is listed has its place
 pub get_at : (m : Places) (k : ℕ) (e : List ℕ × ℕ) → slice_get (entries m) k ≡ Some e
