@@ -1,13 +1,11 @@
 -- The text of what maps hold fills new maps of the same rows with the same: keys and values that
 -- are put in one after another.
 use Rattle.std.proofs.Common.{◌≡◌, ◌≢◌, ℕ, zero, suc, ◌+◌, ◌<◌, ◌≤◌, ◌⊎◌, inl, inr, List, [], ◌∷◌, length, get_or, Option, Some, None, is_some, Bool, true, false, cond, refl, sym, ap, ◌∙◌, subst, arith}
-use Rattle.std.specs.Prelude.{◌&&◌, T, All, Contains, nat_le, nat_eq}
+use Rattle.std.specs.Prelude.{T, All, Contains, nat_le, nat_eq}
 use Rattle.std.specs.List.{filter_map, cons_option, range_with_len}
 use Rattle.std.specs.Option.{option_map}
 use Rattle.std.specs.Ordering.{is_lt, is_eq}
 use Rattle.std.specs.declared.cmp.Ordering.{Ordering}
-use Rattle.std.specs.declared.cmp.Ordering.TheVariants.{Less, Equal, Greater}
-use Rattle.std.specs.Cmp.{eq_by_cmp_equiv}
 use Rattle.std.specs.Cmp.Lexicographic.{nat_list_cmp_total}
 use Rattle.std.specs.FinMap.{slice_cmp-IsAntisymmetric, nat_cmp-IsAntisymmetric}
 use Rattle.std.specs.FinMap.Entries.{below_all, is_sorted, is_sorted-put, find-put, same_entries}
@@ -22,35 +20,19 @@ use Rattle.isa_model.specs.Machine.MachineStates.{AreBytes, FitsRow, IsKeyValue,
 use Rattle.isa_model.specs.Machine.States.{KeyValues}
 use Rattle.isa_model.specs.Reporting.Reports.{in_report_order, key_value_by_index, starting_key_values}
 use Rattle.isa_model.specs.Code.MapRows.{IsRow, KeyFits}
-use Rattle.isa_model.proofs.PutKeys.{Contains-has_key, has_key-after_with_key, length-with_key}
+use Rattle.isa_model.proofs.PutKeys.{Contains-has_key, has_key-after_with_key, length-with_key, is_key-itself}
 use Rattle.isa_model.proofs.ContentLaws.{is_sorted-IsStrictlySortedBy}
 use Rattle.isa_model.proofs.ValueLaws.{slice_index_fits}
 use Rattle.isa_model.proofs.LittleEndianLaws.{little_bytes-little_from}
 use Rattle.map_texts.proofs.Listing.{filtered}
 use Rattle.isa_model.proofs.StartingContents.{FitsRow-starting_key_values}
+use Rattle.isa_model.proofs.TestLaws.{both_parts, is_less, is_equal}
 
 -- ---- keys that are equal
-
-is_equal : (o : Ordering) → is_eq o ≡ true → o ≡ Equal
-is_equal Less h = absurd (cc)
-is_equal Equal h = refl
-is_equal Greater h = absurd (cc)
-
-is_less : (o : Ordering) → T (is_lt o) → o ≡ Less
-is_less Less h = refl
-is_less Equal h = absurd h
-is_less Greater h = absurd h
-
-both_parts : (a b : Bool) → T (a && b) → T a × T b
-both_parts true b h = (tt, h)
-both_parts false b h = absurd h
 
 same_key : (q k : List ℕ) → is_key q k ≡ true → q ≡ k
 same_key q k e =
     slice_cmp-IsAntisymmetric nat_cmp-IsAntisymmetric q k (is_equal (key_order q k) e)
-
-own_key : (k : List ℕ) → is_key k k ≡ true
-own_key k = (eq_by_cmp_equiv nat_list_cmp_total).refl k
 
 below_none : (q : List ℕ) (es : KeyValues) → T (below_all key_order q es) → at_key q es ≡ None
 below_none q [] h = refl
@@ -69,7 +51,7 @@ each_own (e ∷ es) h =
     let (below, rest) = both_parts (below_all key_order e.0 es) (is_sorted key_order es) h in
     let none = below_none e.0 es below in
     All-cons (IsIn (e ∷ es)) e es
-    (ap (λ (b : Bool). cond b (Some e.1) (at_key e.0 es)) (own_key e.0))
+    (ap (λ (b : Bool). cond b (Some e.1) (at_key e.0 es)) (is_key-itself e.0))
     (All-weaker (IsIn es) (IsIn (e ∷ es))
     (λ f g. elim (is_key f.0 e.0) as (λ t. is_key f.0 e.0 ≡ t
     → cond t (Some e.1) (at_key f.0 es) ≡ Some f.1) [
@@ -84,7 +66,7 @@ has_at : (k : List ℕ) (es : KeyValues) (j : ℕ) → j < length es
 has_at k [] j inside d e = absurd (omega arith)
 has_at k (x ∷ es) zero inside d e =
     ap (λ (b : Bool). is_some (cond b (Some x.1) (at_key k es)))
-    (subst (λ (q : List ℕ). is_key q x.0 ≡ true) e (own_key x.0))
+    (subst (λ (q : List ℕ). is_key q x.0 ≡ true) e (is_key-itself x.0))
 has_at k (x ∷ es) (suc j) inside d e =
     elim (is_key k x.0) as (λ t. is_some (cond t (Some x.1) (at_key k es)) ≡ true) [
       | true ↦ refl
@@ -227,7 +209,7 @@ in_range es i v there first (suc count) low high =
           let here : key_value_by_index es first ≡ Some (key, v) =
           ap (key_value_by_index es) same ∙ ap (option_map (λ value. (key, value))) there in
           ap (λ (o : Option (List ℕ × List ℕ)). has_key key (cons_option o rest)) here
-          ∙ ap (λ (b : Bool). is_some (cond b (Some v) (at_key key rest))) (own_key key)
+          ∙ ap (λ (b : Bool). is_some (cond b (Some v) (at_key key rest))) (is_key-itself key)
       | false ↦ λ t.
           let apart : first ≢ i = grind arith in
           let later = in_range es i v there (first + 1) count (omega arith) (omega arith) in

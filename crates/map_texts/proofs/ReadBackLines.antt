@@ -9,15 +9,14 @@ use Rattle.std.proofs.lemmas.Fmt.{decimal_by_steps}
 use Rattle.hex.specs.Hex.{encode_with, encode_lower, lower_digits, hex_digit_value}
 use Rattle.hex.proofs.HexLemmas.{IsDigits-lower_digits, length-encode_with, decode_of-encode_lower}
 use Rattle.isa_model.specs.declared.map_defs.MapDef.{MapDef}
-use Rattle.isa_model.specs.declared.map_defs.MapType.{MapType}
-use Rattle.isa_model.specs.declared.map_defs.MapType.TheVariants.{Hash, Array}
-use Rattle.isa_model.specs.Code.MapRows.{KeyFits, IsRow}
+use Rattle.isa_model.specs.Code.MapRows.{IsRow}
 use Rattle.isa_model.specs.Machine.MachineStates.{AreBytes, IsKeyValue}
 use Rattle.isa_model.specs.Reporting.Reports.{map_line}
 use Rattle.map_texts.specs.Lines.{is_digit, is_field_byte, field, after_field, number_from, field_number, field_bytes, line_size, longest_from, longest_line, index_field, key_field, value_field, key_column, line_meaning, Update}
 use Rattle.map_texts.specs.Fillings.{is_line_feed}
 use Rattle.map_texts.specs.Progress.{NoFeed, HasNoFeed}
 use Rattle.isa_model.proofs.ValueLaws.{slice_index_fits}
+use Rattle.isa_model.proofs.MapRowsLaws.{KeyFits-some}
 
 -- ---- bytes of fields
 
@@ -146,10 +145,6 @@ bytes_read bytes h some =
     let t : nat_eq (length (encode_lower bytes)) 0 ≡ false = grind arith in
     let d = decode_of-encode_lower bytes (slice_index_fits bytes h) in
     rw t (ap result_ok d)
-
-KeyFits-some : (kind : MapType) (n : ℕ) → KeyFits kind n → 0 < n
-KeyFits-some Hash n h = omega arith
-KeyFits-some Array n h = omega arith
 
 size-longest_from : (n : ℕ) (rows : List MapDef) (i : ℕ) (row : MapDef)
     → slice_get rows i ≡ Some row → line_size (n + i) row ≤ longest_from n rows

@@ -1,4 +1,4 @@
-use Rattle.std.proofs.Common.{arith, ◌≡◌, ◌+◌, ◌-◌, ◌≤◌, ℕ, List, ◌++◌, take, length, length-take, append-nil, le_refl, sym, ap, ◌∙◌, subst}
+use Rattle.std.proofs.Common.{arith, ◌≡◌, ◌+◌, ◌-◌, ◌≤◌, ℕ, List, ◌++◌, take, length, length-take, append-nil, le_refl, ap, ◌∙◌, subst}
 use Rattle.std.specs.Io.KnownBytes.{Consumes}
 use Rattle.std.proofs.KnownBytes.{Consumes-trans}
 use Rattle.std.proofs.lemmas.Slice.{take-put_mid_below}
@@ -27,10 +27,11 @@ returns-then-count-eq0 g c =
     ap (λ (n : ℕ). inv.read ++ take n c.read.new.buf) c.if-count-eq0.true
     ∙ append-nil inv.read in
     let line = take len (put_mid len (16384 - len) buffer c.read.new.buf) in
-    let front : line ≡ take len buffer = take-put_mid_below _ _ _ _ _ (le_refl _) within in
+    let front : line ≡ take len buffer = take-put_mid_below len (16384 - len) buffer c.read.new.buf len
+    (le_refl len) within in
     at_end source now inv.read
     (subst (Consumes source now) nothing
-    (Consumes-trans _ _ _ _ _ inv.consumed c.in-Ok.ensures.bytes.0))
+    (Consumes-trans _ _ _ inv.read _ inv.consumed c.in-Ok.ensures.bytes.0))
     old c.loop-reads.maps number (take len buffer) inv.rows inv.is_pending inv.goes_on
     c.take_line.new.maps c.take_line.result
     (c.in-Ok.ensures.bytes.1 c.if-count-eq0.true (omega arith))
@@ -55,7 +56,7 @@ returns-in-Err-take_bytes g c =
     let bytes = take (len + count) (put_mid len (16384 - len) buffer c.read.new.buf) in
     at_refusal (g.R.Read.remaining c.args.source.now) (g.R.Read.remaining c.read.new.self)
     (inv.read ++ chunk)
-    (Consumes-trans _ _ _ _ _ inv.consumed c.in-Ok.ensures.bytes.0)
+    (Consumes-trans _ _ _ inv.read _ inv.consumed c.in-Ok.ensures.bytes.0)
     old c.loop-reads.maps c.take_bytes.new.maps number bytes c.in-Err-take_bytes.error
     (c.in-Err-take_bytes.ensures.rows ∙ inv.rows)
     (read_on rows 1 number (contents_of old) held inv.read buffer c.read.new.buf len (16384 - len)
@@ -109,6 +110,6 @@ loop-reads-preserved g c =
       few = let before_few = inv.few in omega arith;
       is_pending = state.is_pending;
       read = inv.read ++ chunk;
-      consumed = Consumes-trans _ _ _ _ _ inv.consumed c.in-Ok.ensures.bytes.0;
+      consumed = Consumes-trans _ _ _ inv.read _ inv.consumed c.in-Ok.ensures.bytes.0;
       goes_on = λ ending more. before ending more ∙ step ending more;
     }
