@@ -17,15 +17,11 @@ use Rattle.rechecking.specs.Changes.{is_kind_kept, is_slot_kept, FirstHave, AreS
 
 -- ---- the first elements
 
-same_element : {X : Type 0} (xs : List X) (i j : ℕ) (x y : X) → i ≡ j → slice_get xs i ≡ Some x
-    → slice_get xs j ≡ Some y → x ≡ y
-same_element xs i j x y same h k = cc
-
 -- one more has the property
 pub FirstHave-next : {X : Type 0} (P : X → Type 0) (i : ℕ) (xs : List X) (x : X)
     → slice_get xs i ≡ Some x → P x → FirstHave P i xs → FirstHave P (i + 1) xs
 FirstHave-next P i xs x at has before = λ k y less there. elim (cases_eq k i) [
-  | inl same ↦ subst P (same_element xs i k x y (omega arith) at there) has
+  | inl same ↦ let one : x ≡ y = cc in subst P one has
   | inr other ↦ before k y (omega arith) there
 ]
 

@@ -83,44 +83,14 @@ limits_of-some l g h = of (decide_z l g) where
   of (inl o) = refl
   of (inr refuted) = absurd (refuted h)
 
-pub wide_of-made : (l g : ℕ) (s t s' t' : ℤ) (o : l ≤ g) (p : s' ≤ℤ t') → s' ≡ s → t' ≡ t
-    → Some (record {
-      least = l;
-      greatest = g;
-      signed_least = s';
-      signed_greatest = t';
-      ordered = o;
-      signed_ordered = p;
-    }) ≡ wide_of l g s t
-wide_of-made l g s t s' t' o p e f =
-    let w : Wide =
-    record {
-      least = l;
-      greatest = g;
-      signed_least = s';
-      signed_greatest = t';
-      ordered = o;
-      signed_ordered = p;
-    } in
-    sym (wide_of-is w) ∙ ap (λ (z : ℤ). wide_of l g z t') e ∙ ap (wide_of l g s) f
+pub wide_of-made : (w : Wide) (s t : ℤ) → w.signed_least ≡ s → w.signed_greatest ≡ t
+    → Some w ≡ wide_of w.least w.greatest s t
+wide_of-made w s t e f =
+    sym (wide_of-is w) ∙ ap (λ (z : ℤ). wide_of w.least w.greatest z w.signed_greatest) e
+    ∙ ap (wide_of w.least w.greatest s) f
 
-pub low_of-made : (l g : ℕ) (s t s' t' : ℤ) (o : l ≤ g) (p : s' ≤ℤ t') → s' ≡ s → t' ≡ t
-    → Some (record {
-      least = l;
-      greatest = g;
-      signed_least = s';
-      signed_greatest = t';
-      ordered = o;
-      signed_ordered = p;
-    }) ≡ low_of l g s t
-low_of-made l g s t s' t' o p e f =
-    let w : Low =
-    record {
-      least = l;
-      greatest = g;
-      signed_least = s';
-      signed_greatest = t';
-      ordered = o;
-      signed_ordered = p;
-    } in
-    sym (low_of-is w) ∙ ap (λ (z : ℤ). low_of l g z t') e ∙ ap (low_of l g s) f
+pub low_of-made : (w : Low) (s t : ℤ) → w.signed_least ≡ s → w.signed_greatest ≡ t
+    → Some w ≡ low_of w.least w.greatest s t
+low_of-made w s t e f =
+    sym (low_of-is w) ∙ ap (λ (z : ℤ). low_of w.least w.greatest z w.signed_greatest) e
+    ∙ ap (low_of w.least w.greatest s) f

@@ -29,10 +29,6 @@ taken_get (suc n) (y ∷ xs) (suc j) x h =
     let less = more.0 in
     (omega arith, more.1)
 
-same_there : {X : Type 0} (xs : List X) (i j : ℕ) (x y : X) → i ≡ j → slice_get xs i ≡ Some x
-    → slice_get xs j ≡ Some y → x ≡ y
-same_there xs i j x y same h k = cc
-
 -- nothing is known
 pub SpellFrames-none : (rows : ℕ) (frames : List AbstractFrame) → SpellFrames rows [] frames
 SpellFrames-none rows frames = λ holder f there s known. absurd (cc)
@@ -57,7 +53,7 @@ SpellFrames-notes rows holder f frames old new at spelled (inr (s, end, spells, 
       | inl before ↦ spelled j g there t before
       | inr last ↦
           let index : j ≡ holder = last.0 ∙ end in
-          let frame : g ≡ f = same_there frames j holder g f index there at in
+          let frame : g ≡ f = cc in
           subst (λ (i : ℕ). SpellsFrame rows i t.bytes.now g) (sym index)
           (subst (λ (h : AbstractFrame). SpellsFrame rows holder t.bytes.now h) (sym frame)
           (subst (λ (u : FrameBytes). SpellsFrame rows holder u.bytes.now f) (sym last.1) spells))

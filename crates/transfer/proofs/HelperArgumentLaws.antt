@@ -6,8 +6,6 @@ use Rattle.std.proofs.lemmas.Bool.{le-leb}
 use Rattle.std.proofs.lemmas.Int.{ints}
 use Rattle.std.proofs.lemmas.List.{length-map}
 use Rattle.isa_model.specs.Code.Limits.{stack_size}
-use Rattle.isa_model.specs.declared.map_defs.MapType.{MapType}
-use Rattle.isa_model.specs.declared.map_defs.MapType.TheVariants.{Hash, Array}
 use Rattle.isa_model.specs.declared.map_defs.MapDef.{MapDef}
 use Rattle.isa_model.specs.declared.values.Region.TheVariants as region
 use Rattle.isa_model.specs.declared.values.Value.{Value}
@@ -15,7 +13,6 @@ use Rattle.isa_model.specs.declared.values.Value.TheVariants.{Ptr}
 use Rattle.isa_model.specs.declared.values.Cell.{Cell}
 use Rattle.isa_model.specs.declared.values.Cell.TheVariants.{Byte}
 use Rattle.isa_model.specs.Code.Instructions.{Program}
-use Rattle.isa_model.specs.Code.MapRows.{KeyFits}
 use Rattle.isa_model.specs.Machine.States.{content_of, call_frame_at, new_call_frame}
 use Rattle.isa_model.specs.Machine.States as Machine
 use Rattle.isa_model.specs.Machine.Memory.{and_then, is_byte, byte_in, index_from, index_at, key_value_at, read}
@@ -190,7 +187,3 @@ known_points p e a s (MapValue j least greatest) v n some m allowed h =
     (value_points p s j allowed.serial n allowed.offset
     (subst (λ y. HasBytesAt p s j allowed.serial y n) (no_move allowed.offset) at))
 known_points p e a s k v n some m allowed h = absurd h
-
-pub some_key : (kind : MapType) (n : ℕ) → KeyFits kind n → 0 < n
-some_key Hash n h = omega arith
-some_key Array n h = omega arith

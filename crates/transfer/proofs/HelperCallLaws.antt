@@ -21,6 +21,7 @@ use Rattle.isa_model.specs.Machine.MapHelpers.{Helped, map_lookup_elem, map_upda
 use Rattle.isa_model.specs.Machine.HelperCalls.{map_argument, BytesArgument, bytes_argument, number_argument, bytes_at, lookup_call, update_call, delete_call, ktime_get_ns, helper_call, answered, after_call}
 use Rattle.isa_model.proofs.HelperStates.{IsHelped, helper_call_fits, IsState-answered}
 use Rattle.isa_model.proofs.HelperLaws.{row_within}
+use Rattle.isa_model.proofs.MapRowsLaws.{KeyFits-some}
 use Rattle.reg_state.specs.declared.kinds.Kind.{Kind}
 use Rattle.reg_state.specs.declared.kinds.Kind.TheVariants.{MapValueOrNull}
 use Rattle.reg_state.specs.Kinds.{Assigned, Allows}
@@ -37,7 +38,7 @@ use Rattle.transfer.specs.Refusing.{is_untested}
 use Rattle.transfer.proofs.StackAccessLaws.{ContinuesIn}
 use Rattle.transfer.proofs.ValueLaws.{GoesIntoSome}
 use Rattle.transfer.specs.HelperCalls.{called_map, points_to_bytes, is_number, key_arguments, update_arguments, KeyIsKnown, ValueIsKnown, AnswersNumber, AnswersValue, without_values, LeavesIf, StepsHelper, CallsHelper}
-use Rattle.transfer.proofs.HelperArgumentLaws.{argument_of, map_called, judged_map, flags_there, last_of, known_points, some_key}
+use Rattle.transfer.proofs.HelperArgumentLaws.{argument_of, map_called, judged_map, flags_there, last_of, known_points}
 
 -- ---- what the machine does
 
@@ -64,7 +65,7 @@ key_read p e a s m rows means is known =
     let row : IsRow m.row = row_within p.maps m.index m.row named rows in
     let (at, there, bytes) =
     known_points p e a s (kind_of a R2) (reg s R2) m.row.key_size
-    (some_key m.row.kind m.row.key_size row.key) means
+    (KeyFits-some m.row.kind m.row.key_size row.key) means
     (reg_allowed p e a s means R2) known in
     record {
       named = named;

@@ -1,13 +1,13 @@
 -- Forms that set a register: the successor with the kind in that register means the machine's
 -- next state.
-use Rattle.std.specs.Prelude.{◌≡◌, ◌≢◌, ℕ, ◌+◌, ◌<◌, pos, false, length, Some, Result, Ok, Err, refl}
+use Rattle.std.specs.Prelude.{◌≡◌, ◌≢◌, ℕ, ◌+◌, pos, false, length, Some, Result, Ok, Err, refl}
 use Rattle.std.specs.List.{list_any}
 use Rattle.std.proofs.Common.{sym, ap, subst, arith}
 use Rattle.std.proofs.lemmas.Bool.{or_parts}
 use Rattle.std.proofs.lemmas.List.{get_or-set_same}
 use Rattle.isa_model.specs.declared.sizes.Width.{Width}
 use Rattle.isa_model.specs.declared.registers.Reg.{Reg}
-use Rattle.isa_model.specs.declared.registers.Reg.TheVariants.{R0, R10}
+use Rattle.isa_model.specs.declared.registers.Reg.TheVariants.{R10}
 use Rattle.isa_model.specs.declared.instructions.AluOp.{AluOp}
 use Rattle.isa_model.specs.declared.instructions.AluOp.TheVariants.{Mov}
 use Rattle.isa_model.specs.declared.instructions.Operand.{Operand}
@@ -33,6 +33,7 @@ use Rattle.isa_model.specs.Machine.MachineStates.{IsState, IsValue}
 use Rattle.isa_model.proofs.ValueLaws.{unsigned_fits}
 use Rattle.isa_model.proofs.StateLaws.{reg_fits}
 use Rattle.isa_model.proofs.StepLaws.{IfNext}
+use Rattle.isa_model.proofs.RegisterLaws.{reg_number-below}
 use Rattle.reg_state.specs.declared.kinds.Kind.{Kind}
 use Rattle.reg_state.specs.declared.kinds.Kind.TheVariants as kind
 use Rattle.reg_state.specs.Kinds.{Assigned, Allows}
@@ -179,10 +180,6 @@ puts_yields p clock e a s (LoadSx size x place) d k fits m set written names h =
     )
 puts_yields p clock e a s i d k fits m set written names h = absurd h
 
-below_eleven : (r : Reg) → reg_number r < 11
-below_eleven R0 = omega arith
-below_eleven r = omega arith
-
 -- where a kind allows the value that is put into a register, the machine's next state is a member
 -- of the state with that kind in the register
 sets_goes : (p : Program) (clock : ℕ → ℕ) (e : Assigned) (a : State) (s : Machine.State) (i : Insn)
@@ -195,7 +192,7 @@ sets_goes p clock e a s i d k (Ok v) keeps m own is yields =
     let t : Machine.State = Machine.go_to (set_reg s d v) n in
     let t_is : IsState p t = subst (λ r. IfNext r (IsState p)) is keeps in
     let eleven = m.is_state.registers in
-    let within = below_eleven d in
+    let within = reg_number-below d in
     let held : reg t d ≡ v = get_or-set_same s.regs (reg_number d) v value.Unset (omega arith) in
     let v_fits : IsValue (length p.maps) s.next_serial v =
     subst (IsValue (length p.maps) s.next_serial) held (reg_fits p t d t_is) in

@@ -21,4 +21,4 @@ invariant_of-result c =
     record { ordered = omega arith; signed_ordered = omega (arith, ints) }
 
 pub returns : goal.returns
-returns c = wide_of-made _ _ _ _ _ _ _ _ (omega (arith, ints)) (omega (arith, ints))
+returns c = wide_of-made _ _ _ (omega (arith, ints)) (omega (arith, ints))
