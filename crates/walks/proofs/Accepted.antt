@@ -7,7 +7,7 @@ use Rattle.isa_model.specs.declared.registers.Reg.{Reg}
 use Rattle.isa_model.specs.declared.registers.Reg.TheVariants.{R10}
 use Rattle.isa_model.specs.declared.instructions.Insn.{Insn}
 use Rattle.isa_model.specs.declared.instructions.Insn.TheVariants.{CallLocal, Exit}
-use Rattle.isa_model.specs.Code.Instructions.{Program, fetch, slots_filled, reads, writes, is_frame_pointer}
+use Rattle.isa_model.specs.Code.Instructions.{Program, fetch, slots_filled, reads, writes}
 use Rattle.isa_model.specs.Machine.Steps.{destination}
 use Rattle.isa_model.specs.Machine.Successors.{falls_through, jump_distance}
 use Rattle.reg_state.specs.declared.kinds.Kind.{Kind}
@@ -33,6 +33,7 @@ use Rattle.walks.specs.Refused.{StartTakes, IsRefused}
 use Rattle.walks.specs.Accepting.{IsOutOfMemory}
 use Rattle.walks.specs.Forgetting.{Exact, Coarse}
 use Rattle.isa_model.specs.MustAccept.Paths.{IsPlainForm, Each, IsOneOf, needs, PathTo, IsWhole}
+use Rattle.isa_model.proofs.InstructionLaws.{is_frame_pointer-other}
 
 -- ---- control flow
 
@@ -185,18 +186,13 @@ all_set s (r ∷ rs) h =
     let rest = all_set s rs h.1 in
     rw (first, rest) refl
 
-pub own_register : (o : Option Reg) → o ≢ Some R10 → is_frame_pointer o ≡ false
-own_register None own = refl
-own_register (Some R10) own = absurd (own refl)
-own_register (Some r) own = refl
-
 -- where all registers that are read are set, and r10 is not written, the tests of the registers
 -- pass
 pub sets_pass : (s : State) (i : Insn) → Each (λ r. is_unset (kind_of s r) ≡ false) (reads i)
     → writes i ≢ Some R10 → register_refusal s i ≡ None
 sets_pass s i set own =
     let known : reads_unset s i ≡ false = all_set s (reads i) set in
-    let free = own_register (writes i) own in
+    let free = is_frame_pointer-other (writes i) own in
     rw (known, free) refl
 
 pub tests_pass : (s : State) (i : Insn) → Each (λ r. IsNumberKind (kind_of s r)) (reads i)

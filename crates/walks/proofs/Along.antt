@@ -151,27 +151,33 @@ other_stack_slot j n apart (below, is) =
     let same : stack_slot_offset j ≡ stack_slot_offset n = ap (λ (q : Place). q.offset) is in
     apart (omega (arith, ints, same))
 
+-- the instruction at a slot writes stack slot j and no register, and goes on
+record StoresSlot (slot : ℕ) (i : Insn) (j : ℕ) : Type 0 where
+  silent : writes i ≡ None
+  falls : FallsTo slot i (slot + 1)
+  keeps : (n : ℕ) → n ≢ j → WritesSlot i n → ⊥
+  below : j < 64
+
 -- a number goes into a stack slot
 put_along : (p : Program) (steps : ℕ) (d : IsDetermined p steps) (k : ℕ) (s left : State)
     (t : Machine.State) (i : Insn) (j y : ℕ)
-    → (along : Along p steps d k s t) → fetch p t.slot ≡ Some i → writes i ≡ None
-    → FallsTo s.slot i (s.slot + 1)
-    → ((n : ℕ) → n ≢ j → WritesSlot i n → ⊥) → j < 64 → y < 2 ^ 64 → PutsSlot s left j y
+    → (along : Along p steps d k s t) → fetch p t.slot ≡ Some i → StoresSlot s.slot i j
+    → y < 2 ^ 64 → PutsSlot s left j y
     → act p d.run.clock t i
     ≡ Next (Machine.go_to (stored t along.mirrors.stack.call_frame j y) (t.slot + 1))
     → Along p steps d (suc k) (go_to left (s.slot + 1))
     (Machine.go_to (stored t along.mirrors.stack.call_frame j y) (t.slot + 1))
 unfolding stored
-put_along p steps d k s left t i j y along here silent falls keeps below fits put acts =
+put_along p steps d k s left t i j y along here stores fits put acts =
     let m = along.mirrors in
     let u = stored t m.stack.call_frame j y in
     let known = HasKnownStackSlots-store (HoldsIf (λ h. IsHomeLive p h s.slot) s)
-    (HoldsIf (λ h. IsHomeLive p h (s.slot + 1)) left) t m.stack j y below fits
+    (HoldsIf (λ h. IsHomeLive p h (s.slot + 1)) left) t m.stack j y stores.below fits
     (λ live. put.there)
     (λ n z apart held live.
     put.others n z apart
-    (held (stack_slot_before p steps d k s t i (s.slot + 1) n along here (keeps n apart)
-    (inl falls) live))) in
+    (held (stack_slot_before p steps d k s t i (s.slot + 1) n along here (stores.keeps n apart)
+    (inl stores.falls) live))) in
     record {
       reached =
           Reaches-then p d.run.clock (first p steps d) k t
@@ -186,8 +192,8 @@ put_along p steps d k s left t i j y along here silent falls keeps below fits pu
             λ r own live.
             subst (Mirrored (reg t r)) (sym (kind_of-go_to left (s.slot + 1) r ∙ put.kinds r))
             (m.regs r own
-            (still_known p steps d k s t i (s.slot + 1) along here silent
-            (inl falls) r live));
+            (still_known p steps d k s t i (s.slot + 1) along here stores.silent
+            (inl stores.falls) r live));
         all_slots = put.all_slots ∙ m.all_slots;
         stack =
             HasKnownStackSlots-keep (HoldsIf (λ h. IsHomeLive p h (s.slot + 1)) left)
@@ -200,7 +206,7 @@ put_along p steps d k s left t i j y along here silent falls keeps below fits pu
             inr (
               argument.0,
               λ w. not_yet p d.run.clock (first p steps d) t k i along.reached here
-                  (λ e. absurd (cc (e, silent))) argument.1 w,
+                  (λ e. absurd (cc (e, stores.silent))) argument.1 w,
             )
       ];
     }
@@ -208,17 +214,17 @@ put_along p steps d k s left t i j y along here silent falls keeps below fits pu
 goes_on_along : (p : Program) (steps : ℕ) (d : IsDetermined p steps) (k : ℕ) (s : State)
     (t : Machine.State) (i : Insn) (j y : ℕ) (source : Kind) (w : Ways) (a : State)
     → (along : Along p steps d k s t)
-    → fetch p t.slot ≡ Some i → writes i ≡ None → FallsTo s.slot i (s.slot + 1)
-    → ((n : ℕ) → n ≢ j → WritesSlot i n → ⊥) → j < 64 → IsJust source y → act p d.run.clock t i
+    → fetch p t.slot ≡ Some i → StoresSlot s.slot i j → IsJust source y → act p d.run.clock t i
     ≡ Next (Machine.go_to (stored t along.mirrors.stack.call_frame j y) (t.slot + 1))
     → w ≡ ways.One → GoesOnWith s (StoresAt p.maps s U64 (stack_slot_place j) source) a
     → NextAlong p steps d k w a
-goes_on_along p steps d k s t i j y source w a along here silent falls keeps below just acts one h =
+goes_on_along p steps d k s t i j y source w a along here stores just acts one h =
     let all = along.mirrors.all_slots in
+    let below = stores.below in
     let put = store_puts s h.left j y source (omega (arith, below, all)) just h.leaving in
     one_next p steps d k w a (go_to h.left (s.slot + 1))
     (Machine.go_to (stored t along.mirrors.stack.call_frame j y) (t.slot + 1)) one h.next
-    (put_along p steps d k s h.left t i j y along here silent falls keeps below
+    (put_along p steps d k s h.left t i j y along here stores
     (just_below source y just) put acts)
 
 store_along : (p : Program) (steps : ℕ) (d : IsDetermined p steps) (k : ℕ) (s : State)
@@ -236,7 +242,9 @@ store_along p steps d k s t place r w a along (j, below, is) here one h =
           let (y, there, just) =
           (read_numbers p steps d k s t (Store U64 (stack_slot_place j) r) along here).0 in
           goes_on_along p steps d k s t (Store U64 (stack_slot_place j) r) j y
-          (kind_of s r) w a along here refl (refl, refl) (other_stack_slot j) below just
+          (kind_of s r) w a along here
+          (record { silent = refl; falls = (refl, refl); keeps = other_stack_slot j; below = below })
+          just
           (store_acts (HoldsIf (λ q. IsHomeLive p q s.slot) s) p d.run.clock t r j y
           along.mirrors.stack
           below there) one h
@@ -254,7 +262,8 @@ store_constant_along p steps d k s t place n source w a along (j, below, is) her
           → NextAlong p steps d k w a
       of here h =
           goes_on_along p steps d k s t (StoreConstant U64 (stack_slot_place j) n) j
-          (unsigned Full64 n) source w a along here refl (refl, refl) (other_stack_slot j) below
+          (unsigned Full64 n) source w a along here
+          (record { silent = refl; falls = (refl, refl); keeps = other_stack_slot j; below = below })
           just (store_constant_acts
           (HoldsIf (λ q. IsHomeLive p q s.slot) s) p d.run.clock t n j along.mirrors.stack
           below) one h

@@ -9,8 +9,8 @@ use Rattle.std.proofs.lemmas.List.{length-map, length-append}
 use Rattle.std.proofs.lemmas.List.Sums.{sum_by-cons}
 use Rattle.isa_model.specs.declared.instructions.Cond.{Cond}
 use Rattle.isa_model.specs.declared.instructions.Insn.{Insn}
-use Rattle.isa_model.specs.declared.instructions.Insn.TheVariants.{LoadNumber, LoadMap, LoadMapValue, StoreConstant, Store, Atomic, Exchange, CompareExchange, Jump, JumpLong, JumpIf, CallLocal, Exit}
-use Rattle.isa_model.specs.Code.Instructions.{Program, fetch, slots_filled}
+use Rattle.isa_model.specs.declared.instructions.Insn.TheVariants.{StoreConstant, Store, Atomic, Exchange, CompareExchange, Jump, JumpLong, JumpIf, CallLocal, Exit}
+use Rattle.isa_model.specs.Code.Instructions.{Program, fetch}
 use Rattle.isa_model.specs.Machine.Successors.{Follows}
 use Rattle.stack_state.specs.declared.states.State.{State}
 use Rattle.control_flow.proofs.FlowLaws.{BeginsInsn-inside, fetch-BeginsInsn}
@@ -32,6 +32,7 @@ use Rattle.walks.specs.Walks.{StepsTo, HasSteps, WalksTo, ComesBack, IsAmong}
 use Rattle.walks.specs.Counts.{StepsInto, HasNumber, LeadsNowhere, LeadsToOne, LeadsToTwo, IsCoveredBy, Takes, Nothing, ItsOwn, OneMore, BothMore}
 use Rattle.walks.specs.Forgetting.{Coarse}
 use Rattle.isa_model.specs.MustAccept.Paths.{is_conditional, IsForward}
+use Rattle.isa_model.proofs.InstructionLaws.{slots_filled-some}
 
 -- ---- without calls there is one call frame
 
@@ -105,15 +106,9 @@ WalksTo-alone p n s free walk =
 
 -- ---- steps lead forward
 
-slots_some : (i : Insn) → 1 ≤ slots_filled i
-slots_some (LoadNumber d n) = omega arith
-slots_some (LoadMap d m) = omega arith
-slots_some (LoadMapValue d m offset) = omega arith
-slots_some i = omega arith
-
 pub follows_up : (p : Program) (slot next : ℕ) → IsForward p → Follows p slot next → slot < next
 follows_up p slot next forward (i, here, inl (falls, at)) =
-    let some = slots_some i in omega (arith, at)
+    let some = slots_filled-some i in omega (arith, at)
 follows_up p slot next forward (i, here, inr (by, jump, at)) =
     let up = forward.forward slot i by here jump in omega (arith, at)
 

@@ -14,6 +14,7 @@ use Rattle.isa_model.specs.declared.instructions.Insn.TheVariants.{Alu, Neg, Mov
 use Rattle.isa_model.specs.Code.Instructions.{Program, fetch, reads, writes}
 use Rattle.isa_model.specs.MustAccept.Paths.{IsPlainForm, Each, needs}
 use Rattle.isa_model.specs.MustAccept.Guarded.{IsFree, IsBodyForm, IsGuarded}
+use Rattle.isa_model.proofs.InstructionLaws.{is_frame_pointer-other}
 use Rattle.stack_state.specs.declared.states.State.{State}
 use Rattle.stack_state.specs.Places.{kind_of}
 use Rattle.stack_state.specs.Starts.{start}
@@ -26,7 +27,7 @@ use Rattle.walks.specs.Walks.{IsStuck}
 use Rattle.walks.specs.Counts.{HasNumber}
 use Rattle.walks.specs.Refused.{IsRefused}
 use Rattle.walks.specs.Accepting.{IsOutOfMemory, IsUnanswered}
-use Rattle.walks.proofs.Accepted.{IsFlow-whole, IsRefused-want, own_register, needs_reads, tests_pass}
+use Rattle.walks.proofs.Accepted.{IsFlow-whole, IsRefused-want, needs_reads, tests_pass}
 use Rattle.walks.proofs.Forward.{one_frame-start, HasNumber-forward, StartTakes-few, ComesBack-forward}
 use Rattle.walks.proofs.Living.{needs_live}
 use Rattle.walks.proofs.Exits.{ShowsNoAction}
@@ -63,7 +64,7 @@ load_tests : (s : State) (i : Insn) (d : Reg) (place : Place) (m : ℕ) → read
     → register_refusal s i ≡ None
 load_tests s i d place m read written base is free =
     let set : reads_unset s i ≡ false = rw (read, base, is) refl in
-    let own = own_register (writes i) (λ e. free_own d free (cc (e, written))) in
+    let own = is_frame_pointer-other (writes i) (λ e. free_own d free (cc (e, written))) in
     rw (set, own) refl
 
 body_accepted : (p : Program) (len : ℕ) (g : IsGuarded p len) (s : State) (i : Insn)

@@ -143,17 +143,25 @@ plain_step p len g s t i w a b h behind here plain set makes among kept =
           (m, same ∙ is, most);
     }
 
+-- the instruction at a slot where r2 is live is a load into a free register
+pub record LoadsInto (p : Program) (slot : ℕ) (i : Insn) (d : Reg) : Type 0 where
+  pub written : writes i ≡ Some d
+  pub falls : falls_through i ≡ true
+  pub one : slots_filled i ≡ 1
+  pub loaded : IsLive p R2 slot
+  pub free : IsFree d
+
 -- a load of bytes that are proved to be there
 pub load_step : (p : Program) (len : ℕ) (g : IsGuarded p len) (s t : State) (i : Insn) (d : Reg)
     (k : Kind) (w : Ways) (a b : State)
     → Guards p len g s → 5 ≤ s.slot → s.slot < g.tail → fetch p s.slot ≡ Some i
-    → writes i ≡ Some d → falls_through i ≡ true → slots_filled i ≡ 1 → IsLive p R2 s.slot
-    → IsFree d → IsNumberKind k → GivesKind s d k w a → IsAmong w a b t → Guards p len g t
-load_step p len g s t i d k w a b h behind before here written falls one loaded free number gives
-    among =
-    let put = put_of s a b t d k w h.known h.knows (free_own d free) gives among in
+    → LoadsInto p s.slot i d → IsNumberKind k → GivesKind s d k w a → IsAmong w a b t → Guards p len g t
+load_step p len g s t i d k w a b h behind before here loads number gives among =
+    let written = loads.written in
+    let own = free_own d loads.free in
+    let put = put_of s a b t d k w h.known h.knows own gives among in
     let slot = put.slot in
-    let on : FallsTo s.slot i t.slot = (falls, slot ∙ ap (λ n. s.slot + n) (sym one)) in
+    let on : FallsTo s.slot i t.slot = (loads.falls, slot ∙ ap (λ n. s.slot + n) (sym loads.one)) in
     record {
       steps = suc h.steps;
       written = d ∷ h.written;
@@ -161,7 +169,7 @@ load_step p len g s t i d k w a b h behind before here written falls one loaded 
       path =
           subst (λ o. PathTo p (suc h.steps) t.slot (written_too o h.written)) written
           (PathTo-more p h.steps s.slot t.slot h.written i h.path here (inl on));
-      knows = known_number s a b t d k w h.known (free_own d free) number gives among h.knows;
+      knows = known_number s a b t d k w h.known own number gives among h.knows;
       free = λ r free live among.
           subst (λ o. IsOneOf (written_too o h.known) r) written
           (more_free p len g s t.slot i h here (i, here, inl on) r free live
@@ -173,8 +181,8 @@ load_step p len g s t i d k w a b h behind before here written falls one loaded 
       copied = λ k. absurd (omega (arith, k, slot, behind));
       ahead = λ k. absurd (omega (arith, k, slot, behind));
       proved = λ k below live.
-          let (m, is, most) = h.proved behind before loaded in
-          (m, put.others R2 (λ e. subst IsFree (sym e) free) ∙ is, most);
+          let (m, is, most) = h.proved behind before loads.loaded in
+          (m, put.others R2 (λ e. subst IsFree (sym e) loads.free) ∙ is, most);
     }
 
 -- r2 stays

@@ -97,9 +97,9 @@ body_step p len g s t (Load size d place) w a b h behind before here body made a
     let (m, is, most) = h.proved behind before loaded in
     let (k, number, gives) =
     load_gives p s size d place m at w a b (ap (kind_of s) base ∙ is) offset made in
-    load_step p len g s t
-    (Load size d place) d k w a b h behind before here refl refl refl loaded own number gives
-    among
+    load_step p len g s t (Load size d place) d k w a b h behind before here
+    (record { written = refl; falls = refl; one = refl; loaded = loaded; free = own })
+    number gives among
 body_step p len g s t (LoadSx size d place) w a b h behind before here body made among =
     let (own, base, at, offset, inside) =
     load_parts (size_bytes (unsigned_size size)) len d place body in
@@ -107,9 +107,9 @@ body_step p len g s t (LoadSx size d place) w a b h behind before here body made
     let (m, is, most) = h.proved behind before loaded in
     let (k, number, gives) =
     load_signed_gives p s size d place m at w a b (ap (kind_of s) base ∙ is) offset made in
-    load_step p len g s t
-    (LoadSx size d place) d k w a b h behind before here refl refl refl loaded own number gives
-    among
+    load_step p len g s t (LoadSx size d place) d k w a b h behind before here
+    (record { written = refl; falls = refl; one = refl; loaded = loaded; free = own })
+    number gives among
 body_step p len g s t i w a b h behind before here body made among =
     let plain = plain_form len i body tt in
     let set = needs_reads (NumbersIn s) i

@@ -8,6 +8,7 @@ use Rattle.isa_model.specs.declared.instructions.Insn.TheVariants.{CallHelper, C
 use Rattle.isa_model.specs.Code.Instructions.{Program, fetch, reads, writes}
 use Rattle.isa_model.specs.Machine.Successors.{Follows}
 use Rattle.isa_model.specs.MustAccept.Paths.{IsPlainForm, IsOneOf, needs, written_too}
+use Rattle.isa_model.proofs.InstructionLaws.{IsOneOf-option}
 use Rattle.stack_state.specs.declared.states.State.{State}
 use Rattle.stack_state.proofs.PlaceLaws.{same_or_other}
 use Rattle.control_flow.specs.Graph.{call_distance}
@@ -62,11 +63,6 @@ needs_live p slot i r here none among =
     IsLive-read p r slot i here
     (subst (λ (rs : List Reg). IsOneOf rs r) (sym (needs_read i none)) among)
 
-the_one : (o : Option Reg) (r : Reg) → IsOneOf (option_to_list o) r → o ≡ Some r
-the_one None r among = absurd among
-the_one (Some d) r (inl same) = ap Some (sym same)
-the_one (Some d) r (inr rest) = absurd rest
-
 written_or_not : (o : Option Reg) (r : Reg) → (o ≡ Some r) ⊎ (o ≢ Some r)
 written_or_not None r = inr (λ e. absurd (cc e))
 written_or_not (Some d) r =
@@ -80,7 +76,7 @@ live_before p slot next i r here none follows live = elim (written_or_not (write
   | inr other ↦
       inr (IsLive-back p r slot next i here
       (λ among.
-      other (the_one (writes i) r
+      other (IsOneOf-option (writes i) r
       (subst (λ (rs : List Reg). IsOneOf rs r) (one_written i none) among))) follows live)
 ]
 

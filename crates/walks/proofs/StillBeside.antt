@@ -1,11 +1,11 @@
 -- What stays beside a machine state: the same state at another slot, or with a number in a
 -- register; what is live before a step; jumps, and forms that set a register.
-use Rattle.std.proofs.Common.{◌≡◌, ◌+◌, ◌<◌, ℕ, suc, Some, None, true, length, arith, refl, sym, ap, ◌∙◌, subst, inl, inr, ◌⊎◌}
+use Rattle.std.proofs.Common.{◌≡◌, ◌+◌, ℕ, suc, Some, None, true, length, arith, refl, sym, ap, ◌∙◌, subst, inl, inr, ◌⊎◌}
 use Rattle.std.specs.Prelude.{◌≢◌, ℤ}
 use Rattle.std.proofs.lemmas.Bool.{cases_lt}
 use Rattle.std.proofs.lemmas.List.{length-set, get_or-set_same, get_or-set_other}
 use Rattle.isa_model.specs.declared.registers.Reg.{Reg}
-use Rattle.isa_model.specs.declared.registers.Reg.TheVariants.{R0, R1, R10}
+use Rattle.isa_model.specs.declared.registers.Reg.TheVariants.{R1, R10}
 use Rattle.isa_model.specs.Code.Registers.{reg_number}
 use Rattle.isa_model.specs.declared.instructions.Insn.{Insn}
 use Rattle.isa_model.specs.declared.instructions.Insn.TheVariants.{StoreConstant, Store, Jump, JumpLong, Exit}
@@ -24,7 +24,8 @@ use Rattle.isa_model.proofs.StackSlotLaws.{HasKnownStackSlots-keep}
 use Rattle.reg_state.specs.declared.kinds.Kind.{Kind}
 use Rattle.stack_state.specs.declared.states.State.{State}
 use Rattle.stack_state.specs.Places.{kind_of, with_register, go_to}
-use Rattle.isa_model.proofs.RegisterLaws.{same_number}
+use Rattle.isa_model.proofs.RegisterLaws.{same_number, reg_number-below}
+use Rattle.isa_model.proofs.InstructionLaws.{is_frame_pointer-other}
 use Rattle.stack_state.proofs.PlaceLaws.{same_or_other, kind_of-with_other}
 use Rattle.stack_state.specs.Slots.{slot_at, kind_in}
 use Rattle.branch_refine.specs.Refining.{IsJust}
@@ -35,7 +36,6 @@ use Rattle.control_flow.specs.Liveness.{Home, InRegister, InSlot, IsLive, IsSlot
 use Rattle.control_flow.specs.StackUse.{WritesSlot}
 use Rattle.control_flow.proofs.LivenessLaws.{IsSlotLive-read, IsSlotLive-back}
 use Rattle.walks.proofs.Living.{live_before}
-use Rattle.walks.proofs.Accepted.{own_register}
 use Rattle.walks.proofs.OnNumbers.{Remains, kind_of-go_to, kind_of-with_own, room-with}
 use Rattle.walks.proofs.Beside.{HoldsIf, Mirrored, IsNoPointer, Mirrors, first, Along, none_unset, determined_calls, read_numbers, computed}
 
@@ -45,10 +45,6 @@ abbrev pub NextAlong : (p : Program) (steps : ℕ) → IsDetermined p steps → 
 NextAlong p steps d k ways.None a = Unit {0}
 NextAlong p steps d k ways.One a = (u : Machine.State) × Along p steps d (suc k) a u
 NextAlong p steps d k ways.Two a = ⊥
-
-below_eleven : (r : Reg) → reg_number r < 11
-below_eleven R0 = omega arith
-below_eleven r = omega arith
 
 mirrored_more : (v : Value) (k l : Kind) → ((x : ℕ) → IsJust k x → IsJust l x) → Mirrored v k
     → Mirrored v l
@@ -94,7 +90,7 @@ stays s =
 reg_with_own : (t : Machine.State) (r : Reg) (v : Value) → length t.regs ≡ 11
     → reg (set_reg t r v) r ≡ v
 reg_with_own t r v wide =
-    let below = below_eleven r in
+    let below = reg_number-below r in
     get_or-set_same t.regs (reg_number r) v Unset (omega (arith, below, wide))
 
 reg_with_other : (t : Machine.State) (r q : Reg) (v : Value) → q ≢ r
@@ -245,7 +241,7 @@ pub run_acts : (p : Program) (steps : ℕ) (d : IsDetermined p steps) (k : ℕ) 
     → step p d.run.clock t ≡ act p d.run.clock t i
 run_acts p steps d k s t i along here =
     step_acts p d.run.clock t i here (none_unset p steps d k s t i along here)
-    (own_register (writes i) (d.own t.slot i here))
+    (is_frame_pointer-other (writes i) (d.own t.slot i here))
 
 -- a walk stays beside the run at a jump
 pub goes_along : (p : Program) (steps : ℕ) (d : IsDetermined p steps) (k : ℕ) (s b : State)
