@@ -1,6 +1,6 @@
 #!/usr/bin/env python3
-"""Damages what the tools read: objects, images, captures, frame streams, texts of frames, proof tables and their texts, and
-classic programs.
+"""Damages what the tools read: objects, images, texts of frames, what gzip packed, proof tables and their texts, and classic
+programs.
 
 usage: python3 attacks/damage_tools.py [--each N] [--seed N]
 
@@ -10,6 +10,7 @@ other exception is printed with the bytes' place in the run. The last line count
 """
 import contextlib
 import glob
+import gzip
 import io
 import os
 import random
@@ -24,6 +25,7 @@ import expressions
 import frames
 import image
 import object_image
+import packed
 import table
 from inputs import NoText, text_lines
 from objects import Refused
@@ -77,10 +79,15 @@ def read_types(data: bytes) -> None:
 
 
 def read_frames(data: bytes) -> None:
-    source, state = frames.Source(io.BytesIO(data)), frames.Met()
     with contextlib.suppress(frames.Damaged, NoText):
-        for one in frames.reader_of(source)[0](source, state):
+        for one in frames.read_text(io.BytesIO(data).readline):
             assert len(one.body) <= frames.PIECE
+
+
+def read_packed(data: bytes) -> None:
+    with contextlib.suppress(packed.Packed):
+        for piece in packed.unpacked([data[:100], data[100:]]):
+            assert len(piece) <= packed.MOST
 
 
 def read_table(data: bytes) -> None:
@@ -100,8 +107,6 @@ def stored() -> Iterator[tuple[str, Reader, bytes]]:
         ("tests/objects/made/*.o", read_object),
         ("tests/objects/made/*.btf", read_types),
         ("examples/*.image", read_image),
-        ("examples/*.pcapng", read_frames),
-        ("examples/*.frames", read_frames),
         ("examples/filters/*.txt", read_frames),
         ("examples/*.table", read_table),
     ]
@@ -111,12 +116,8 @@ def stored() -> Iterator[tuple[str, Reader, bytes]]:
             yield os.path.relpath(path, TOP), reader, data
             if reader is read_table:
                 yield f"the text of {os.path.relpath(path, TOP)}", read_table_text, table.text_of(table.entries_of(data)).encode()
-            if path.endswith("firewall.pcapng"):
-                for name, write in (("pcap", frames.write_pcap), ("text", frames.write_text)):
-                    out: list[bytes] = []
-                    source = frames.Source(io.BytesIO(data))
-                    write(frames.read_pcapng(source, frames.Met()), out.append)
-                    yield f"firewall as {name}", read_frames, b"".join(out)
+            if reader is read_frames:
+                yield f"{os.path.relpath(path, TOP)}, packed", read_packed, gzip.compress(data)
 
 
 def damaged(data: bytes, dice: random.Random) -> bytes:
@@ -143,7 +144,6 @@ def main() -> int:
     words.add_argument("--each", type=int, default=40)
     words.add_argument("--seed", type=int, default=1)
     given = words.parse_args()
-    frames.tell = lambda message: None
     tried = failed = 0
     for name, reader, data in stored():
         for number in range(given.each):

@@ -7,12 +7,12 @@ usage: python3 attacks/hostile_inputs.py [PROGRAM [FAMILY ..]]
 PROGRAM is an optimized xdpvm (the default: crates/xdpvm/out/xdpvm). The families are texts of `asm`, images of `dis`,
 tables of `recheck`, maps whose keys have one hash (`chains`, and `worst_keys` with the limits that the gate holds), frames by
 `trace` on a full map (`traced`, with such limits, too), a small image with a large table and a long log, by the xdpvm_survey that
-`rt run` leaves in crates/xdpvm_survey (`outputs`, with such limits of time and memory), and captures of tools/frames.py. For each
-input it prints the size, the processor seconds, the peak megabytes and the last line. A run that takes longer than LIMIT seconds
-(the default: 120) is ended. The exit status is 1 if one took longer or more memory than its own limits say, ended by a signal or,
-without a limit having passed, by a status that is not one of the program's.
+`rt run` leaves in crates/xdpvm_survey (`outputs`, with such limits of time and memory), captures by
+`xdpvm_filter convert`, and texts by tools/frames.py. For each input it prints the size, the processor seconds, the peak megabytes
+and the last line. A run that takes longer than LIMIT seconds (the default: 120) is ended. The exit status is 1 if one took longer
+or more memory than its own limits say, ended by a signal or, without a limit having passed, by a status that is not one of the
+program's.
 """
-import gzip
 import os
 import resource
 import struct
@@ -35,6 +35,7 @@ LIMIT = int(os.environ.get("LIMIT", "120"))
 MOST_SLOTS, MOST_TEXT, MOST_KEYS = 4096, 16 << 20, 65536
 # At most so many seconds for a full map of the worst keys, and for a frame with a call on it, by a proved build.
 FILLED, CALL = 0.3, 3e-6
+CONVERT = [common.built("xdpvm_filter"), "convert"]
 FRAMES = [sys.executable, f"{TOP}/tools/frames.py"]
 
 
@@ -342,7 +343,7 @@ def block(kind: int, body: bytes) -> bytes:
 
 
 def captures() -> Iterator[Tried]:
-    """Captures for tools/frames.py: large, broken, or of many small blocks."""
+    """Captures and texts of frames: large, broken, or of many small blocks."""
     begin = block(0x0A0D0D0A, struct.pack("<IHHq", 0x1A2B3C4D, 1, 0, -1))
     interface = block(1, struct.pack("<HHI", 1, 0, 0))
     packet = block(6, struct.pack("<IIIII", 0, 0, 0, 60, 60) + bytes(60))
@@ -374,9 +375,8 @@ def captures() -> Iterator[Tried]:
         ("a text of 200,000 lines of one byte", b"frame 1\n" + b"ca\n" * 200_000),
         ("a text of one line of 10 MB", b"frame 1\n" + b"ca" * 5_000_000),
     ):
-        yield name, [*FRAMES, write("capture", data), "out.frames"]
-    packed = write("capture", gzip.compress(begin + interface) + gzip.compress(bytes(1 << 26)) * 32)
-    yield "a gzip of 2 GB of zeros behind a head", [*FRAMES, packed, "out.frames"]
+        by = FRAMES if data.startswith(b"frame") else CONVERT
+        yield name, [*by, write("capture", data), "out.frames"]
 
 
 FAMILIES = [texts, images, tables, chains, worst_keys, traced, outputs, captures]

@@ -27,7 +27,7 @@ tour.py; blocks with any other word, or with none, are not tried. Each examples/
 NAME.bpf.c too where clang 14 is installed, each NAME.table is what `prove` writes for NAME.image, and each NAME.report
 is what `run` prints for NAME.image and NAME.frames, into a pipe and into a file. The last rows read crates.txt, the
 crates and the pages: what `run` and `recheck` depend on, that each crate has its row, and that each link leads somewhere.
-Each NAME.frames is what frames.py makes from NAME.pcapng, if there is one; frame streams of XPF1 and XPF2 become texts
+Each NAME.frames is what `xdpvm_filter convert` makes from NAME.pcapng, if there is one; frame streams of XPF1 and XPF2 become texts
 and captures, and those the same streams again. Each filter of examples/filters is answered as it says (filters.py). The
 exit status is 0 if every result is the one wanted, else 1.
 """
@@ -219,10 +219,16 @@ CAPTURE = (
 CAPTURED = "58504632e8030000000000000000000000000000" + "0200000007000000cafe"
 
 
+def made_stream(flags: str, text: str, name: str) -> str:
+    """The bytes of the stream that frames.py makes of a text."""
+    shell(f"python3 tools/frames.py {flags} {text} {name}")
+    return hex_of(name)
+
+
 def converted(flags: str, given: str, *names: str) -> str:
-    """The bytes of the last file, each of them made by frames.py of the one before."""
+    """The bytes of the last file, each of them made by `xdpvm_filter convert` of the one before."""
     for name in names:
-        shell(f"python3 tools/frames.py {flags} {given} {name}")
+        shell(f"xdpvm_filter convert {flags} {given} {name}")
         given = name
     return hex_of(given)
 
@@ -231,22 +237,22 @@ def returned() -> Iterator[Example]:
     """Frame streams go through texts and captures unchanged, with their reasons; of a frame that is
     too long its reason is left."""
     write("example.text", FRAMES)
-    yield "a text with reasons", RECORDS + "\n", converted("--reasons", "example.text", "example.frames")
+    yield "a text with reasons", RECORDS + "\n", made_stream("--reasons", "example.text", "example.frames")
     yield "a capture with reasons", RECORDS + "\n", converted("--reasons", "example.frames", "example.pcapng", "again.frames")
-    yield "a stream with reasons as a text", FRAMES, shell("python3 tools/frames.py --show again.frames")
+    yield "a stream with reasons as a text", FRAMES, shell("xdpvm_filter show again.frames")
     write_hex("other.pcapng", CAPTURE)
     yield "a capture of another tool", CAPTURED + "\n", converted("--reasons", "other.pcapng", "example.frames")
     for flags, most in ("", 4096), ("--reasons", 9216):
         write("example.text", "".join(f"frame {size}\n{bytes(size).hex()}\n" for size in (most, most + 1)))
-        converted(flags, "example.text", "example.frames")
-        shown = shell("python3 tools/frames.py --show example.frames | grep frame")
+        made_stream(flags, "example.text", "example.frames")
+        shown = shell("xdpvm_filter show example.frames | grep frame")
         kept = f"frame {most + 1} interface 0 queue 0 reason 4294967295\n" if flags else ""
         yield f"frames of {most} bytes {flags}", f"frame {most} interface 0 queue 0\n{kept}", shown
     for stream in sorted(set(glob.glob("examples/*.frames")) - {"examples/cut.frames"}):
         kept = hex_of(stream)
-        write("example.text", shell(f"python3 tools/frames.py --show {stream}"))
+        write("example.text", shell(f"xdpvm_filter show {stream}"))
         flags = "--reasons" if kept[:8] == b"XPF2".hex() else ""
-        yield f"{stream} as a text", kept, converted(flags, "example.text", "example.frames")
+        yield f"{stream} as a text", kept, made_stream(flags, "example.text", "example.frames")
 
 
 def reported() -> Iterator[Example]:
@@ -353,7 +359,7 @@ def main() -> None:
         count("examples", proved())
         count("examples", compiled())
         count("examples", captured())
-        count("frames.py", returned())
+        count("streams and texts", returned())
         count("examples", reported())
         count("filters", filters_answer())
         count("crates.txt", depends())

@@ -5,6 +5,7 @@ usage: python3 checks/test_files.py [PROGRAM]
 
 PROGRAM is the xdpvm that is used (the default: crates/xdpvm/out/xdpvm). In the gate.
 """
+import gzip
 import os
 import resource
 import shutil
@@ -26,13 +27,14 @@ SECONDS, MOST = 1.0, 64 << 20  # for an answer on an endless input, without the 
 
 
 class InFolder(unittest.TestCase):
-    """A folder with a capture, its frames, a filter in each form, and a proof table."""
+    """A folder with a capture, its frames, a text of frames, a filter in each form, and a proof table."""
 
     def setUp(self) -> None:
         self.folder = tempfile.mkdtemp()
         self.addCleanup(shutil.rmtree, self.folder)
         for name in ("firewall.pcapng", "firewall.frames", "firewall.text", "firewall.image", "pass.table", "talkers.bpf.c"):
             shutil.copy(os.path.join(EXAMPLES, name), self.folder)
+        shutil.copy(os.path.join(EXAMPLES, "filters/mix.txt"), self.folder)
         shutil.copy(os.path.join(TOP, "tests/objects/made/globals.clang14.o"), os.path.join(self.folder, "filter.o"))
         with open(os.path.join(self.folder, "pass.txt"), "w", encoding="utf-8") as file:
             subprocess.run([sys.executable, f"{TOOLS}/table.py", "show", f"{self.folder}/pass.table"], stdout=file, check=True)
@@ -63,8 +65,7 @@ class Inputs(InFolder):
         ("xdp.py", "firewall.text", "firewall.pcapng", "{firewall.text}", "--to", "frames"),
         ("xdp.py", "firewall.text", "firewall.frames", "{firewall.frames}"),
         ("xdp.py", "talkers.bpf.c", "firewall.frames", "{talkers.bpf.c}", "--to", "txt"),
-        ("frames.py", "firewall.pcapng", "{firewall.pcapng}"),
-        ("frames.py", "--to", "txt", "firewall.frames", "{firewall.frames}"),
+        ("frames.py", "mix.txt", "{mix.txt}"),
         ("image.py", "filter.o", "{filter.o}"),
         ("image.py", "--source", "talkers.bpf.c", "filter.o", "{talkers.bpf.c}"),
         ("compile.sh", "talkers.bpf.c", "{talkers.bpf.c}"),
@@ -99,7 +100,7 @@ class Inputs(InFolder):
             os.chmod(f"{self.folder}/{name}", 0o640)
         before = self.all()
         for command in (
-            ("frames.py", "bad.pcap", "old.pcap"),
+            ("frames.py", "firewall.pcapng", "old.frames"),
             ("frames.py", "pass.txt", "old.frames"),
             ("xdp.py", "firewall.text", "bad.pcap", "old.pcap"),
             ("xdp.py", "pass.txt", "firewall.pcapng", "old.pcap"),
@@ -111,8 +112,8 @@ class Inputs(InFolder):
             with self.subTest(command=command):
                 self.assertNotEqual(self.ran(*command).returncode, 0)
                 self.assertEqual(self.all(), before)
-        self.assertEqual(self.ran("frames.py", "firewall.pcapng", "old.frames").returncode, 0)
-        self.assertEqual(bytes_of(f"{self.folder}/old.frames"), bytes_of(f"{self.folder}/firewall.frames"))
+        self.assertEqual(self.ran("frames.py", "mix.txt", "old.frames").returncode, 0)
+        self.assertEqual(bytes_of(f"{self.folder}/old.frames")[:4], b"XPF1")
         self.assertEqual(stat.S_IMODE(os.stat(f"{self.folder}/old.frames").st_mode), 0o640)
 
     def test_options_stand_anywhere(self) -> None:
@@ -123,7 +124,7 @@ class Inputs(InFolder):
             ("firewall.text", "firewall.pcapng", "--trace", "sent.pcapng"),
         ):
             self.assertEqual(self.ran("xdp.py", *words).stdout, wanted)
-        self.assertEqual(self.ran("frames.py", "firewall.pcapng", "--reasons", "two.frames").returncode, 0)
+        self.assertEqual(self.ran("frames.py", "mix.txt", "--reasons", "two.frames").returncode, 0)
         self.assertEqual(bytes_of(f"{self.folder}/two.frames")[:4], b"XPF2")
         self.assertEqual(self.ran("image.py", "filter.o", "--section", "xdp", "made.image").returncode, 0)
 
@@ -201,7 +202,7 @@ class Endless(InFolder):
         self.assertEqual(self.answered("table.py", "show", "zeros.table"), b"table.py: P3\n")
         self.assertEqual(
             self.answered("frames.py", "/dev/null", "x.frames"),
-            b"/dev/null: it is empty, and a capture or a frame stream has at least its head\n",
+            b"/dev/null: it is empty, and a text has a frame at least\n",
         )
 
 
@@ -212,6 +213,20 @@ class Pipes(InFolder):
             piped = self.ran("xdp.py", "firewall.text", "-", "-", "--to", "pcapng", input=bytes_of(f"{self.folder}/{name}"))
             self.assertEqual((piped.returncode, piped.stdout), (0, bytes_of(f"{self.folder}/sent.pcapng")))
             self.assertIn(b"8 frames: 4 PASS, 4 DROP", piped.stderr)
+
+    def test_a_packed_capture_is_unpacked(self) -> None:
+        packed = gzip.compress(bytes_of(f"{self.folder}/firewall.pcapng"))
+        write(f"{self.folder}/packed.gz", packed)
+        write(f"{self.folder}/cut.gz", packed[:-4])
+        whole = self.ran("xdp.py", "firewall.text", "packed.gz", "sent.pcapng")
+        piped = self.ran("xdp.py", "firewall.text", "-", "-", "--to", "pcapng", input=packed)
+        for ran in (whole, piped):
+            self.assertEqual(ran.returncode, 0, ran.stderr)
+            self.assertIn(b"8 frames: 4 PASS, 4 DROP", ran.stdout + ran.stderr)
+        self.assertEqual(piped.stdout, bytes_of(f"{self.folder}/sent.pcapng"))
+        cut = self.ran("xdp.py", "firewall.text", "cut.gz")
+        self.assertIn(b"8 frames: 4 PASS, 4 DROP", cut.stdout)
+        self.assertIn(b"cut.gz: what gzip packed ends early", cut.stderr)
 
     def test_frames_pass_as_they_come(self) -> None:
         """A writer that waits for each frame to come out before it writes the next one."""

@@ -2,13 +2,14 @@
 """Tests of frames.py, image.py, xdp.py and kernel.py, on formats and on damaged files. In the gate;
 `python3 checks/test_tools.py` runs them.
 
-Captures and objects are cut at each byte and changed byte by byte: the result is a message, never a
+Texts of frames and objects are cut at each byte and changed byte by byte: the result is a message, never a
 traceback. What kernel.py says is tested without bpf(2).
 """
 import contextlib
 import ctypes
 import errno
 import glob
+import gzip
 import io
 import os
 import struct
@@ -25,6 +26,7 @@ import inputs
 import kernel
 import kernel_calls
 import objects
+import packed
 import sources
 
 HERE, EXAMPLES = f"{TOP}/tools", f"{TOP}/examples"
@@ -34,21 +36,29 @@ def content(name: str) -> bytes:
     return bytes_of(os.path.join(EXAMPLES, name))
 
 
-def frames_in(data: bytes) -> tuple[list[frames.Frame], Exception | None]:
-    """The frames of a file's bytes, and why reading ended early: None, or an error of frames.py."""
-    source, found = frames.Source(io.BytesIO(data)), []
+def frames_in(text: bytes) -> tuple[list[frames.Frame], Exception | None]:
+    """The frames of a text, and why reading ended early: None, or an error of frames.py."""
+    found = []
     try:
-        for one in frames.reader_of(source)[0](source, frames.Met()):
+        for one in frames.read_text(io.BytesIO(text).readline):
             found.append(one)
     except (frames.Damaged, inputs.NoText) as why:
         return found, why
     return found, None
 
 
-def written(write: frames.Write, found: list[frames.Frame]) -> bytes:
+def written(magic: bytes, found: list[frames.Frame]) -> bytes:
     out: list[bytes] = []
-    write(iter(found), out.append)
+    frames.write_stream(iter(found), magic, out.append)
     return b"".join(out)
+
+
+TEXT = b"""# two frames
+frame 1000 interface 1 queue 2 reason 7
+  0000: ca fe                                           |..|
+  6f6f
+frame 18446744073709551615 # without bytes
+"""
 
 
 class Frames(unittest.TestCase):
@@ -60,78 +70,45 @@ class Frames(unittest.TestCase):
 
         frames.tell = tell
 
-    def test_stored_captures_are_the_stored_streams(self) -> None:
-        for path in sorted(glob.glob(f"{EXAMPLES}/*.pcapng")):
-            found, why = frames_in(content(os.path.basename(path)))
-            self.assertIsNone(why)
-            with self.subTest(path):
-                stream = content(os.path.basename(path).replace(".pcapng", ".frames"))
-                self.assertEqual(written(frames.FORMATS[stream[:4]], found), stream)
-
-    def test_each_cut_gives_the_whole_frames_before_it(self) -> None:
-        whole, _ = frames_in(content("firewall.pcapng"))
-        for write in (frames.write_pcap, frames.write_pcapng, frames.write_first_form, frames.write_second_form):
-            data = written(write, whole)
-            reached = 0
-            for end in range(4, len(data)):
-                found, why = frames_in(data[:end])
-                self.assertEqual([it.body for it in found], [it.body for it in whole[: len(found)]])
-                self.assertTrue(why is None or isinstance(why, frames.Cut), why)
-                self.assertGreaterEqual(len(found), reached)
-                reached = len(found)
-            self.assertEqual(len(frames_in(data)[0]), len(whole))
+    def test_a_text_of_frames(self) -> None:
+        found = [frames.Frame(1000, 1, 2, b"\xca\xfeoo", 7), frames.Frame(2**64 - 1, 0, 0, b"")]
+        self.assertEqual(frames_in(TEXT), (found, None))
+        record = struct.pack("<QIIII", 1000, 1, 2, 4, 7) + b"\xca\xfeoo" + struct.pack("<QIIII", 2**64 - 1, 0, 0, 0, 0)
+        self.assertEqual(written(b"XPF2", found), b"XPF2" + record)
 
     def test_changed_bytes_are_an_answer(self) -> None:
-        whole = [it._replace(body=it.body[:20]) for it in frames_in(content("firewall.pcapng"))[0][:3]]
-        for write in (frames.write_pcap, frames.write_pcapng, frames.write_second_form, frames.write_text):
-            data = written(write, whole)
-            for at in range(len(data)):
-                for byte in (0, 1, 127, 128, 255):
-                    frames_in(data[:at] + bytes([byte]) + data[at + 1 :])
+        for at in range(len(TEXT)):
+            frames_in(TEXT[:at])
+            for byte in (0, 1, 10, 32, 49, 127, 128, 255):
+                frames_in(TEXT[:at] + bytes([byte]) + TEXT[at + 1 :])
 
     def test_a_frame_that_is_too_long(self) -> None:
         long, short = frames.Frame(1, 0, 0, bytes(9217)), frames.Frame(2, 0, 0, b"\1")
-        self.assertEqual(written(frames.write_first_form, [long, short]), b"XPF1" + struct.pack("<QIII", 2, 0, 0, 1) + b"\1")
-        kept = frames_in(written(frames.write_second_form, [long, short]))[0]
-        self.assertEqual([(it.body, it.reason) for it in kept], [(b"", 2**32 - 1), (b"\1", 0)])
+        self.assertEqual(written(b"XPF1", [long, short]), b"XPF1" + struct.pack("<QIII", 2, 0, 0, 1) + b"\1")
+        kept = struct.pack("<QIIII", 1, 0, 0, 0, 2**32 - 1) + struct.pack("<QIIII", 2, 0, 0, 1, 0)
+        self.assertEqual(written(b"XPF2", [long, short]), b"XPF2" + kept + b"\1")
 
     def test_many_frames_that_are_too_long_are_counted(self) -> None:
-        for write in (frames.write_first_form, frames.write_second_form):
+        for magic in (b"XPF1", b"XPF2"):
             self.said.clear()
-            written(write, [frames.Frame(1, 0, 0, bytes(9217))] * 2003)
+            written(magic, [frames.Frame(1, 0, 0, bytes(9217))] * 2003)
             self.assertEqual((len(self.said), self.said[-1]), (4, "2,000 more frames are too long"))
 
-    def test_any_interface(self) -> None:
-        head = struct.pack(">HHIHBB8s", 0x0800, 0, 7, 1, 0, 6, b"\2\0\0\0\0\1\0\0")
-        data = (
-            struct.pack("<IHHiIII", 0xA1B2C3D4, 2, 4, 0, 0, 65535, frames.SLL2) + struct.pack("<IIII", 1, 2, 23, 23) + head + b"abc"
-        )
-        found, why = frames_in(data)
-        self.assertEqual((found, why), ([frames.Frame(10**9 + 2000, 7, 0, bytes(6) + b"\2\0\0\0\0\1\x08\0abc")], None))
 
-    def test_packets_without_an_ethernet_head(self) -> None:
-        rows = (
-            (101, b"\x45abc", b"\x08\0\x45abc"),
-            (12, b"\x60abc", b"\x86\xdd\x60abc"),
-            (229, b"\x50", b"\0\0\x50"),
-            (228, b"", b"\0\0"),
-            (0, b"\0\0\0\2abc", b"\x08\0abc"),
-            (0, b"\x1e\0\0\0abc", b"\x86\xddabc"),
-            (108, b"\0\0\0\x18abc", b"\x86\xddabc"),
-            (108, b"\2\0\0\0abc", b"\0\0abc"),
-            (0, b"\2\0\0", b"\0\0"),
-        )
-        for link, packet, wanted in rows:
-            size = len(packet)
-            data = struct.pack("<IHHiIIIIIII", 0xA1B2C3D4, 2, 4, 0, 0, 65535, link, 0, 0, size, size) + packet
-            self.assertEqual(frames_in(data), ([frames.Frame(0, 0, 0, bytes(12) + wanted)], None))
+class PackedFiles(unittest.TestCase):
+    def test_what_is_packed_comes_member_after_member(self) -> None:
+        data = gzip.compress(b"one") + gzip.compress(bytes(3 << 20)) + bytes(100)
+        for size in (1, 7, 1000, len(data)):
+            pieces = (data[at : at + size] for at in range(0, len(data), size))
+            self.assertEqual(b"".join(packed.unpacked(pieces)), b"one" + bytes(3 << 20))
 
-    def test_a_link_type_that_is_not_read(self) -> None:
-        data = struct.pack("<IHHiIII", 0xA1B2C3D4, 2, 4, 0, 0, 65535, 105)
-        self.assertEqual(
-            str(frames_in(data)[1]),
-            "its link type is 105; Ethernet (1), SLL (113), SLL2 (276), raw IP (12, 101, 228, 229) and loopback (0, 108) are read",
-        )
+    def test_what_is_cut_or_damaged_comes_up_to_there(self) -> None:
+        data, found = gzip.compress(b"one"), []
+        for given in (data[:-1], data + data[:5], data[:12], data + b"no member"):
+            with self.assertRaises(packed.Packed):
+                for piece in packed.unpacked([given]):
+                    found.append(piece)
+        self.assertEqual(b"".join(found[:1]), b"one")
 
 
 def elf(code: bytes, functions: list[str], called: str, kind: int, imm: int) -> bytes:
@@ -261,17 +238,16 @@ class Messages(unittest.TestCase):
                 self.assertRegex(second, "^usage: ")
 
     def test_frames(self) -> None:
-        tool = os.path.join(HERE, "frames.py")
-        self.assertEqual(self.said(tool, "none.pcap", "x.frames"), "none.pcap: no such file or folder\n")
+        tool, text = os.path.join(HERE, "frames.py"), "filters/mix.txt"
+        self.assertEqual(self.said(tool, "none.text", "x.frames"), "none.text: no such file or folder\n")
         self.assertEqual(self.said(tool, "filters", "x.frames"), "filters: it is a folder\n")
-        self.assertEqual(self.said(tool, "firewall.pcapng", "filters"), "filters: it is a folder\n")
-        self.assertEqual(
-            self.said(tool, "firewall.pcapng", "firewall.pcapng"), "firewall.pcapng: it is one of the files that are read\n"
-        )
-        for number in ("-1", "4294967296", "x"):
-            self.assertIn("a number from 0 to 4294967295", self.said(tool, "--interface", number, "firewall.pcapng", "x"))
+        self.assertEqual(self.said(tool, text, "filters"), "filters: it is a folder\n")
+        self.assertEqual(self.said(tool, text, text), f"{text}: it is one of the files that are read\n")
+        for path, kind in (("firewall.pcapng", "a capture (pcapng)"), ("firewall.frames", "a frame stream")):
+            wanted = f"{path}: it is {kind} and no text: xdpvm_filter convert reads it\n"
+            self.assertEqual(self.said(tool, path, "x"), wanted)
         if os.path.exists("/dev/full"):
-            self.assertEqual(self.said(tool, "firewall.pcapng", "/dev/full"), "/dev/full: no space is left\n")
+            self.assertEqual(self.said(tool, text, "/dev/full"), "/dev/full: no space is left\n")
 
     def test_xdp(self) -> None:
         tool = [os.path.join(HERE, "xdp.py"), "--xdpvm", sys.executable]
@@ -288,12 +264,12 @@ class Messages(unittest.TestCase):
         self.assertIn("IMAGE is missing", self.said(tool, "pass.image"))
 
     @unittest.skipUnless(os.path.exists("/proc/self/status"), "there is no /proc")
-    def test_a_long_capture_is_a_stream(self) -> None:
+    def test_a_long_text_is_a_stream(self) -> None:
         """100,000 frames through pipes, in less memory than they fill."""
-        frame = struct.pack("<IIII", 1, 2, 600, 600) + bytes(600)
+        frame = b"frame 1\n" + b"00" * 600 + b"\n"
         code = (
             f"import re, runpy, sys; sys.path.insert(0, {HERE!r})\n"
-            "sys.argv = ['frames.py', '--to', 'frames', '-', '-']\n"
+            "sys.argv = ['frames.py', '-', '-']\n"
             f"runpy.run_path({os.path.join(HERE, 'frames.py')!r}, run_name='__main__')\n"
             "sys.stderr.write(re.search(r'VmHWM:\\s*(\\d+)', open('/proc/self/status').read())[1])"
         )
@@ -301,7 +277,6 @@ class Messages(unittest.TestCase):
             [sys.executable, "-c", code], stdin=subprocess.PIPE, stdout=subprocess.DEVNULL, stderr=subprocess.PIPE
         ) as child:
             given, said = there(child.stdin), there(child.stderr)
-            given.write(struct.pack("<IHHiIII", 0xA1B2C3D4, 2, 4, 0, 0, 65535, 1))
             for _ in range(1000):
                 given.write(frame * 100)
             given.close()

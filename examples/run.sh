@@ -17,9 +17,10 @@ usage: bash $0 asm TEXT IMAGE
        bash $0 [--reasons] [trace] PROGRAM FRAMES [OUT] [--limit N]
 
 PROGRAM is a program text, an image, or an object that clang compiled (image.py). FRAMES is a frame stream, a capture
-(pcap, pcapng) or a text of frames (frames.py); with --reasons a capture becomes a stream with reasons. Each is given by
-its path, or by the name of one in examples/, as in \`run filter numbers\`. OUT gets the frames that are sent on, as a
-capture if its name ends in .pcap or .pcapng; it may be none of the files that are read. The status is that of xdpvm.
+(pcap, pcapng), packed by gzip or not, or a text of frames (frames.py); with --reasons they become a stream with reasons.
+Each is given by its path, or by the name of one in examples/, as in \`run filter numbers\`. OUT gets the frames that
+are sent on, as a capture if its name ends in .pcap or .pcapng; it may be none of the files that are read. The status is
+that of xdpvm.
 
 The program is the xdpvm beside this script, where install.sh puts both, or the proved one of this repository. Where there is
 none it is built without proofs first, in about two minutes, and kept while the sources stay as they are.
@@ -48,7 +49,7 @@ file_of() {
     stop "there is no file $word, and no example of that name"
 }
 
-# What a file is, by its first bytes: image, object, stream, or other.
+# What a file is, by its first bytes: image, object, stream, capture, packed, or other.
 form_of() {
     case $1 in *.image) echo image && return ;; *.frames) echo stream && return ;; esac
     if [ ! -f "$1" ]; then
@@ -59,6 +60,8 @@ form_of() {
         5842503?) echo image ;;
         5850463?) echo stream ;;
         7f454c46) echo object ;;
+        d4c3b2a1 | a1b2c3d4 | 4d3cb2a1 | a1b23c4d | 0a0d0d0a) echo capture ;;
+        1f8b*) echo packed ;;
         *) echo other ;;
     esac
 }
@@ -99,6 +102,17 @@ esac
 program=$(dirname "$0")/xdpvm
 [ -x "$program" ] || program=$here/../crates/xdpvm/out/xdpvm
 [ -x "$program" ] || program=$(python3 "$tools/unproved.py") || exit 1
+
+# Converts frames by the xdpvm_filter that is where xdpvm is. A capture that was cut counts up to there.
+convert() {
+    local filter status=0
+    filter=$(dirname "$program")/xdpvm_filter
+    [ -x "$filter" ] || filter=$here/../crates/xdpvm_filter/out/xdpvm_filter
+    [ -x "$filter" ] || filter=$(python3 "$tools/unproved.py" xdpvm_filter) || exit 1
+    "$filter" convert "$@" 2> "$work/converted" || status=$?
+    cat "$work/converted" >&2
+    [ $status -eq 0 ] || { [ $status -eq 3 ] && grep -q 'the file was cut' "$work/converted"; } || exit $status
+}
 
 # ---- the files: texts are assembled first, captures turned into streams
 
@@ -146,31 +160,46 @@ fi
 frames=$(file_of "${words[1]}" frames pcapng)
 out=${words[2]-}
 refuse_inputs "$out" "$given" "$frames"
-if [ "$(form_of "$frames")" != stream ]; then
-    python3 "$tools/frames.py" "${reasons[@]}" "$frames" "$work/in.frames"
-    frames=$work/in.frames
+if [ "$(form_of "$frames")" = packed ]; then
+    gzip -dc "$frames" > "$work/unpacked" || stop "$frames: what gzip packed is not whole"
+    frames=$work/unpacked
 fi
+case $(form_of "$frames") in
+    stream) ;;
+    capture)
+        convert "${reasons[@]}" "$frames" "$work/in.frames"
+        frames=$work/in.frames
+        ;;
+    *)
+        python3 "$tools/frames.py" "${reasons[@]}" "$frames" "$work/in.frames"
+        frames=$work/in.frames
+        ;;
+esac
 
 # ---- the run; a file OUT takes its name once it is whole
 
-sent=$work/sent.frames
+kind=
 case $out in
-    '' | *.pcap | *.pcapng) ;;
-    *)
-        sent=$out
-        if [ ! -e "$out" ] || [ -f "$out" ]; then
-            part=$(mktemp "$(dirname "$out")/.$(basename "$out").XXXXXX")
-            sent=$part
-        fi
-        ;;
+    '') ;;
+    *.pcap) kind=pcap ;;
+    *.pcapng) kind=pcapng ;;
+    *) kind=frames ;;
 esac
+made=$out
+if [ -n "$out" ] && { [ ! -e "$out" ] || [ -f "$out" ]; }; then
+    part=$(mktemp "$(dirname "$out")/.$(basename "$out").XXXXXX")
+    made=$part
+fi
+sent=$work/sent.frames
+if [ "$kind" = frames ]; then
+    sent=$made
+fi
 "$program" "$command" "$image" "$frames" "$sent" "${limit[@]}" || status=$?
 if [ $status -eq 0 ] || [ $status -eq 3 ]; then
+    case $kind in pcap*) convert --to "$kind" "$sent" "$made" ;; esac
     if [ -n "$part" ]; then
         chmod --reference="$out" "$part" 2> /dev/null || chmod "$(printf '%o' $((0666 & ~$(umask))))" "$part"
         mv "$part" "$(realpath "$out")"
-    elif [ -n "$out" ] && [ "$sent" != "$out" ]; then
-        python3 "$tools/frames.py" "$sent" "$out"
     fi
 fi
 exit $status

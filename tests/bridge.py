@@ -312,6 +312,12 @@ def ends_with(program: Path, status: int, words: str, *given_words: str, prefix:
     )
 
 
+def filter_beside(xdpvm: Path) -> str:
+    """The program that converts captures: the one beside xdpvm, or that of this repository."""
+    beside = xdpvm.parent / "xdpvm_filter"
+    return str(beside) if beside.exists() else str(TOP / "crates/xdpvm_filter/out/xdpvm_filter")
+
+
 def image_of(xdpvm: Path, text: str, image: Path) -> Path:
     source = image.with_suffix(".text")
     source.write_text(text)
@@ -397,7 +403,7 @@ def test_frames(
     need(bridge.end(signal.SIGINT) == 0, "the bridge did not end with 0")
     counts = bridge.counts()
     need(counts["received"] == count and not counts["lost"] and not counts["not sent"], f"{count} frames were sent: {counts}")
-    called(sys.executable, str(TOP / "tools/frames.py"), "--reasons", str(capture), str(stream))
+    called(filter_beside(xdpvm), "convert", "--reasons", str(capture), str(stream))
     with report.open("w") as file:
         subprocess.run([str(xdpvm), "run", str(image), str(stream), str(out)], stdout=file, check=True)
     actions = [line.split(" ")[1] for line in report.read_text().splitlines() if line[0].isdigit()]

@@ -13,9 +13,9 @@ The captures from seed 40 on have IP packets of other link types: Linux's `any` 
 byte order; some packets are none of IP. Their rows have the SHA-256 of what Wireshark's tshark says of each: its time, addresses,
 UDP ports and payload, which are read here from the Ethernet frames.
 
-Each capture is also written, as a pcap and as a pcapng: the packets of the pcap, and those that editcap or tshark reads of the
-pcapng where it is installed, have to be the same. tools/frames.py has to make the frame stream of it that `xdpvm_filter convert`
-makes, and each frame of that has the reason that its packet's comment says, or 0.
+Each capture is also written, as a pcap, as a pcapng and as a frame stream: the packets of the pcap and of the stream, and those
+that editcap or tshark reads of the pcapng where it is installed, have to be the same, and each frame of the stream has the reason
+that its packet's comment says, or 0.
 
 What differs is printed; the last line counts, and the status is 1 if anything differs.
 """
@@ -264,27 +264,26 @@ def read(program: str, folder: str, path: str, seed: int) -> str:
 
 
 def wrote(program: str, folder: str, path: str, seed: int, kept: str) -> list[str]:
-    """What differs in the captures that xdpvm_filter writes of a capture."""
-    wrong = []
+    """What differs in the captures that xdpvm_filter writes of a capture, and in the frame stream that it makes of one."""
+    out = os.path.join(folder, "converted.frames")
+    subprocess.run([program, "convert", "--reasons", path, out], capture_output=True, check=False)
+    seen = summed_of(seed, packets_of_stream(bytes_of(out)))
+    wrong = [] if seen == kept else [f"converted to a stream: {seen}"]
     for ending in ("pcap", "pcapng"):
         out = os.path.join(folder, f"written.{ending}")
         subprocess.run([program, PASS, path, out], capture_output=True, check=False)
-        seen = [from_outside(seed, folder, out)]
-        seen += [summed_of(seed, packets_of_pcap(bytes_of(out)))] if ending == "pcap" else []
-        wrong += [f"written as a {ending}: {it}" for it in seen if it not in (None, kept)]
+        found = [from_outside(seed, folder, out)]
+        found += [summed_of(seed, packets_of_pcap(bytes_of(out)))] if ending == "pcap" else []
+        wrong += [f"written as a {ending}: {it}" for it in found if it not in (None, kept)]
     return wrong
 
 
 def converted(program: str, folder: str, path: str, reasons: list[int]) -> list[str]:
-    """What differs between the streams that xdpvm_filter and tools/frames.py make of a capture, and in its reasons."""
-    made: list[bytes] = []
-    for command in ([program, "convert"], [sys.executable, os.path.join(TOP, "tools/frames.py")]):
-        out = os.path.join(folder, f"converted{len(made)}.frames")
-        subprocess.run([*command, "--to", "frames", "--reasons", path, out], capture_output=True, check=False)
-        made.append(bytes_of(out) if os.path.exists(out) else b"")
-    wrong = [] if made[0] == made[1] and made[0] else ["tools/frames.py makes another stream than xdpvm_filter convert"]
-    found = reasons_of_stream(made[0])
-    return wrong + ([] if found == (reasons or [0] * len(found)) else ["xdpvm_filter convert reads other reasons"])
+    """What differs in the reasons of the stream that xdpvm_filter makes of a capture."""
+    out = os.path.join(folder, "converted.frames")
+    subprocess.run([program, "convert", "--reasons", path, out], capture_output=True, check=False)
+    found = reasons_of_stream(bytes_of(out))
+    return [] if found == (reasons or [0] * len(found)) else ["xdpvm_filter convert reads other reasons"]
 
 
 def main(words: list[str]) -> int:

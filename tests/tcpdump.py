@@ -88,7 +88,7 @@ def cases() -> list[Case]:
 def stored_frames() -> list[bytes]:
     """The frames of the capture."""
     with tempfile.TemporaryDirectory() as folder:
-        words = [sys.executable, os.path.join(TOP, "tools/frames.py"), CAPTURE, f"{folder}/frames"]
+        words = [built("xdpvm_filter"), "convert", CAPTURE, f"{folder}/frames"]
         subprocess.run(words, check=True)
         with open(f"{folder}/frames", "rb") as file:
             return list(send.bodies(file.read()))

@@ -6,7 +6,7 @@ usage: python3 tools/kernel.py FILTER FRAMES [--maps MAPS] [--xdpvm PROGRAM] [--
 
 FILTER is an image, a text, an object or C, as xdp.py takes it. The image's maps are made in the kernel and its program
 is loaded there, by bpf(2); nothing is attached or pinned, and all is closed at the end. The program runs on each frame
-of FRAMES (a frame stream, or a capture that frames.py reads) by the kernel's test run, and by `xdpvm run`. It prints
+of FRAMES (a frame stream, a capture or a text of frames) by the kernel's test run, and by `xdpvm run`. It prints
 both verdicts, and where the runs agree or differ: for each frame the action and the bytes after the run, and at the end
 the contents of the maps.
 
@@ -44,8 +44,8 @@ from failures import Words, said, tell
 from inputs import named
 from kernel_calls import LEAST, MOST, Entry, Kernel, NoKernel, parsed, without_perfmon
 from map_files import Filling, filling
+from runs import STREAMS, Conversion
 
-HERE = os.path.dirname(os.path.realpath(__file__))
 ACTIONS = ["ABORTED", "DROP", "PASS", "TX", "REDIRECT"]
 TIME = 10**9  # in nanoseconds, where both are given the same
 Frame = tuple[int, bytes]  # time and body
@@ -205,18 +205,14 @@ def differences(kernel: Kernel, ran: Ran, frames: list[Frame]) -> tuple[list[str
 # ---- the command
 
 
-def frames_in(path: str) -> tuple[list[Frame], int]:
-    """The frames of a stream or a capture that fit the kernel's test run, and how many were left out."""
-    with open(path, "rb") as file:
-        content = file.read()
-    if content[:4] not in (b"XPF1", b"XPF2"):
-        with tempfile.TemporaryDirectory() as folder:
-            made = f"{folder}/made.frames"
-            if subprocess.run([sys.executable, f"{HERE}/frames.py", path, made], check=False).returncode:
-                raise ValueError(f"{path} is no frame stream and no capture")
-            with open(made, "rb") as file:
-                content = file.read()
-    found = records(content)
+def frames_in(path: str, xdpvm: str, folder: str) -> tuple[list[Frame], int]:
+    """The frames of a stream, a capture or a text that fit the kernel's test run, and how many were left out."""
+    begin, made = sources.begin_of(path), path
+    if begin not in STREAMS:
+        made = f"{folder}/made.frames"
+        Conversion(xdpvm, "frames", []).made(begin, path, made, path)
+    with open(made, "rb") as file:
+        found = records(file.read())
     fit = [it for it in found if LEAST <= len(it[1]) <= MOST]
     return fit, len(found) - len(fit)
 
@@ -258,7 +254,7 @@ def compared(given: argparse.Namespace, folder: str) -> int:
     path, source = sources.image_of(given.filter, choice, folder)
     with open(path, "rb") as file:
         image = file.read()
-    frames, left_out = frames_in(given.frames)
+    frames, left_out = frames_in(given.frames, given.xdpvm, folder)
     has_clock = asks_for_time(image)
     if has_clock:
         frames = [(TIME, body) for _, body in frames]

@@ -1,5 +1,5 @@
 """A run of an image on frames, by `xdpvm run` or `trace`, or by `xdpvm_filter` where maps are filled or kept, and the
-programs that convert the frames before and after it: `xdpvm_filter convert`, or frames.py."""
+programs that convert the frames before and after it: `xdpvm_filter convert`, and frames.py for texts."""
 
 import contextlib
 import os
@@ -11,8 +11,9 @@ from collections.abc import Callable, Iterator
 from typing import IO, BinaryIO
 
 from map_files import Filling
-from outputs import is_plain, write_whole
-from sources import HERE, Failed
+from outputs import copy_whole, is_plain, write_whole
+from packed import GZIP, Packed, looked_at, pieces_of, unpacked
+from sources import HERE, Failed, the_filter
 
 FRAMES = os.path.join(HERE, "frames.py")
 STREAMS = (b"XPF1", b"XPF2")
@@ -136,30 +137,45 @@ class Run:
 
 @dataclass
 class Conversion:
-    """How frames are converted: what they become, with reasons or without, and the program that does it where it reads
-    them. frames.py does it for texts, packed captures and the reasons in the comments of a pcapng, and where there is no
-    program."""
+    """How frames are converted: what they become, with reasons or without, and the xdpvm beside which is the program that
+    does it. frames.py makes a frame stream of a text."""
 
-    program: str
+    xdpvm: str
     kind: str
     reasons: list[str]
 
     def words(self, begin: bytes, source: str, made: str, named: str = "") -> list[str]:
         """The command for frames that begin so. `named` is what messages of frames.py call the source."""
-        if self.program and (begin in (*STREAMS, *PCAP) or begin == PCAPNG and not self.reasons):
+        if begin in (*STREAMS, *PCAP, PCAPNG):
             kind = "text" if self.kind == "txt" else self.kind
-            return [self.program, "convert", "--to", kind, *self.reasons, source, made]
+            return [the_filter(self.xdpvm), "convert", "--to", kind, *self.reasons, source, made]
         told = ["--named", named] if named else []
-        return [sys.executable, FRAMES, "--to", self.kind, *told, *self.reasons, source, made]
+        return [sys.executable, FRAMES, *told, *self.reasons, source, made]
 
     def made(self, begin: bytes, source: str, made: str, name: str) -> str:
-        """Converts a file; the result is what is said of its frames. `name` is what messages call the file if that is a
-        temporary one."""
-        ran = subprocess.run(self.words(begin, source, made), stderr=subprocess.PIPE, text=True, errors="replace", check=False)
+        """Converts a file, which gzip may have packed; the result is what is said of its frames. `name` is what messages
+        call the file if that is a temporary one."""
+        if begin[: len(GZIP)] == GZIP:
+            begin, source = written_unpacked(source, f"{made}.unpacked")
+        ran = subprocess.run(
+            self.words(begin, source, made, name), stderr=subprocess.PIPE, text=True, errors="replace", check=False
+        )
         sys.stderr.write(ran.stderr.replace(source, name))
         if ran.returncode and not is_cut(ran.returncode, ran.stderr):
             raise Failed(f"{name} cannot be converted")
         return ran.stderr
+
+
+def written_unpacked(path: str, made: str) -> tuple[bytes, str]:
+    """Unpacks a file; the first bytes of what was packed in it, and the file that has it. What is said of a file that
+    ends early is said."""
+    with open(path, "rb") as source, open(made, "wb") as out:
+        begin, pieces = looked_at(unpacked(pieces_of(source)))
+        try:
+            out.writelines(pieces)
+        except Packed as why:
+            print(f"{path}: {why}", file=sys.stderr)
+    return begin, made
 
 
 def is_cut(status: int, said: str) -> bool:
@@ -167,22 +183,15 @@ def is_cut(status: int, said: str) -> bool:
     return status == 3 and CUT_OFF in said
 
 
-def handed_on(begin: bytes, source: BinaryIO, sink: IO[bytes]) -> None:
-    """Hands on bytes that were looked at, and then all that comes."""
-    data = begin
+def handed_on(pieces: Iterator[bytes], sink: IO[bytes], name: str) -> None:
+    """Hands on pieces as they come. `name` is what messages call the file that they are of."""
     with contextlib.suppress(BrokenPipeError), sink:
-        while data:
-            sink.write(data)
-            sink.flush()
-            data = os.read(source.fileno(), 1 << 16)
-
-
-def looked_at(source: BinaryIO) -> bytes:
-    """The first four bytes, or fewer where there are no more."""
-    begin = b""
-    while len(begin) < 4 and (more := os.read(source.fileno(), 4 - len(begin))):
-        begin += more
-    return begin
+        try:
+            for data in pieces:
+                sink.write(data)
+                sink.flush()
+        except Packed as why:
+            print(f"{name}: {why}", file=sys.stderr)
 
 
 @dataclass
@@ -194,14 +203,13 @@ class Ends:
     out: str | None
     kind: str
     reasons: list[str]
-    program: str
 
 
 class Live:
     """A run on frames as they come, which hands on those that are sent on as they come."""
 
     def __init__(self, wanted: Wanted, ends: Ends) -> None:
-        self.ends, self.chain = ends, Chain()
+        self.ends, self.chain, self.wanted = ends, Chain(), wanted
         self.sent = "/dev/null"
         self.said = wanted.path("converted")  # what is said of the capture
         self.run = Run(wanted, self.chain, keeps_errors=True)
@@ -209,10 +217,13 @@ class Live:
 
     def start(self, capture: BinaryIO) -> None:
         """Starts the programs, and what feeds the first of them."""
-        ends, begin = self.ends, looked_at(capture)
+        ends = self.ends
+        begin, pieces = looked_at(pieces_of(capture))
+        if begin[: len(GZIP)] == GZIP:
+            begin, pieces = looked_at(unpacked(pieces))
         source: object = subprocess.PIPE
         if begin[:3] != b"XPF":
-            words = Conversion(ends.program, "frames", ends.reasons).words(begin, "-", "-")
+            words = Conversion(self.wanted.xdpvm, "frames", ends.reasons).words(begin, "-", "-", ends.capture)
             with open(self.said, "wb") as said:
                 how = {"stdin": subprocess.PIPE, "stdout": subprocess.PIPE, "stderr": said}
                 source = self.chain.start(ends.capture, words, **how).stdout
@@ -222,13 +233,17 @@ class Live:
         self.run.start("/dev/stdin", self.sent, (write_end,), stdin=source)
         os.close(write_end)
         if ends.out:
-            program = "" if is_plain(ends.out) else ends.program  # which writes over an old file at once
-            words = Conversion(program, ends.kind, ends.reasons).words(STREAMS[0], "-", ends.out, SENT)
+            words = Conversion(self.wanted.xdpvm, ends.kind, ends.reasons).words(STREAMS[0], "-", self.made(ends.out))
             self.chain.start(SENT, words, stdin=read_end)
         os.close(read_end)
         sink = self.chain.running[0][1].stdin
         assert sink is not None
-        threading.Thread(target=handed_on, args=(begin, capture, sink), daemon=True).start()
+        threading.Thread(target=handed_on, args=(pieces, sink, ends.capture), daemon=True).start()
+
+    def made(self, out: str) -> str:
+        """The file that the frames are written to: that one, or where it is on a disk, one that is copied when it is
+        whole."""
+        return self.wanted.path("out") if out != "-" and is_plain(out) else out
 
     def told(self) -> str:
         """What is said of the capture."""
@@ -252,4 +267,7 @@ class Live:
         tell(self.run.errors().replace(self.sent, SENT).replace("/dev/stdin", self.ends.capture))
         if failed and status in ENDED:
             raise Failed(f"{failed[0]} cannot be converted")
+        out = self.ends.out
+        if out and self.made(out) != out and status in ENDED:
+            copy_whole(out, self.made(out), self.wanted.read)
         return status, said

@@ -72,14 +72,6 @@ OF_LENGTH = "the expression asks for the length: tcpdump takes that on the wire,
 # ---- the frames
 
 
-def converter(xdpvm: str) -> str:
-    """The program that converts frames, if it is there."""
-    try:
-        return the_filter(xdpvm)
-    except Failed:
-        return ""
-
-
 def kind_of(out: str, to: str | None) -> str:
     """The format of the frames that are sent on."""
     ending = os.path.splitext(out)[1][1:]
@@ -99,7 +91,7 @@ def told_of(given: argparse.Namespace, its: Run, source: Source) -> None:
 
 def run_live(given: argparse.Namespace, wanted: Wanted, source: Source) -> tuple[int, str]:
     """Runs the image on frames as they come; the status, and the refusal of what fills the maps."""
-    live = Live(wanted, Ends(given.capture, given.out, given.kind, ["--reasons"] * given.reasons, converter(given.xdpvm)))
+    live = Live(wanted, Ends(given.capture, given.out, given.kind, ["--reasons"] * given.reasons))
     try:
         told_of(given, live.run, source)
         return live.finish(lambda said: tell_errors(source, said))
@@ -123,11 +115,11 @@ def run_whole(given: argparse.Namespace, wanted: Wanted, source: Source) -> tupl
     """The same on the frames of a file."""
     reasons = ["--reasons"] * given.reasons
     frames, sent = wanted.path("in.frames"), wanted.path("sent.frames")
-    program, begin = converter(given.xdpvm), begin_of(given.capture)
+    begin = begin_of(given.capture)
     if begin[:3] == b"XPF":
         frames = given.capture
     else:
-        said = Conversion(program, "frames", reasons).made(begin, given.capture, frames, given.capture)
+        said = Conversion(given.xdpvm, "frames", reasons).made(begin, given.capture, frames, given.capture)
         if given.asks_for_length and CUT in said:
             print(OF_LENGTH, file=sys.stderr)
     chain = Chain()
@@ -141,7 +133,7 @@ def run_whole(given: argparse.Namespace, wanted: Wanted, source: Source) -> tupl
     tell_errors(source, its.errors())
     if given.out and status in ENDED:
         made = wanted.path("out")
-        Conversion(program, given.kind, reasons).made(STREAMS[0], sent, made, SENT)
+        Conversion(given.xdpvm, given.kind, reasons).made(STREAMS[0], sent, made, SENT)
         copy_whole(given.out, made, wanted.read)
     if given.hits and status in ENDED:
         write_hits(given, wanted, source, frames)
