@@ -20,7 +20,7 @@ fault_sentence fault other = streams.sentence_of fault
 abbrev pub long_hint : FileForm → List ℕ
 long_hint form.Pcap = codes "\nthe packets before it were read: make the capture again\n"
 long_hint form.Pcapng = codes "\nthe packets before it were read: make the capture again\n"
-long_hint other = codes "\nshorten the frame, or make a stream of XPF2 by frames.py --reasons\n"
+long_hint other = codes "\nshorten the frame, or make a stream of XPF2 by xdpvm_filter convert --reasons\n"
 
 -- the end of the line with the sentence, and then a line with a hint
 abbrev pub fault_hint : Fault → FileForm → List ℕ

@@ -32,7 +32,7 @@ fn long_hint(form: FileForm) -> &'static str
     match form {
         FileForm::Pcap | FileForm::Pcapng =>
             "\nthe packets before it were read: make the capture again\n",
-        _ => "\nshorten the frame, or make a stream of XPF2 by frames.py --reasons\n",
+        _ => "\nshorten the frame, or make a stream of XPF2 by xdpvm_filter convert --reasons\n",
     }
 }
 

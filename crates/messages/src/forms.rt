@@ -103,8 +103,9 @@ impl FileForm {
             FileForm::Elf => "it is an ELF object: image.py makes an image of it\n",
             FileForm::Gzip => "it is packed by gzip: gunzip unpacks it\n",
             FileForm::Zstd => "it is packed by zstd: unzstd unpacks it\n",
-            FileForm::Pcap => "it is a capture (pcap): frames.py makes a frame stream of it\n",
-            FileForm::Pcapng => "it is a capture (pcapng): frames.py makes a frame stream of it\n",
+            FileForm::Pcap => "it is a capture (pcap): xdpvm_filter convert makes a stream of it\n",
+            FileForm::Pcapng =>
+                "it is a capture (pcapng): xdpvm_filter convert makes a stream of it\n",
             FileForm::UnreadCapture => "it is a capture\n",
             FileForm::Image => "it is an image\n",
             FileForm::Frames => {
@@ -124,15 +125,15 @@ impl FileForm {
     {
         match self {
             FileForm::Unknown | FileForm::Frames =>
-                "\nframes.py makes a stream of a capture (pcap, pcapng)\n",
+                "\nxdpvm_filter convert makes a stream of a capture (pcap, pcapng)\n",
             FileForm::Short => "\nit has fewer than 4 bytes\n",
             FileForm::Elf => "\nit is an ELF object: image.py makes an image of it, not frames\n",
-            FileForm::Gzip =>
-                "\nit is packed by gzip: frames.py makes a frame stream of a packed capture\n",
+            FileForm::Gzip => "\nit is packed by gzip: gunzip unpacks it\n",
             FileForm::Zstd => "\nit is packed by zstd: unzstd unpacks it\n",
-            FileForm::Pcap => "\nit is a capture (pcap): frames.py makes a frame stream of it\n",
+            FileForm::Pcap =>
+                "\nit is a capture (pcap): xdpvm_filter convert makes a stream of it\n",
             FileForm::Pcapng => {
-                "\nit is a capture (pcapng): frames.py makes a frame stream of it\n"
+                "\nit is a capture (pcapng): xdpvm_filter convert makes a stream of it\n"
             }
             FileForm::UnreadCapture => {
                 "\nit is a capture that is cut in its head, or of another link type than Ethernet (1), \

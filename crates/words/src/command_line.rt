@@ -38,7 +38,7 @@ pub const IMAGE: Argument = Argument {
 
 const FRAMES: Argument = Argument {
     name: "frames",
-    help: "The stream of frames, as `frames.py` makes it; /dev/stdin is taken, too",
+    help: "The stream of frames, as `xdpvm_filter convert` makes it; /dev/stdin is taken, too",
 };
 
 const OUT: Argument = Argument {

@@ -26,7 +26,7 @@ const SHOW_ABOUT: &str =
 
 const FRAMES: Argument = Argument {
     name: "frames",
-    help: "The stream of frames, as `frames.py` makes it; - is standard input",
+    help: "The stream of frames, as `xdpvm_filter convert` makes it; - is standard input",
 };
 
 const OUT: Argument = Argument {

@@ -17,7 +17,7 @@ pub fn entry(code: &str) -> Option<&'static str>
              \n    \
              # fault F1 at 0\n    \
              # the stream does not begin with XPF1 or XPF2\n    \
-             # it is a capture (pcap): frames.py makes a frame stream of it\n    \
+             # it is a capture (pcap): xdpvm_filter convert makes a stream of it\n    \
              # the frames out are a magic alone\n    \
              d4c3b2a1              # a pcap file\n",
         "F2" => "F2, the stream ends within a record's head of 20 bytes, in `XPF2` of \
@@ -30,16 +30,17 @@ pub fn entry(code: &str) -> Option<&'static str>
              58504631\n    \
              e803000000000000 01000000\n",
         "F3" => "F3, a frame longer than 4,096 bytes, in `XPF2` than 9,216. Shorten it,\n\
-             split the stream there, or convert it to `XPF2` (`frames.py \
-             --reasons`). Of a\n\
-             capture that `xdpvm_filter` reads: a packet or a block that is none\n\
-             (docs/FORMATS.md#captures). The packets before it were read: make the \
-             capture\n\
-             again.\n\
+             split the stream there, or convert it to `XPF2` (`xdpvm_filter convert\n\
+             --reasons`). Of a capture that `xdpvm_filter` reads: a packet or a \
+             block that\n\
+             is none (docs/FORMATS.md#captures); the message says at which byte it \
+             begins.\n\
+             The packets before it were read: make the capture again.\n\
              \n    \
              # fault F3 at 4\n    \
              # the frame is longer than 4096 bytes, or than 9216 in XPF2\n    \
-             # shorten the frame, or make a stream of XPF2 by frames.py --reasons\n    \
+             # shorten the frame, or make a stream of XPF2 by xdpvm_filter convert \
+             --reasons\n    \
              58504631\n    \
              e803000000000000 01000000 00000000 01100000    # 4,097 bytes\n",
         "F4" => "F4, the stream ends within a frame's bytes. The file was cut.\n\
