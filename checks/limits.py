@@ -72,7 +72,7 @@ EXCEPTIONS = (
     ("captures/specs/Links.antt", "(big_number 4 bytes)", "the upper half of an address family, which is zero"),
     ("captures/", "nterfaces", "the interfaces of a section"),
     ("captures/src/interfaces.rt", "MAX_INTERFACES", "the interfaces of a section"),
-    ("capture_writer/src/kinds.rt", "MAX_DESCRIBED", "the interfaces of a section"),
+    ("captures/src/kinds.rt", "MAX_DESCRIBED", "the interfaces of a section"),
     ("captures/proofs/OpeningLaws.antt", "get_or head", "the bytes of a number"),
     ("map_indexes/src/arrays.rt", "(index / ", "the third and the fourth byte of a number"),
     ("stack_state/proofs/CellLaws.antt", "div-div-eq-div-mul n ", "the third and the fourth byte of a number"),

@@ -10,3 +10,11 @@ pub mod PacketLaws
 pub mod ReasonLaws
 pub mod FindingLaws
 pub mod OpeningLaws
+pub mod PieceLaws
+pub mod WritingLaws
+pub mod Recorded
+pub mod PcapRecorded
+pub mod PcapngRecorded
+pub mod ReadBackLaws
+pub mod TextsLaws
+pub mod CopiesLaws

@@ -11,3 +11,12 @@ pub mod FrameBytes
 pub mod Counts
 pub mod Streams
 pub mod Choices
+pub mod CaptureBytes
+pub mod Writing
+pub mod Reached
+pub mod WriterStates
+pub mod ReadBack
+pub mod Texts
+pub mod CopyCounts
+pub mod Placing
+pub mod Copies

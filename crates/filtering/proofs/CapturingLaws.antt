@@ -9,14 +9,14 @@ use Rattle.std.proofs.lemmas.List.{append-nil}
 use Rattle.frames.specs.declared.writer.Unwritten.{Unwritten}
 use Rattle.frames.specs.Sources.{Origin}
 use Rattle.isa_model.specs.declared.versions.Version.{Version}
-use Rattle.capture_writer.specs.declared.kinds.CaptureForm.{CaptureForm}
-use Rattle.capture_writer.specs.declared.kinds.LostCounts.{LostCounts}
-use Rattle.capture_writer.specs.Writing.{HasWritten, IsWrittenSoFar}
-use Rattle.capture_writer.specs.Reached.{reached_by}
-use Rattle.converting.specs.declared.forms.FrameForm.TheVariants.{Records}
-use Rattle.converting.specs.declared.forms.StreamEnd.{StreamEnd}
-use Rattle.converting.specs.declared.placing.Placing.{Placing}
-use Rattle.converting.specs.Copies.{CopiesFrames, CopiesWhole}
+use Rattle.captures.specs.declared.kinds.CaptureForm.{CaptureForm}
+use Rattle.captures.specs.declared.kinds.LostCounts.{LostCounts}
+use Rattle.captures.specs.Writing.{HasWritten, IsWrittenSoFar}
+use Rattle.captures.specs.Reached.{reached_by}
+use Rattle.captures.specs.declared.frame_forms.FrameForm.TheVariants.{Records}
+use Rattle.captures.specs.declared.frame_forms.StreamEnd.{StreamEnd}
+use Rattle.captures.specs.declared.placing.Placing.{Placing}
+use Rattle.captures.specs.Copies.{CopiesFrames, CopiesWhole}
 use Rattle.commands.specs.declared.outcomes.TaskOutcome.{TaskOutcome}
 use Rattle.commands.specs.Streams.{IsBeginningOf}
 use Rattle.filtering.specs.Capturing.{HasCaptured}

@@ -1,9 +1,9 @@
 -- What the file of the frames out has, where they became a capture.
 use Rattle.std.specs.Prelude.{◌≡◌, ℕ, List, Option, unwrap_or}
 use Rattle.isa_model.specs.declared.versions.Version.{Version}
-use Rattle.capture_writer.specs.declared.kinds.CaptureForm.{CaptureForm}
-use Rattle.capture_writer.specs.declared.kinds.LostCounts.{LostCounts}
-use Rattle.capture_writer.specs.Writing.{HasWritten}
+use Rattle.captures.specs.declared.kinds.CaptureForm.{CaptureForm}
+use Rattle.captures.specs.declared.kinds.LostCounts.{LostCounts}
+use Rattle.captures.specs.Writing.{HasWritten}
 
 -- What was handed on from `origin` to `handed` is the stream of some frames, up to a part of a next
 -- record, and the file, which had `before`, got the capture of these frames, of this form where

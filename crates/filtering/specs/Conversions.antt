@@ -9,11 +9,11 @@ use Rattle.captures.specs.declared.counts.CaptureCounts.{CaptureCounts}
 use Rattle.captures.specs.declared.forms.Reasons.TheVariants.{Read}
 use Rattle.captures.specs.declared.packets.CaptureDamage.{CaptureDamage}
 use Rattle.captures.specs.Choices.{IsFramesOf}
-use Rattle.capture_writer.specs.declared.kinds.CaptureKind.{CaptureKind}
-use Rattle.converting.specs.declared.forms.FrameForm.{FrameForm}
-use Rattle.converting.specs.declared.forms.FrameForm.TheVariants.{Records}
-use Rattle.converting.specs.declared.forms.StreamEnd.{StreamEnd}
-use Rattle.converting.specs.declared.placing.Placing.{Placing}
+use Rattle.captures.specs.declared.kinds.CaptureKind.{CaptureKind}
+use Rattle.captures.specs.declared.frame_forms.FrameForm.{FrameForm}
+use Rattle.captures.specs.declared.frame_forms.FrameForm.TheVariants.{Records}
+use Rattle.captures.specs.declared.frame_forms.StreamEnd.{StreamEnd}
+use Rattle.captures.specs.declared.placing.Placing.{Placing}
 use Rattle.messages.specs.declared.forms.FileForm.{FileForm}
 use Rattle.words.specs.declared.filter_tasks.FramesKind.{FramesKind}
 use Rattle.words.specs.FilterRequests.{ConvertRequest}

@@ -4,14 +4,14 @@ use Rattle.std.specs.Io.KnownBytes.{Keeps}
 use Rattle.std.specs.declared.io.ErrorKind.{ErrorKind}
 use Rattle.frames.specs.declared.writer.Unwritten.{Unwritten}
 use Rattle.frames.specs.Sources.{Origin}
-use Rattle.capture_writer.specs.declared.kinds.CaptureForm.{CaptureForm}
-use Rattle.capture_writer.specs.declared.kinds.CaptureKind.{CaptureKind}
-use Rattle.capture_writer.specs.declared.kinds.LostCounts.{LostCounts}
-use Rattle.converting.specs.declared.forms.FrameForm.{FrameForm}
-use Rattle.converting.specs.declared.forms.StreamEnd.{StreamEnd}
-use Rattle.converting.specs.declared.placing.Placing.{Placing}
-use Rattle.converting.specs.declared.forms.FrameForm.TheVariants.{Records}
-use Rattle.converting.specs.Copies.{CopiesFrames, CopiesWhole}
+use Rattle.captures.specs.declared.kinds.CaptureForm.{CaptureForm}
+use Rattle.captures.specs.declared.kinds.CaptureKind.{CaptureKind}
+use Rattle.captures.specs.declared.kinds.LostCounts.{LostCounts}
+use Rattle.captures.specs.declared.frame_forms.FrameForm.{FrameForm}
+use Rattle.captures.specs.declared.frame_forms.StreamEnd.{StreamEnd}
+use Rattle.captures.specs.declared.placing.Placing.{Placing}
+use Rattle.captures.specs.declared.frame_forms.FrameForm.TheVariants.{Records}
+use Rattle.captures.specs.Copies.{CopiesFrames, CopiesWhole}
 use Rattle.commands.specs.declared.outcomes.TaskOutcome.{TaskOutcome}
 use Rattle.commands.specs.Statuses.{IsWriteFailureBy}
 use Rattle.commands.specs.Streams.{IsBeginningOf}

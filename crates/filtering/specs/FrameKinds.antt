@@ -1,7 +1,7 @@
 -- What frames become that are written again.
 use Rattle.std.specs.Prelude.{ℕ, List, Option, Some, None, codes, if◌then◌else◌, Bool, true, option_map}
-use Rattle.capture_writer.specs.declared.kinds.CaptureKind.TheVariants as capture
-use Rattle.converting.specs.declared.forms.FrameForm.TheVariants as form
+use Rattle.captures.specs.declared.kinds.CaptureKind.TheVariants as capture
+use Rattle.captures.specs.declared.frame_forms.FrameForm.TheVariants as form
 use Rattle.messages.specs.declared.forms.FileForm.{FileForm}
 use Rattle.messages.specs.declared.forms.FileForm.TheVariants.{Frames}
 use Rattle.words.specs.declared.filter_tasks.FramesKind.{FramesKind}

@@ -13,10 +13,10 @@ use Rattle.captures.specs.declared.counts.CaptureCounts.{CaptureCounts}
 use Rattle.captures.specs.declared.packets.CaptureDamage.{CaptureDamage}
 use Rattle.captures.specs.declared.packets.PacketFault.{PacketFault}
 use Rattle.captures.specs.declared.packets.PacketFault.TheVariants.{TruncatedRecord, TooLong, TruncatedPacket, BadBlock, UnknownInterface, UnknownInterfaceLink, TooManyInterfaces}
-use Rattle.capture_writer.specs.declared.kinds.CaptureKind.{CaptureKind}
-use Rattle.capture_writer.specs.declared.kinds.CaptureKind.TheVariants.{Pcap, Pcapng}
-use Rattle.capture_writer.specs.declared.kinds.LostCounts.{LostCounts}
-use Rattle.converting.specs.declared.forms.CopyCounts.{CopyCounts}
+use Rattle.captures.specs.declared.kinds.CaptureKind.{CaptureKind}
+use Rattle.captures.specs.declared.kinds.CaptureKind.TheVariants.{Pcap, Pcapng}
+use Rattle.captures.specs.declared.kinds.LostCounts.{LostCounts}
+use Rattle.captures.specs.declared.frame_forms.CopyCounts.{CopyCounts}
 
 -- a line with a count, unless it is 0
 abbrev pub lost_line : List ℕ → ℕ → List ℕ

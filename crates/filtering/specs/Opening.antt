@@ -1,8 +1,8 @@
 -- The names of a run's files, and how a task ends if one cannot be opened.
 use Rattle.std.specs.Prelude.{◌≡◌, ◌⊎◌, ℕ, Bool, true, false, List, Option, Some, None, bytes_eq, codes, nat_eq, if◌then◌else◌}
 use Rattle.std.specs.List.{ends_with}
-use Rattle.capture_writer.specs.declared.kinds.CaptureKind.{CaptureKind}
-use Rattle.capture_writer.specs.declared.kinds.CaptureKind.TheVariants as kind
+use Rattle.captures.specs.declared.kinds.CaptureKind.{CaptureKind}
+use Rattle.captures.specs.declared.kinds.CaptureKind.TheVariants as kind
 use Rattle.words.specs.FilterRequests.{FilterRequest}
 use Rattle.messages.specs.declared.forms.FileForm.{FileForm}
 use Rattle.messages.specs.declared.forms.FileForm.TheVariants.{Pcap, Pcapng, UnreadCapture}

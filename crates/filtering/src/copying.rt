@@ -3,14 +3,15 @@
 ghost use Rattle.std.specs.Prelude.{◌≡◌, ℕ, List, Option, IfOk, OnOk, unwrap_or};
 ghost use Rattle.std.specs.Io.KnownBytes.{Keeps};
 ghost use Rattle.exact_io.specs.Waiting.{behind, held};
-ghost use Rattle.converting.specs.declared.forms.FrameForm.TheVariants.{Records};
+ghost use Rattle.captures.specs.declared.frame_forms.FrameForm.TheVariants.{Records};
 ghost use Rattle.filtering.specs.Copying.{CapturesAll, Copies, CopiesSome, DeliversCopy, all_frames};
 
 use super::losing::Loss;
 use super::sending::SentOutput;
-use capture_writer::{CaptureForm, CaptureKind, CaptureWriter, Followed};
+use captures::{
+    CaptureForm, CaptureKind, CaptureWriter, Followed, FrameForm, Placing, StreamEnd, copy_frames,
+};
 use commands::TaskOutcome;
-use converting::{FrameForm, Placing, StreamEnd, copy_frames};
 use exact_io::PromptWriter;
 use frames::{Source, Unwritten};
 use std::io::Write;

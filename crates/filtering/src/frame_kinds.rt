@@ -5,8 +5,7 @@ ghost use Rattle.words.specs.FilterRequests.{convert_request_of};
 ghost use Rattle.filtering.specs.FrameKinds.{first_kind, kind_by_end, kind_of, kind_unnamed, reasoned, written_as};
 
 use super::opening::has_ending;
-use capture_writer::CaptureKind;
-use converting::FrameForm;
+use captures::{CaptureKind, FrameForm};
 use messages::FileForm;
 use words::{ConvertTask, FramesKind};
 

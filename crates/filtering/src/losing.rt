@@ -5,10 +5,8 @@ ghost use Rattle.std.specs.Prelude.{◌≡◌, IfOk};
 ghost use Rattle.std.specs.String.{string_bytes};
 ghost use Rattle.filtering.specs.Losing.{TellsUnsaid, captured_text, count_line, damage_text, damage_words, interface_words, left_text, lost_line, lost_of, lost_text, unsaid_text};
 
-use capture_writer::{CaptureKind, LostCounts};
-use captures::{CaptureCounts, CaptureDamage, PacketFault};
+use captures::{CaptureCounts, CaptureDamage, CaptureKind, CopyCounts, LostCounts, PacketFault};
 use commands::{Ending, TaskOutcome};
-use converting::CopyCounts;
 use std::alloc::{AllocError, Global};
 
 // A line with these words and a count, unless it is 0.

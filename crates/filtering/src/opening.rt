@@ -6,8 +6,7 @@ ghost use Rattle.commands.specs.Statuses.{IsMakeFailure, IsReadFailure};
 ghost use Rattle.words.specs.FilterRequests.{filter_request_of};
 ghost use Rattle.filtering.specs.Opening.{IsOpenFailure, IsOutputConflict, IsToldForm, told_form, has_ending, is_capture, kind_by_form, kind_by_name, kind_of_out, MakesNot, frames_path, output_name};
 
-use capture_writer::CaptureKind;
-use captures::{FramesOf, OpenFailure, Reasons};
+use captures::{CaptureKind, FramesOf, OpenFailure, Reasons};
 use commands::{
     STANDARD_OUTPUT, TaskOutcome, Watched, begin_frames, create_output, keep_apart, open_frames,
     open_standard_output,

@@ -5,7 +5,7 @@ ghost use Rattle.std.specs.IoError.{error_kind};
 ghost use Rattle.std.specs.Io.KnownBytes.{Keeps};
 ghost use Rattle.commands.specs.Streams.{IsBeginningOf};
 
-use capture_writer::{CaptureWriter, Followed};
+use captures::{CaptureWriter, Followed};
 use exact_io::PromptWriter;
 use std::io;
 use std::io::{ErrorKind, Write};
@@ -58,7 +58,7 @@ impl<W: Write + Drop> SentOutput for PromptWriter<W> {
 impl<W: Write + Drop, T: Followed> SentOutput for CaptureWriter<W, T> {
     ghost use Rattle.std.specs.Prelude.{[]};
     ghost use Rattle.exact_io.specs.Waiting.{waiting};
-    ghost use Rattle.capture_writer.specs.Reached.{reached_by};
+    ghost use Rattle.captures.specs.Reached.{reached_by};
 
     ghost cause = { λ w. w.failure };
 

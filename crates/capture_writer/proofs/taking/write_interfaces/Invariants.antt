@@ -1,8 +1,0 @@
-use Rattle.std.specs.Io.KnownBytes.{Appends}
-use Rattle.capture_writer.specs.CaptureBytes.{interface_blocks}
-use Rattle.capture_writer.proofs.taking.write_interfaces.Given as goal
-
-abbrev pub invariant-loop : goal.invariant-loop
-invariant-loop g l =
-    Appends (g.W.Write.contents l.initial.output) (g.W.Write.contents l.output)
-    (interface_blocks l.counter)

@@ -1,2 +1,0 @@
-pub mod TextsLaws
-pub mod CopiesLaws

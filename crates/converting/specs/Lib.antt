@@ -1,4 +1,0 @@
-pub mod Texts
-pub mod Counts
-pub mod Placing
-pub mod Copies
