@@ -301,15 +301,55 @@ comes: {ADD}{DELETE}r8 += 1
 if r8 < 76000 goto comes"""
 # At most so many seconds for both frames, by a proved build.
 TRACED = 0.5
+# So many full maps, of each of which each frame adds the least key or deletes it again, and at most so many seconds for all.
+MAPS, CHANGES, CHANGED = 16, 1000, 6.0
+FILL = """f{at}: r7 = {keys}
+fill{at}: r1 = r7; r1 = be32 r1; *(u32 *)(r10 - 4) = r1
+r1 = map_by_idx({at}); r2 = r10; r2 += -4; r3 = r10; r3 += -16; r4 = 0; call 2
+r7 -= 1
+if r7 != 0 goto fill{at}
+goto out
+"""
+CHANGE = """*(u32 *)(r10 - 4) = 0
+r1 = map_by_idx({at}); r2 = r10; r2 += -4; call 1
+if r0 != 0 goto delete{at}
+r1 = map_by_idx({at}); r2 = r10; r2 += -4; r3 = r10; r3 += -16; r4 = 0; call 2
+goto next{at}
+delete{at}: r1 = map_by_idx({at}); r2 = r10; r2 += -4; call 3
+next{at}:
+"""
+
+
+def changing() -> str:
+    """A program that fills the map of a frame's interface, and adds or deletes a key of each where there is no such map."""
+    return (
+        "map hash 4 8 65536\n" * MAPS
+        + "r9 = r1\nr8 = *(u32 *)(r9 + 12)\n*(u64 *)(r10 - 16) = 1\n"
+        + "".join(f"if r8 == {at} goto f{at}\n" for at in range(MAPS))
+        + "".join(CHANGE.format(at=at) for at in range(MAPS))
+        + "goto out\n"
+        + "".join(FILL.format(at=at, keys=MOST_KEYS - 1) for at in range(MAPS))
+        + "out: r0 = 1\nexit\n"
+    )
 
 
 def traced() -> Iterator[Tried]:
-    """A frame by `trace` that fills a map from the greatest key on, and one on the full map."""
+    """A frame by `trace` that fills a map from the greatest key on, and one on the full map; and frames that change 16 full maps."""
     frames = write("frames", b"XPF1" + b"".join(record(1, (0, interface, 0), 0, b"") for interface in (0, 1)))
     for name, frame in ("300,000 loads through a pointer", LOADS), ("a key that comes and goes 76,000 times", COMES):
         write("text", FULL.format(keys=MOST_KEYS - 1, frame=frame))
         asked("asm", "text", "image")
         yield name, [PROGRAM, "trace", "image", frames, "sent"], TRACED
+    write("text", changing())
+    asked("asm", "text", "image")
+    stream = b"".join(record(1, (at, min(at, MAPS), 0), 0, b"") for at in range(MAPS + CHANGES))
+    yield f"{MAPS} maps of which each of {CHANGES} frames changes a key", [
+        PROGRAM,
+        "trace",
+        "image",
+        write("frames", b"XPF1" + stream),
+        "sent",
+    ], CHANGED
 
 
 # At most so many seconds and megabytes for a table and a log of what is explored below 8 call frames; the log of 2,000 turns has

@@ -1,10 +1,14 @@
 pub mod OneChanged
-pub mod AboveLaws
+pub mod ChunkLaws
 pub mod ContentLaws
+pub mod KeptLaws
 pub mod KeyValueLaws
 pub mod LiveLaws
 pub mod LookUpLaws
 pub mod NumberingLaws
 pub mod OrderLaws
+pub mod PlaceLists
+pub mod RanksLaws
+pub mod ReorderLaws
 pub mod SerialLaws
-pub mod SerialLists
+pub mod ShiftLaws

@@ -20,11 +20,6 @@ use Rattle.live_maps.specs.Live.{Serials, serial_in, serials_at, stored, live_co
 use Rattle.live_maps.proofs.KeyValueLaws.{AreApart, keys-apart}
 use Rattle.live_maps.specs.Numbering.{AreDistinct, AreNumbered, NumbersAll, OnlyThere, count_before, place_in}
 
--- where no place has a serial, none outside a list has one
-pub OnlyThere-none : (places : List ℕ) (serials : Serials)
-    → ((p : ℕ) → serial_in serials p ≡ None) → OnlyThere places serials
-OnlyThere-none places serials none p k e = let f = sym (none p) ∙ e in absurd cc
-
 -- a serial of numbered places is that of a place of the list
 pub numbered_only : (n : ℕ) (places : List ℕ) (serials : Serials) → NumbersAll n places serials
     → (p k : ℕ) → serial_in serials p ≡ Some k
@@ -48,7 +43,7 @@ module _ (P : Places) where
   length-values : length (values P) ≡ length es
   length-values = length-map {B = ℕ} es (λ e. e.1)
 
-  key_at : (i : ℕ) → i < length (values P)
+  pub key_at : (i : ℕ) → i < length (values P)
       → get P (slice_index_or es i no_key).0 ≡ Some (place_in (values P) i)
   key_at i l =
       let long = length-values in
@@ -124,13 +119,6 @@ HasSerials-numbered n next m serials is long room h = record {
       let same : r.0 ≡ t.0 = omega arith in
       sym r.2 ∙ ap (place_in (values m.places)) same ∙ t.2;
 }
-
--- only the places of a map's keys have serials
-pub OnlyThere-live : (next : ℕ) (m : MapState) (serials : Serials) → HasSerials next m serials
-    → OnlyThere (values m.places) serials
-OnlyThere-live next m serials h p k e =
-    let r = h.owned p k e in
-    value_index m.places r.1 p r.2
 
 -- the values are numbered by their keys
 content-numbered : (m : MapState) (serials : Serials) (n : ℕ) (es : List (List ℕ × ℕ))
@@ -279,34 +267,3 @@ numbers-next maps all more m s inside is before now k l =
           (values (map_at maps k).places) r) (sym (get_or-set_other all m k s [] d))
           (before k less)
     ] refl)
-
--- its serials have a place for each of its values as before
-pub rooms-next : (maps : List MapState) (all more : List Serials) (m : ℕ) (s : Serials)
-    → m < length all → more ≡ slice_set all m s
-    → length s ≡ length (serials_at all m)
-    → ((k : ℕ) → k < length maps → length (serials_at all k) ≡ (map_at maps k).row.entries)
-    → (k : ℕ) → k < length maps → length (serials_at more k) ≡ (map_at maps k).row.entries
-rooms-next maps all more m s inside is same rooms k l =
-    ap (λ (a : List Serials). length (serials_at a k)) is
-    ∙ elim (eqb k m) as (λ b. eqb k m ≡ b
-    → length (serials_at (slice_set all m s) k) ≡ (map_at maps k).row.entries) [
-      | true ↦ λ t.
-          let e = eqb-true k m t in
-          ap (λ (j : ℕ). length (serials_at (slice_set all m s) j)) e
-          ∙ ap length (get_or-set_same all m s [] inside) ∙ same
-          ∙ ap (λ (j : ℕ). length (serials_at all j)) (sym e) ∙ rooms k l
-      | false ↦ λ t. ap length (get_or-set_other all m k s [] (eqb-false k m t)) ∙ rooms k l
-    ] refl
-
--- the places that had serials in the maps that are not numbered yet
-pub only-next : (maps : List MapState) (all more : List Serials) (m : ℕ) (s : Serials)
-    → more ≡ slice_set all m s
-    → ((k : ℕ) → m ≤ k → k < length maps
-    → OnlyThere (values (map_at maps k).places) (serials_at all k))
-    → (k : ℕ) → m + 1 ≤ k → k < length maps
-    → OnlyThere (values (map_at maps k).places) (serials_at more k)
-only-next maps all more m s is before k l inside =
-    subst (λ (r : Serials). OnlyThere (values (map_at maps k).places) r)
-    (sym (ap (λ (a : List Serials). serials_at a k) is
-    ∙ get_or-set_other all m k s [] (λ same. omega arith)))
-    (before k (omega arith) inside)

@@ -5,7 +5,7 @@ use Rattle.std.specs.List.{position}
 use Rattle.isa_model.specs.declared.map_defs.MapDef.{MapDef}
 use Rattle.maps.specs.Maps.{MapState, IsMap, map_at}
 use Rattle.live_maps.specs.Live.{Live, Serials, AreLive, content_at, serials_at, has_serial, value_bytes}
-use Rattle.live_maps.specs.Orders.{AreOrders, AreLiveMaps, KeyOrder}
+use Rattle.live_maps.specs.Kept.{AreKept, AreLiveMaps, Kept, serials_in}
 use Rattle.live_maps.proofs.ContentLaws.{live_of, rows_of-known, rows_of-some, length-changed_maps}
 use Rattle.live_maps.proofs.LookUpLaws.{serial_place-inside, serial_place-some}
 
@@ -64,14 +64,12 @@ found_at next maps all now view m n p size h found fits =
     let inside = serial_place-inside next maps all m n h p found in
     record { inside = inside; place = r.0; fits = omega arith }
 
--- where one map has changed, the maps are kept as before, with their serials and their orders
-pub still_kept : (serials_room orders_room next after : ℕ) (maps new : List MapState)
-    (all given : List Serials) (orders later : List KeyOrder) (m : ℕ)
-    → AreLiveMaps serials_room orders_room next maps all orders
-    → new ≡ slice_set maps m (map_at new m)
-    → AreLive after new given → AreOrders new given later
-    → AreLiveMaps serials_room orders_room after new given later
-still_kept serials_room orders_room next after maps new all given orders later m h others live are =
+-- where one map has changed, the maps are kept as before, with what is kept of them
+pub still_kept : (serials_room next later : ℕ) (maps new : List MapState) (kept given : List Kept)
+    (m : ℕ) → AreLiveMaps serials_room next maps kept → new ≡ slice_set maps m (map_at new m)
+    → AreLive later new (serials_in given) → AreKept new given
+    → AreLiveMaps serials_room later new given
+still_kept serials_room next later maps new kept given m h others live are =
     let few = h.0 in
     let count = length-changed_maps maps new m (map_at new m) others in
-    (omega arith, h.1 ∙ sym count, live, are, h.4 ∙ sym count)
+    (omega arith, h.1 ∙ sym count, live, are)

@@ -1,7 +1,7 @@
--- Laws of the orders of keys: as a key is added or removed, and as values are numbered.
-use Rattle.std.specs.Prelude.{◌≢◌, ◌==◌, All, Bool, IfSome, not, slice_get, slice_set, slice_index_or}
-use Rattle.std.proofs.Common.{◌≡◌, ℕ, zero, suc, ◌<◌, ◌≤◌, List, [], ◌∷◌, map, length, Option, Some, None, true, false, cond, refl, sym, ap, subst, ◌∙◌, arith}
-use Rattle.std.specs.List.{filter, remove as remove_at}
+-- Laws of the orders of all maps' keys: as a key is added or removed, and as values are numbered.
+use Rattle.std.specs.Prelude.{◌≢◌, ◌==◌, Bool, not, slice_get, slice_set, slice_index_or}
+use Rattle.std.proofs.Common.{◌≡◌, ℕ, suc, ◌+◌, ◌<◌, ◌≤◌, List, [], ◌∷◌, map, length, Option, Some, None, true, false, cond, refl, sym, ap, subst, ◌∙◌, arith}
+use Rattle.std.specs.List.{filter}
 use Rattle.std.specs.Cmp.{eq_by_cmp_equiv}
 use Rattle.std.specs.Cmp.Lexicographic.{nat_list_cmp_total}
 use Rattle.std.specs.FinMap.{get, entries, entries_sorted, values, get-entries, get-insert, get-remove, insert as with_place, remove, same_map, slice_cmp-IsAntisymmetric, nat_cmp-IsAntisymmetric}
@@ -9,170 +9,97 @@ use Rattle.std.specs.FinMap.Entries.{find, find-where_key, is_sorted-where_key, 
 use Rattle.std.specs.declared.cmp.Ordering.TheVariants.{Equal}
 use Rattle.std.proofs.Math.Dec.{eqb}
 use Rattle.std.proofs.lemmas.Bool.{eqb-true, eqb-false}
-use Rattle.std.proofs.lemmas.Bool.Decides.{nat_tests}
 use Rattle.std.proofs.lemmas.List.{get_or-set_same, get_or-set_other, get_or_default, length-set, set-get_or}
+use Rattle.std.proofs.lemmas.Option.{slice_get_within, get_or_from_slice_get}
 use Rattle.isa_model.specs.Machine.MapContents.{key_order, is_key}
-use Rattle.map_indexes.specs.PlaceKeys.{Places}
+use Rattle.map_indexes.specs.PlaceKeys.{Places, TakesPlace}
 use Rattle.map_indexes.specs.PlaceKeyLaws.{is_key-equal}
 use Rattle.map_indexes.proofs.PlaceKeysLaws.{is_key-itself}
+use Rattle.maps.proofs.ContentLaws.{get-taken}
 use Rattle.maps.proofs.ReportOrderLaws.{get_at}
 use Rattle.maps.specs.Maps.{MapState, IsMap, map_at}
-use Rattle.live_maps.specs.Live.{Serials, serials_at}
-use Rattle.live_maps.specs.Numbering.{AreDistinct, OnlyThere, place_in}
-use Rattle.live_maps.specs.Orders.{HaveOrders, AreOrders, IsOrder, KeyOrder, NumbersFrom, order_at, places_without}
-use Rattle.live_maps.proofs.NumberingLaws.{values-distinct, values-few, values-within}
-
--- ---- one order
-
--- a list of the places in the order of the keys is an order, if it knows no first serial
-pub IsOrder-listed : (x : MapState) (s : Serials) (o : KeyOrder)
-    → (o.is_behind ≡ false → o.places ≡ values x.places) → o.room ≡ x.row.entries
-    → o.first ≡ None → IsOrder x s o
-IsOrder-listed x s o places room first = record {
-  places = places;
-  room = room;
-  numbered = subst (λ (f : Option ℕ). IfSome f (NumbersFrom o.places s)) (sym first) tt;
-}
-
--- an order, once it is not behind
-pub caught_up : (x : MapState) (s : Serials) (o q : KeyOrder) → IsOrder x s o
-    → (o.is_behind ≡ false → q ≡ o) → (o.is_behind ≡ true → q.places ≡ values x.places)
-    → (o.is_behind ≡ true → q.first ≡ None) → q.room ≡ o.room → IsOrder x s q
-caught_up x s o q h kept places first room = by o.is_behind refl
-  where
-    by : (b : Bool) → o.is_behind ≡ b → IsOrder x s q
-    by false t = subst (λ (r : KeyOrder). IsOrder x s r) (sym (kept t)) h
-    by true t = IsOrder-listed x s q (λ _. places t) (room ∙ h.room) (first t)
-
--- the order of a map, as it is found in the list of all
-pub order_found : (maps : List MapState) (all : List Serials) (orders : List KeyOrder) (m : ℕ)
-    (o d : KeyOrder) → AreOrders maps all orders → m < length maps → o ≡ slice_index_or orders m d
-    → IsOrder (map_at maps m) (serials_at all m) o
-order_found maps all orders m o d h inside is =
-    let long = h.long in
-    subst (λ (p : KeyOrder). IsOrder (map_at maps m) (serials_at all m) p)
-    (get_or_default orders m _ d (omega arith) ∙ sym is) (h.each m inside)
-
--- what numbering the values of one map needs
-pub record CanNumber (x : MapState) (s : Serials) (o : KeyOrder) : Type 0 where
-  pub within : All (λ p. p < length s) o.places
-  pub distinct : AreDistinct o.places
-  pub only : OnlyThere o.places s
-  pub many : length o.places ≤ x.row.entries
-  pub order : IsOrder x s o
-  pub listed : o.places ≡ values x.places
-
-pub can_number : (x : MapState) (s : Serials) (o : KeyOrder) → IsMap x → length s ≡ x.row.entries
-    → OnlyThere (values x.places) s → IsOrder x s o → o.is_behind ≡ false → CanNumber x s o
-can_number x s o is long only order caught = record {
-  within =
-      subst (λ (n : ℕ). All (λ p. p < n) o.places) (sym long)
-      (subst (λ (places : List ℕ). All (λ p. p < x.row.entries) places) (sym listed)
-      (values-within x is));
-  distinct =
-      subst (λ (places : List ℕ). AreDistinct places) (sym listed)
-      (values-distinct x.places is.apart);
-  only = subst (λ (places : List ℕ). OnlyThere places s) (sym listed) only;
-  many = let count = ap length listed in let few = values-few x is in omega arith;
-  order = order;
-  listed = listed;
-}
-  where
-    listed : o.places ≡ values x.places
-    listed = order.places caught
+use Rattle.live_maps.specs.declared.place_serials.Since.{Since}
+use Rattle.live_maps.specs.declared.place_serials.Since.TheVariants.{Same, Gone, Given, New}
+use Rattle.live_maps.specs.Kept.{AreKept, AreFresh, IsKept, Kept, after, given_now, is_same, kept_at, serials_in, serials_of, since_in, start_serial, taken_now, with_since}
+use Rattle.live_maps.specs.Live.{AreLive, HasSerials, Serials, serial_in, serials_at}
+use Rattle.live_maps.specs.Numbering.{AreDistinct, place_in}
+use Rattle.live_maps.proofs.KeptLaws.{IsKept-touched, come-live, gone-live, length-serials_in, serial_in-of, serials_at-kept, serials_of-given, serials_of-taken, start-at}
+use Rattle.live_maps.proofs.NumberingLaws.{key_at}
+use Rattle.live_maps.proofs.PlaceLists.{IsOut, equal_to, none_without, not_equal, out_without, without}
 
 -- ---- all orders
 
--- one map, its serials and its order replaced
-AreOrders-replaced : (maps : List MapState) (all : List Serials) (orders : List KeyOrder) (m : ℕ)
-    (x : MapState) (s : Serials) (o : KeyOrder) → length all ≡ length maps → m < length maps
-    → IsOrder x s o → AreOrders maps all orders
-    → AreOrders (slice_set maps m x) (slice_set all m s) (slice_set orders m o)
-AreOrders-replaced maps all orders m x s o long inside now h = record {
-  long = length-set orders m o ∙ h.long ∙ sym (length-set maps m x);
-  each = λ k l. elim (eqb k m) as (λ b. eqb k m ≡ b → IsOrder (map_at (slice_set maps m x) k)
-      (serials_at (slice_set all m s) k) (order_at (slice_set orders m o) k)) [
+-- one map and its order replaced
+AreKept-replaced : (maps : List MapState) (kept : List Kept) (m : ℕ) (x : MapState) (k : Kept)
+    → m < length maps → IsKept x k → AreKept maps kept
+    → AreKept (slice_set maps m x) (slice_set kept m k)
+AreKept-replaced maps kept m x k inside now h = record {
+  long = length-set kept m k ∙ h.long ∙ sym (length-set maps m x);
+  each = λ j l. elim (eqb j m) as (λ b. eqb j m ≡ b → IsKept (map_at (slice_set maps m x) j)
+      (kept_at (slice_set kept m k) j)) [
         | true ↦ λ t.
             let ordered = h.long in
-            subst (λ (j : ℕ). IsOrder (map_at (slice_set maps m x) j)
-            (serials_at (slice_set all m s) j) (order_at (slice_set orders m o) j))
-            (sym (eqb-true k m t))
-            (subst (λ (y : MapState). IsOrder y (serials_at (slice_set all m s) m)
-            (order_at (slice_set orders m o) m)) (sym (get_or-set_same maps m x _ inside))
-            (subst (λ (r : Serials). IsOrder x r (order_at (slice_set orders m o) m))
-            (sym (get_or-set_same all m s [] (omega arith)))
-            (subst (λ (p : KeyOrder). IsOrder x s p)
-            (sym (get_or-set_same orders m o _ (omega arith))) now)))
+            subst (λ (i : ℕ). IsKept (map_at (slice_set maps m x) i) (kept_at (slice_set kept m k) i))
+            (sym (eqb-true j m t))
+            (subst (λ (y : MapState). IsKept y (kept_at (slice_set kept m k) m))
+            (sym (get_or-set_same maps m x _ inside))
+            (subst (λ (q : Kept). IsKept x q)
+            (sym (get_or-set_same kept m k _ (omega arith))) now))
         | false ↦ λ t.
-            let d = eqb-false k m t in
+            let d = eqb-false j m t in
             let same = length-set maps m x in
-            subst (λ (y : MapState). IsOrder y (serials_at (slice_set all m s) k)
-            (order_at (slice_set orders m o) k)) (sym (get_or-set_other maps m k x _ d))
-            (subst (λ (r : Serials). IsOrder (map_at maps k) r (order_at (slice_set orders m o) k))
-            (sym (get_or-set_other all m k s [] d))
-            (subst (λ (p : KeyOrder). IsOrder (map_at maps k) (serials_at all k) p)
-            (sym (get_or-set_other orders m k o _ d)) (h.each k (omega arith))))
+            subst (λ (y : MapState). IsKept y (kept_at (slice_set kept m k) j))
+            (sym (get_or-set_other maps m j x _ d))
+            (subst (λ (q : Kept). IsKept (map_at maps j) q)
+            (sym (get_or-set_other kept m j k _ d)) (h.each j (omega arith)))
       ] refl;
 }
 
--- the serials of one map and its order replaced
-pub AreOrders-numbered : (maps : List MapState) (all : List Serials) (orders : List KeyOrder)
-    (m : ℕ) (s : Serials) (o : KeyOrder) → length all ≡ length maps → m < length maps
-    → IsOrder (map_at maps m) s o → AreOrders maps all orders
-    → AreOrders maps (slice_set all m s) (slice_set orders m o)
-AreOrders-numbered maps all orders m s o long inside now h =
-    subst (λ (l : List MapState). AreOrders l (slice_set all m s) (slice_set orders m o))
-    (set-get_or maps m _)
-    (AreOrders-replaced maps all orders m (map_at maps m) s o long inside now h)
+-- a map is numbered
+pub AreKept-numbered : (maps : List MapState) (kept : List Kept) (m : ℕ) (k : Kept)
+    → m < length maps → IsKept (map_at maps m) k → AreKept maps kept
+    → AreKept maps (slice_set kept m k)
+AreKept-numbered maps kept m k inside now h =
+    subst (λ (l : List MapState). AreKept l (slice_set kept m k)) (set-get_or maps m _)
+    (AreKept-replaced maps kept m (map_at maps m) k inside now h)
 
--- a map with another key, with other serials and with another order
-pub AreOrders-changed : (maps new : List MapState) (all : List Serials) (orders : List KeyOrder)
-    (m : ℕ) (s : Serials) (o : KeyOrder) → new ≡ slice_set maps m (map_at new m)
-    → length all ≡ length maps → m < length maps → IsOrder (map_at new m) s o
-    → AreOrders maps all orders → AreOrders new (slice_set all m s) (slice_set orders m o)
-AreOrders-changed maps new all orders m s o is long inside now h =
-    subst (λ (l : List MapState). AreOrders l (slice_set all m s) (slice_set orders m o)) (sym is)
-    (AreOrders-replaced maps all orders m (map_at new m) s o long inside now h)
+-- a map with another key, and its order
+pub AreKept-changed : (maps new : List MapState) (kept : List Kept) (m : ℕ) (k : Kept)
+    → new ≡ slice_set maps m (map_at new m) → m < length maps → IsKept (map_at new m) k
+    → AreKept maps kept → AreKept new (slice_set kept m k)
+AreKept-changed maps new kept m k is inside now h =
+    subst (λ (l : List MapState). AreKept l (slice_set kept m k)) (sym is)
+    (AreKept-replaced maps kept m (map_at new m) k inside now h)
+
+IsKept-same : (x y : MapState) (k : Kept) → IsKept x k → y.row ≡ x.row → y.places ≡ x.places
+    → IsKept y k
+IsKept-same x y k h row places = record {
+  long = h.long ∙ ap (λ r. r.entries) (sym row);
+  room = h.room ∙ ap (λ r. r.entries) (sym row);
+  distinct = h.distinct;
+  within = h.within;
+  order = h.order ∙ ap (λ (P : Places). filter (λ p. is_same (since_in k.since p)) (values P))
+      (sym places);
+  fresh = h.fresh;
+  gone = λ p e key f. h.gone p e key (ap (λ (P : Places). get P key) (sym places) ∙ f);
+  came = λ p n e. let r = h.came p n e in
+      (r.0, ap (λ (P : Places). get P r.0) places ∙ r.1);
+}
 
 -- a map whose keys have the same places
-pub AreOrders-set : (maps new : List MapState) (all : List Serials) (orders : List KeyOrder) (m : ℕ)
-    (x : MapState) → new ≡ slice_set maps m x → m < length maps → x.row ≡ (map_at maps m).row
-    → x.places ≡ (map_at maps m).places → AreOrders maps all orders → AreOrders new all orders
-AreOrders-set maps new all orders m x is inside row places h =
-    subst (λ (l : List MapState). AreOrders l all orders) (sym is) (record {
-      long = h.long ∙ sym (length-set maps m x);
-      each = λ k l.
-          let long = length-set maps m x in
-          let o = h.each k (omega arith) in
-          record {
-            places = λ b. o.places b ∙ ap values (kept (λ (y : MapState). y.places) places k);
-            room =
-                o.room ∙ kept (λ (y : MapState). y.row.entries) (ap (λ r. r.entries) row) k;
-            numbered = o.numbered;
-          };
-    })
-  where
-    kept : {A : Type 0} (f : MapState → A) → f x ≡ f (map_at maps m) → (k : ℕ)
-        → f (map_at maps k) ≡ f (map_at (slice_set maps m x) k)
-    kept f same k = elim (eqb k m) as (λ b. eqb k m ≡ b
-        → f (map_at maps k) ≡ f (map_at (slice_set maps m x) k)) [
-          | true ↦ λ t.
-              let e = eqb-true k m t in
-              ap (λ (j : ℕ). f (map_at maps j)) e ∙ sym same
-              ∙ ap f (sym (get_or-set_same maps m x _ inside))
-              ∙ ap (λ (j : ℕ). f (map_at (slice_set maps m x) j)) (sym e)
-          | false ↦ λ t. ap f (sym (get_or-set_other maps m k x _ (eqb-false k m t)))
-        ] refl
+pub AreKept-set : (maps new : List MapState) (kept : List Kept) (m : ℕ)
+    → new ≡ slice_set maps m (map_at new m) → m < length maps
+    → (map_at new m).row ≡ (map_at maps m).row → (map_at new m).places ≡ (map_at maps m).places
+    → AreKept maps kept → AreKept new kept
+AreKept-set maps new kept m is inside row places h =
+    subst (λ (ks : List Kept). AreKept new ks) (set-get_or kept m _)
+    (AreKept-changed maps new kept m (kept_at kept m) is inside
+    (IsKept-same (map_at maps m) (map_at new m) (kept_at kept m) (h.each m inside) row places) h)
 
--- the orders at the start
-pub AreOrders-listed : (maps : List MapState) (all : List Serials) (orders : List KeyOrder)
-    → length orders ≡ length maps → HaveOrders (length maps) maps orders → AreOrders maps all orders
-AreOrders-listed maps all orders long h = record {
-  long = long;
-  each = λ k l.
-      let r = h k l in
-      IsOrder-listed (map_at maps k) (serials_at all k) (order_at orders k) (λ _. r.0) r.1 r.2;
-}
+-- what is kept of a map, as it is found in the list of all
+pub kept_found : (kept : List Kept) (m : ℕ) (k d : Kept) → m < length kept
+    → k ≡ slice_index_or kept m d → kept_at kept m ≡ k
+kept_found kept m k d inside is = get_or_default kept m _ d inside ∙ sym is
 
 -- ---- the places of all keys but one
 
@@ -214,53 +141,10 @@ pairs-removed P key =
     ∙ sym (find-where_key key_order (λ x. not (is_key key x)) q
     (λ x e. ap (λ (y : List ℕ). not (is_key key y)) (sym (alike q x e))) (entries P)))
 
-equal_to : (a b : ℕ) → a ≡ b → (a == b) ≡ true
-equal_to a b e = grind (arith, nat_tests)
-
-not_equal : (a b : ℕ) → a ≢ b → (a == b) ≡ false
-not_equal a b d = grind (arith, nat_tests)
-
--- a place in a list is at its index
-got_at : (xs : List ℕ) (i p : ℕ) → slice_get xs i ≡ Some p
-    → (i < length xs) × (place_in xs i ≡ p)
-got_at [] i p at = absurd cc
-got_at (x ∷ xs) zero p at = (omega arith, cc)
-got_at (x ∷ xs) (suc i) p at = let r = got_at xs i p at in let inside = r.0 in (omega arith, r.1)
-
--- a list without a place that is not in it
-none_without : (xs : List ℕ) (p : ℕ) → ((j : ℕ) → j < length xs → place_in xs j ≢ p)
-    → places_without p xs ≡ xs
-none_without [] p apart = refl
-none_without (x ∷ xs) p apart =
-    ap (λ (b : Bool). cond (not b) (x ∷ places_without p xs) (places_without p xs))
-    (not_equal x p (apart 0 (omega arith)))
-    ∙ ap (λ (ys : List ℕ). x ∷ ys) (none_without xs p (λ j l. apart (suc j) (omega arith)))
-
--- a list without the place at an index
-pub removed_at : (xs : List ℕ) (i p : ℕ) → AreDistinct xs → slice_get xs i ≡ Some p
-    → remove_at xs i ≡ places_without p xs
-removed_at [] i p d at = absurd cc
-removed_at (x ∷ xs) zero p d at =
-    let same : x ≡ p = cc in
-    let apart : (j : ℕ) → j < length xs → place_in xs j ≢ p = λ j l e.
-    let z = d 0 (suc j) (omega arith) (omega arith) (same ∙ sym e) in absurd (omega arith) in
-    sym (ap (λ (b : Bool). cond (not b) (x ∷ places_without p xs) (places_without p xs))
-    (equal_to x p same) ∙ none_without xs p apart)
-removed_at (x ∷ xs) (suc i) p d at =
-    let there = got_at xs i p at in
-    let inside = there.0 in
-    let other : x ≢ p = λ e.
-    let z = d 0 (suc i) (omega arith) (omega arith) (e ∙ sym there.1) in absurd (omega arith) in
-    let rest : AreDistinct xs = λ j k l m e.
-    let z = d (suc j) (suc k) (omega arith) (omega arith) e in omega arith in
-    ap (λ (ys : List ℕ). x ∷ ys) (removed_at xs i p rest at)
-    ∙ sym (ap (λ (b : Bool). cond (not b) (x ∷ places_without p xs) (places_without p xs))
-    (not_equal x p other))
-
 -- the places of all keys but one
 pub values-removed : (P : Places) (key : List ℕ) (p : ℕ)
     → ((j k : List ℕ) (q : ℕ) → get P j ≡ Some q → get P k ≡ Some q → j ≡ k)
-    → get P key ≡ Some p → values (remove P key) ≡ places_without p (values P)
+    → get P key ≡ Some p → values (remove P key) ≡ without p (values P)
 values-removed P key p apart there =
     ap (λ (xs : List (List ℕ × ℕ)). map (λ e. e.1) xs) (pairs-removed P key)
     ∙ parts (entries P) (λ i e g. get_at P i e g)
@@ -290,10 +174,172 @@ values-removed P key p apart there =
     parts : (es : List (List ℕ × ℕ))
         → ((i : ℕ) (e : List ℕ × ℕ) → slice_get es i ≡ Some e → get P e.0 ≡ Some e.1)
         → map (λ e. e.1) (filter (λ e. not (is_key key e.0)) es)
-        ≡ places_without p (map (λ e. e.1) es)
+        ≡ without p (map (λ e. e.1) es)
     parts [] has = refl
     parts (e ∷ es) has =
         let one = test e (has 0 e refl) in
         let rest = parts es (λ i x g. has (suc i) x g) in
         both (not (is_key key e.0)) (not (e.1 == p)) one e (filter (λ x. not (is_key key x.0)) es)
-        (places_without p (map (λ x. x.1) es)) rest
+        (without p (map (λ x. x.1) es)) rest
+
+-- ---- a key that came or went
+
+-- a place that no key has is not in the order of the keys
+pub out-values : (P : Places) (p : ℕ) → ((key : List ℕ) → get P key ≢ Some p) → IsOut p (values P)
+out-values P p none i e =
+    let within = slice_get_within (values P) i p e in
+    none _ (key_at P i within ∙ ap Some (get_or_from_slice_get (values P) i p 0 e))
+
+given-not_same : (n : ℕ) (s : Since) → is_same (given_now n s) ≡ true → ⊥
+given-not_same n Same e = absurd cc
+given-not_same n Gone e = absurd cc
+given-not_same n (Given m) e = absurd cc
+given-not_same n (New m) e = absurd cc
+
+is_given : Since → Bool
+is_given (Given n) = true
+is_given s = false
+
+given-new : (n m : ℕ) (s : Since) → given_now n s ≡ New m → s ≡ Same
+unfolding is_given
+given-new n m Same e = refl
+given-new n m Gone e = let f = ap is_given e in absurd cc
+given-new n m (Given k) e = let f = ap is_given e in absurd cc
+given-new n m (New k) e = let f = ap is_given e in absurd cc
+
+is_new : Since → Bool
+is_new (New n) = true
+is_new s = false
+
+taken-new : (m : ℕ) (s : Since) → taken_now s ≡ New m → ⊥
+unfolding is_new
+taken-new m Same e = let f = ap is_new e in absurd cc
+taken-new m Gone e = let f = ap is_new e in absurd cc
+taken-new m (Given k) e = let f = ap is_new e in absurd cc
+taken-new m (New k) e = let f = ap is_new e in absurd cc
+
+taken-same : (A : Type 0) (s : Since) → is_same (taken_now s) ≡ true → ((n : ℕ) → s ≡ New n → A) → A
+taken-same A Same e new = absurd cc
+taken-same A Gone e new = absurd cc
+taken-same A (Given m) e new = absurd cc
+taken-same A (New m) e new = new m refl
+
+-- a place that has no serial, and of whose value nothing became, is not in the order
+out-start : (k : Kept) (p : ℕ) → AreDistinct k.order → p < length k.since
+    → since_in k.since p ≡ Same → serial_in (serials_of k) p ≡ None → IsOut p k.order
+out-start k p d inside same none i e =
+    let at = start-at k.first p i k.order d e in
+    let is = serial_in-of k p inside
+    ∙ ap (λ (s : Since). after s (start_serial k.first k.order p)) same in
+    let some : serial_in (serials_of k) p ≡ Some (k.first + i) = is ∙ at in
+    absurd cc
+
+-- a key came
+pub IsKept-given : (next later : ℕ) (x y : MapState) (k : Kept) (key : List ℕ) (p n : ℕ)
+    → HasSerials next x (serials_of k) → IsKept x k → y.row ≡ x.row → IsMap y
+    → get x.places key ≡ None → TakesPlace x.places key p y.places
+    → HasSerials later y (serials_of (with_since k p (given_now n (since_in k.since p))))
+    → IsKept y (with_since k p (given_now n (since_in k.since p)))
+IsKept-given next later x y k key p n h kept row is absent taken after_it =
+    let there = get-taken x.places y.places key p taken in
+    let out = out-values x.places p taken.free in
+    let within = is.in_range key p there in
+    let rows : y.row.entries ≡ x.row.entries = ap (λ r. r.entries) row in
+    let long = kept.long in
+    let inside : p < length k.since = omega arith in
+    let none : serial_in (serials_of k) p ≡ None =
+    by (serial_in (serials_of k) p) refl (λ m e. let own = h.owned p m e in taken.free own.1 own.2) in
+    IsKept-touched x y k p (given_now n (since_in k.since p)) kept row inside
+    (sym (values-removed y.places key p is.apart there)
+    ∙ ap (λ (P : Places). values (remove P key)) taken.added
+    ∙ ap values (remove-added x.places key p absent) ∙ sym (none_without (values x.places) p out))
+    (λ e. absurd (given-not_same n (since_in k.since p) e))
+    (λ m e. out-start k p kept.distinct inside (given-new n m (since_in k.since p) e) none)
+    (gone-live later y (with_since k p (given_now n (since_in k.since p))) after_it)
+    (come-live later y (with_since k p (given_now n (since_in k.since p))) after_it)
+  where
+    by : (o : Option ℕ) → serial_in (serials_of k) p ≡ o
+        → ((m : ℕ) → serial_in (serials_of k) p ≡ Some m → ⊥) → serial_in (serials_of k) p ≡ None
+    by None e never = e
+    by (Some m) e never = absurd (never m e)
+
+-- a key went
+pub IsKept-taken : (later : ℕ) (x y : MapState) (k : Kept) (key : List ℕ) (p : ℕ) → IsMap x
+    → IsKept x k → y.row ≡ x.row → get x.places key ≡ Some p → y.places ≡ remove x.places key
+    → HasSerials later y (serials_of (with_since k p (taken_now (since_in k.since p))))
+    → IsKept y (with_since k p (taken_now (since_in k.since p)))
+IsKept-taken later x y k key p is kept row there places after_it =
+    let within = is.in_range key p there in
+    let long = kept.long in
+    let inside : p < length k.since = omega arith in
+    let now : values y.places ≡ without p (values x.places) =
+    ap values places ∙ values-removed x.places key p is.apart there in
+    let out : IsOut p (values y.places) =
+    subst (λ (ps : List ℕ). IsOut p ps) (sym now) (out_without p (values x.places)) in
+    IsKept-touched x y k p (taken_now (since_in k.since p)) kept row inside
+    (none_without (values y.places) p out ∙ now)
+    (λ e. taken-same (IsOut p k.order × IsOut p (values y.places)) (since_in k.since p) e
+    (λ n f. (kept.fresh p n f, out)))
+    (λ m e. absurd (taken-new m (since_in k.since p) e))
+    (gone-live later y (with_since k p (taken_now (since_in k.since p))) after_it)
+    (come-live later y (with_since k p (taken_now (since_in k.since p))) after_it)
+
+-- ---- the same of all maps
+
+serials_there : (next : ℕ) (maps : List MapState) (kept : List Kept) (m : ℕ) (s : Serials) (k : Kept)
+    → m < length maps → AreLive next maps (slice_set (serials_in kept) m s)
+    → length kept ≡ length maps → s ≡ serials_of k → HasSerials next (map_at maps m) (serials_of k)
+serials_there next maps kept m s k inside live long is =
+    let same = length-serials_in kept in
+    subst (λ (t : Serials). HasSerials next (map_at maps m) t)
+    (get_or-set_same (serials_in kept) m s [] (omega arith) ∙ is) (live.each m inside)
+
+pub AreKept-given : (next : ℕ) (maps new : List MapState) (kept : List Kept) (m : ℕ)
+    (key : List ℕ) (p : ℕ) → AreLive next maps (serials_in kept) → AreKept maps kept
+    → m < length maps → new ≡ slice_set maps m (map_at new m)
+    → (map_at new m).row ≡ (map_at maps m).row → IsMap (map_at new m)
+    → get (map_at maps m).places key ≡ None
+    → TakesPlace (map_at maps m).places key p (map_at new m).places
+    → AreLive (suc next) new (slice_set (serials_in kept) m
+    (slice_set (serials_at (serials_in kept) m) p (Some next)))
+    → AreKept new (slice_set kept m (with_since (kept_at kept m) p
+    (given_now next (since_in (kept_at kept m).since p))))
+AreKept-given next maps new kept m key p live h inside others row is absent taken now =
+    let k = kept_at kept m in
+    let count = ap length others ∙ length-set maps m (map_at new m) in
+    let long = h.long in
+    let here = serials_at-kept kept m in
+    AreKept-changed maps new kept m (with_since k p (given_now next (since_in k.since p))) others
+    inside
+    (IsKept-given next (suc next) (map_at maps m) (map_at new m) k key p next
+    (subst (λ (t : Serials). HasSerials next (map_at maps m) t) here (live.each m inside))
+    (h.each m inside) row is absent taken
+    (serials_there (suc next) new kept m
+    (slice_set (serials_at (serials_in kept) m) p (Some next))
+    (with_since k p (given_now next (since_in k.since p))) (omega arith) now (omega arith)
+    (ap (λ (t : Serials). slice_set t p (Some next)) here ∙ sym (serials_of-given k p next))))
+    h
+
+pub AreKept-taken : (next : ℕ) (maps new : List MapState) (kept : List Kept) (m : ℕ)
+    (key : List ℕ) (p : ℕ) → AreLive next maps (serials_in kept) → AreKept maps kept
+    → m < length maps → new ≡ slice_set maps m (map_at new m)
+    → (map_at new m).row ≡ (map_at maps m).row
+    → get (map_at maps m).places key ≡ Some p
+    → (map_at new m).places ≡ remove (map_at maps m).places key
+    → AreLive next new (slice_set (serials_in kept) m
+    (slice_set (serials_at (serials_in kept) m) p None))
+    → AreKept new (slice_set kept m (with_since (kept_at kept m) p
+    (taken_now (since_in (kept_at kept m).since p))))
+AreKept-taken next maps new kept m key p live h inside others row there places now =
+    let k = kept_at kept m in
+    let count = ap length others ∙ length-set maps m (map_at new m) in
+    let long = h.long in
+    let here = serials_at-kept kept m in
+    AreKept-changed maps new kept m (with_since k p (taken_now (since_in k.since p))) others inside
+    (IsKept-taken next (map_at maps m) (map_at new m) k key p (live.each m inside).is_map
+    (h.each m inside) row there places
+    (serials_there next new kept m (slice_set (serials_at (serials_in kept) m) p None)
+    (with_since k p (taken_now (since_in k.since p))) (omega arith) now (omega arith)
+    (ap (λ (t : Serials). slice_set t p None) here
+    ∙ sym (serials_of-taken k p (h.each m inside).fresh))))
+    h

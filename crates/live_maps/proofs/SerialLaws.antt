@@ -24,20 +24,12 @@ use Rattle.maps.proofs.ContentLaws.{get-taken}
 use Rattle.maps.proofs.ReportOrderLaws.{get_at}
 use Rattle.maps.specs.Maps.{MapState, IsMap, WritesValue}
 use Rattle.live_maps.specs.Live.{Serials, serial_in, stored, live_content, value_bytes, HasSerials}
+use Rattle.live_maps.proofs.PlaceLists.{equal_to, not_equal}
 use Rattle.live_maps.proofs.KeyValueLaws.{keys-apart, index_of_serial-none, value_bytes-found, put_value-changed, changed-put, changed-removed}
 
 module _ (next : ℕ) (m : MapState) (s : Serials) (h : HasSerials next m s) where
   serial_of : (p n : ℕ) → serial_in s p ≡ Some n → (stored m s p).serial ≡ n
   serial_of p n e = ap (λ (o : Option ℕ). unwrap_or o 0) e
-
-  equal_from : (a b : ℕ) → (a == b) ≡ true → a ≡ b
-  equal_from a b e = grind (arith, nat_tests)
-
-  equal_to : (a b : ℕ) → a ≡ b → (a == b) ≡ true
-  equal_to a b e = grind (arith, nat_tests)
-
-  not_equal : (a b : ℕ) → a ≢ b → (a == b) ≡ false
-  not_equal a b d = grind (arith, nat_tests)
 
   -- each key's place
   at_place : (k d : ℕ) (l : k < length (entries m.places))
@@ -75,7 +67,7 @@ module _ (next : ℕ) (m : MapState) (s : Serials) (h : HasSerials next m s) whe
     only : All (λ e. ((stored m s e.1).serial == n) ≡ true → e.1 ≡ p) (entries m.places)
     only = each (λ e. ((stored m s e.1).serial == n) ≡ true → e.1 ≡ p)
         (λ e there same. h.once e.1 p n
-        (keyed e there ∙ ap Some (equal_from (stored m s e.1).serial n same)) here)
+        (keyed e there ∙ ap Some (eqb-true (stored m s e.1).serial n same)) here)
 
     -- one that a place has is found there
     pub value_bytes-present : value_bytes (live_content m s) n

@@ -1,3 +1,4 @@
+pub mod Kept
 pub mod Live
 pub mod Numbering
-pub mod Orders
+pub mod Ranks

@@ -1,8 +1,7 @@
 -- The numbering at the start of a run: values have the serials 0, 1, .., map by map, and in each by
 -- the bytes of their keys.
-use Rattle.std.proofs.Common.{◌≡◌, ℕ, ◌+◌, ◌-◌, ◌^◌, ◌%◌, ◌<◌, ◌≤◌, List, Option, map, take, length, Some}
+use Rattle.std.proofs.Common.{◌≡◌, ℕ, ◌+◌, ◌^◌, ◌<◌, ◌≤◌, List, Option, map, take, length, Some}
 use Rattle.std.specs.Prelude.{slice_index_or}
-use Rattle.std.specs.Option.{option_map}
 use Rattle.std.specs.FinMap.{values}
 use Rattle.isa_model.specs.Running.Runs.{count_map_values}
 use Rattle.maps.specs.Maps.{MapState, map_at, contents_of}
@@ -31,18 +30,6 @@ abbrev pub AreDistinct : List ℕ → Type 0
 AreDistinct places =
     (i j : ℕ) → i < length places → j < length places → place_in places i ≡ place_in places j
     → i ≡ j
-
--- ---- serials by what they are above a base, modulo 2^64
-
-abbrev pub above : ℕ → Option ℕ → Option ℕ
-above base of = option_map (λ n. (n + base) % 2 ^ 64) of
-
-abbrev pub all_above : ℕ → Serials → Serials
-all_above base serials = map (above base) serials
-
--- all serials moved, so that those from `from` on begin at `to`
-abbrev pub moved : ℕ → ℕ → Serials → Serials
-moved from to serials = all_above ((to + (2 ^ 64 - from)) % 2 ^ 64) serials
 
 -- ---- the values of all maps
 

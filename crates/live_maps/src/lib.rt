@@ -5,8 +5,9 @@
 mod asked;
 pub mod live;
 mod numbering;
-mod orders;
 mod place_serials;
+mod ranks;
+mod reordering;
 mod serials;
 
 pub use live::LiveMaps;

@@ -15,7 +15,6 @@ ghost use Rattle.live_maps.specs.Live.{serials_at, place_if_new, content_at, val
 
 use crate::asked;
 use crate::numbering::number_all;
-use crate::orders::{Order, orders_for};
 use crate::place_serials::PlaceSerials;
 use crate::serials::{find_serial, give_serial, serial_at, serials_for, take_away};
 use isa_model::MapDef;
@@ -32,26 +31,23 @@ pub struct LiveMaps {
     maps: Maps,
     serials: Vec<PlaceSerials>,
     next: u64,
-    // By map: the places of its keys, in the order of the keys.
-    orders: Vec<Order>,
 }
 
 impl Model for LiveMaps {
     ghost use Rattle.std.specs.Prelude.{vec_capacity};
     ghost use Rattle.maps.specs.Maps.{rows_of};
     ghost use Rattle.live_maps.specs.Live.{Live, live_contents};
-    ghost use Rattle.live_maps.specs.Orders.{AreLiveMaps};
+    ghost use Rattle.live_maps.specs.Kept.{AreLiveMaps, serials_in};
 
     ghost Value = { Live };
 
     ghost view = { λ l. record {
       rows = rows_of l.maps;
-      contents = live_contents l.maps l.serials.items;
+      contents = live_contents l.maps (serials_in l.serials.items);
       next_serial = l.next;
     } };
 
-    ghost invariant = { λ l. AreLiveMaps (vec_capacity l.serials) (vec_capacity l.orders) l.next
-        l.maps l.serials.items l.orders.items };
+    ghost invariant = { λ l. AreLiveMaps (vec_capacity l.serials) l.next l.maps l.serials.items };
 }
 
 // The place of a key that had none before.
@@ -74,13 +70,11 @@ impl LiveMaps {
         ensures contents { IfOk result (λ l. map key_values_of l.contents ≡ contents_of maps) }
     {
         let mut serials = serials_for(alloc, &maps)?;
-        let mut orders = orders_for(alloc, &maps)?;
-        let next = number_all(&maps, &mut serials, &mut orders);
+        let next = number_all(&maps, &mut serials);
         Ok(LiveMaps {
             maps,
             serials,
             next,
-            orders,
         })
     }
 
@@ -158,7 +152,6 @@ impl LiveMaps {
             if let Some(place) = new_place(&self.maps, map, key, found) {
                 give_serial(&mut self.serials, map, place, self.next);
                 self.next += 1;
-                self.orders[map].insert(&self.maps, map, key, place);
             }
         }
         answer
@@ -179,7 +172,6 @@ impl LiveMaps {
         if answer == 0 {
             if let Some(place) = found {
                 take_away(&mut self.serials, map, place);
-                self.orders[map].remove(&self.maps, map, key, place);
             }
         }
         answer
@@ -216,7 +208,7 @@ impl LiveMaps {
           next_serial = count_map_values (map key_values_of self.old.contents);
         } }
     {
-        let count = number_all(&self.maps, &mut self.serials, &mut self.orders);
+        let count = number_all(&self.maps, &mut self.serials);
         self.next = count;
     }
 

@@ -1,54 +1,85 @@
 //! The serials of one map's values, by place.
 
-ghost use Rattle.std.specs.Prelude.{◌≡◌, ◌+◌, ◌/◌, ◌<◌, ◌^◌, ℕ, length, All, IfOk, IfSome, Some, None, slice_set, vec_len, vec_capacity};
+ghost use Rattle.std.specs.Prelude.{◌≡◌, ◌≢◌, ◌+◌, ◌/◌, ◌<◌, ◌≤◌, ◌^◌, ℕ, length, IfOk, IfSome, IfNone, Some, None, slice_set, vec_len, vec_capacity};
 ghost use Rattle.std.specs.List.{position};
+ghost use Rattle.std.specs.FinMap.{values};
+ghost use Rattle.maps.specs.Maps.{map_at};
 ghost use Rattle.live_maps.specs.Live.{serial_in, has_serial};
-ghost use Rattle.live_maps.specs.Numbering.{NumbersAll, AreDistinct, OnlyThere, above, all_above, moved};
+ghost use Rattle.live_maps.specs.Numbering.{AreDistinct};
+ghost use Rattle.live_maps.specs.Kept.{AllSame, AreWithin, IsKept, IsLater, given_now, is_given, serials_of, since_in, taken_now, with_since};
 
+use crate::ranks::Ranks;
+use crate::reordering::{put_in, since_at, take_out};
 use map_indexes::rooms::exact;
+use maps::Maps;
 use std::alloc::{AllocError, Global};
 use std::marker::Model;
 
-// The serial of a place, by what it is above a base.
-fn above(base: u64, of: &Option<u64>) -> Option<u64>
-    ensures { result ≡ above base of.now }
-{
-    match of {
-        Some(n) => Some(n.wrapping_add(base)),
-        None => None,
+/// What became of the value at a place since the last numbering.
+#[derive(Clone, Copy)]
+pub enum Since {
+    /// Nothing: it has the serial that it was given then, if it had one.
+    Same,
+    /// It is gone.
+    Gone,
+    /// It is gone, and the place was given another one with this serial.
+    Given(u64),
+    /// The place had none, and was given one with this serial.
+    New(u64),
+}
+
+impl Since {
+    // Once a value has come with a serial.
+    fn given(self, serial: u64) -> Since
+        ensures { result ≡ given_now serial self }
+    {
+        match self {
+            Since::Same => Since::New(serial),
+            _ => Since::Given(serial),
+        }
+    }
+
+    // Once the value is gone.
+    fn taken(self) -> Since
+        ensures { result ≡ taken_now self }
+    {
+        match self {
+            Since::New(_) => Since::Same,
+            _ => Since::Gone,
+        }
     }
 }
 
-// Whether a place has this serial.
-fn has_serial(base: u64, serial: u64, of: &Option<u64>) -> bool
-    ensures { result ≡ has_serial serial (above base of.now) }
+// Whether this serial was given since the last numbering.
+fn is_given(serial: u64, since: &Since) -> bool
+    ensures { result ≡ is_given serial since.now }
 {
-    match above(base, of) {
-        Some(n) => n == serial,
-        None => false,
+    match since {
+        Since::Given(n) => *n == serial,
+        Since::New(n) => *n == serial,
+        _ => false,
     }
 }
 
-// The place that has a serial, if there is one.
-fn place_of(base: u64, serials: &[Option<u64>], serial: u64) -> Option<usize>
-    ensures { result ≡ position (λ of. has_serial serial (above base of)) serials.now }
+// The place that a serial was given since the last numbering, if it has it still.
+fn place_given(since: &[Since], serial: u64) -> Option<usize>
+    ensures { result ≡ position (is_given serial) since.now }
 {
-    serials.iter().position(|of| has_serial(base, serial, of))
+    since.iter().position(|it| is_given(serial, it))
 }
 
-// A serial that was given in the run, by what it is above the base, and the place that it was
-// given.
+// A serial that was given since the last numbering, and the place that it was given.
 #[derive(Clone, Copy)]
 struct Given {
-    distance: u64,
+    serial: u64,
     place: usize,
 }
 
 // Whether a place still has the serial that it was given.
-fn is_kept(serials: &[Option<u64>], given: &Given) -> bool {
-    match serials.get(given.place) {
-        Some(Some(distance)) => *distance == given.distance,
-        _ => false,
+fn is_kept(since: &[Since], given: &Given) -> bool {
+    match since.get(given.place) {
+        Some(it) => is_given(given.serial, it),
+        None => false,
     }
 }
 
@@ -62,190 +93,231 @@ fn room_for(places: u32) -> usize
 
 /// The serials of a map's places. A place without a key has none.
 ///
-/// Contracts see the serials, place after place.
+/// Contracts see the order of the places at the last numbering, and what became of each since.
 #[derive(Drop)]
 pub struct PlaceSerials {
-    // Each by how much it is above `base`, modulo 2^64: to number all anew from another serial on
-    // costs one addition where the order is the same.
-    serials: Vec<Option<u64>>,
-    base: u64,
-    // Where to look for a serial before all places are scanned, which is tested there: the places
-    // that had the serials of the last numbering, and those that were given serials since, in the
-    // order of these.
-    numbered: Vec<usize>,
+    // The places that had keys at the last numbering, in the order of the keys: the serials of
+    // these are `first` and the rank.
+    ranks: Ranks,
+    first: u64,
+    since: Vec<Since>,
+    // Where something became of the value since. If it is full, that may be anywhere.
+    noted: Vec<usize>,
+    // Where to look for a serial before all places are scanned, which is tested there.
     given: Vec<Given>,
 }
 
 impl Model for PlaceSerials {
-    ghost use Rattle.std.specs.Prelude.{◌≡◌, ◌+◌, ◌/◌, length, vec_capacity};
-    ghost use Rattle.live_maps.specs.Live.{Serials};
-    ghost use Rattle.live_maps.specs.Numbering.{all_above};
+    ghost use Rattle.std.specs.Prelude.{◌≡◌, ◌+◌, ◌/◌, ◌≤◌, ◌^◌, length, vec_capacity};
+    ghost use Rattle.live_maps.specs.Kept.{Covers, Kept};
 
-    ghost Value = { Serials };
+    ghost Value = { Kept };
 
-    ghost view = { λ t. all_above t.base t.serials.items };
+    ghost view = { λ t. record {
+      order = t.ranks.places;
+      room = t.ranks.room;
+      first = t.first;
+      since = t.since.items;
+    } };
 
     // there is room for the places and no more, and for some more serials that are given
-    ghost invariant = { λ t. (vec_capacity t.serials ≡ length t.serials.items)
-        × (length t.numbered.items ≡ length t.serials.items)
-        × (vec_capacity t.numbered ≡ length t.serials.items)
-        × (vec_capacity t.given ≡ length t.serials.items + length t.serials.items / 4 + 1) };
+    ghost invariant = { λ t. (Covers t.noted.items (vec_capacity t.noted) t.since.items)
+        × (t.first ≤ 2 ^ 32)
+        × (vec_capacity t.since ≡ length t.since.items)
+        × (vec_capacity t.noted ≡ length t.since.items)
+        × (vec_capacity t.given ≡ length t.since.items + length t.since.items / 4 + 1) };
+}
+
+// The places of a map's keys, in their order.
+fn ranks_of(
+    alloc: Global,
+    maps: &Maps,
+    map: usize,
+    list: &mut Vec<usize>,
+) -> Result<Ranks, AllocError>
+    requires map { map < length maps.now }
+    requires room { (map_at maps.now map).row.entries ≤ vec_capacity list.old }
+    ensures places { IfOk result (λ r. r.places ≡ values (map_at maps.now map).places) }
+    ensures room { IfOk result (λ r. r.room ≡ (map_at maps.now map).row.entries) }
+    ensures capacity { vec_capacity list.new ≡ vec_capacity list.old }
+{
+    maps.say_fits();
+    maps.list_places(map, list);
+    let mut ranks = Ranks::new(alloc, maps.row(map).entries)?;
+    for place in list.as_slice() {
+        let last = ranks.len();
+        ranks.insert(last, *place);
+    }
+    Ok(ranks)
 }
 
 impl PlaceSerials {
-    /// Room for the serials of this number of places. No place has a serial yet.
-    pub fn new(alloc: Global, places: u32) -> Result<Self, AllocError>
-        ensures len { IfOk result (λ t. length t ≡ places) }
-        ensures none { IfOk result (λ t. (p : ℕ) → serial_in t p ≡ None) }
+    /// The serials of a map's values, from 0 on.
+    pub fn new(alloc: Global, maps: &Maps, map: usize) -> Result<Self, AllocError>
+        requires { map < length maps.now }
+        ensures order { IfOk result (λ k. k.order ≡ values (map_at maps.now map).places) }
+        ensures room { IfOk result (λ k. k.room ≡ (map_at maps.now map).row.entries) }
+        ensures long { IfOk result (λ k. length k.since ≡ (map_at maps.now map).row.entries) }
+        ensures same { IfOk result (λ k. AllSame k.since) }
     {
-        let none = vec![in alloc; None; places as usize]?;
-        let zeros = vec![in alloc; 0; places as usize]?;
+        let places = maps.row(map).entries;
+        let mut noted = Vec::with_capacity(alloc, places as usize)?;
+        let ranks = ranks_of(alloc, maps, map, &mut noted)?;
+        noted.clear();
+        let same = vec![in alloc; Since::Same; places as usize]?;
         let given = Vec::with_capacity(alloc, room_for(places))?;
-        let serials = exact(none)?;
-        let numbered = exact(zeros)?;
+        let since = exact(same)?;
         Ok(PlaceSerials {
-            serials,
-            base: 0,
-            numbered,
+            ranks,
+            first: 0,
+            since,
+            noted,
             given,
         })
     }
 
     /// The serial at a place.
     pub fn at(&self, place: usize) -> Option<u64>
-        requires { place < length self.now }
-        ensures { result ≡ serial_in self.now place }
+        requires inside { place < length self.now.since }
+        requires distinct { AreDistinct self.now.order }
+        ensures { result ≡ serial_in (serials_of self.now) place }
     {
-        above(self.base, &self.serials[place])
-    }
-
-    // A place, if it has this serial.
-    fn tested(&self, place: usize, serial: u64) -> Option<usize>
-        ensures { IfSome result (λ p. serial_in self.now p ≡ Some serial) }
-    {
-        if place < self.serials.len() && has_serial(self.base, serial, &self.serials[place]) {
-            Some(place)
-        } else {
-            None
+        match since_at(self.since.as_slice(), place) {
+            Since::Same => match self.ranks.rank(place) {
+                Some(rank) => {
+                    let _few = self.ranks.len();
+                    Some(self.first + rank as u64)
+                }
+                None => None,
+            },
+            Since::Gone => None,
+            Since::Given(serial) => Some(serial),
+            Since::New(serial) => Some(serial),
         }
     }
 
-    // The place that a serial was given in the run, by what it is above the base.
-    fn place_given(&self, distance: u64) -> Option<usize> {
+    // The place that has a serial of the last numbering, if it has it still.
+    fn numbered(&self, serial: u64) -> Option<usize>
+        requires distinct { AreDistinct self.now.order }
+        requires inside { AreWithin (length self.now.since) self.now.order }
+        ensures found { IfSome result (λ p. serial_in (serials_of self.now) p ≡ Some serial) }
+        ensures none { IfNone result (IsLater serial self.now) }
+    {
+        if serial < self.first || serial - self.first >= self.ranks.len() as u64 {
+            return None;
+        }
+        let place = self.ranks.at((serial - self.first) as usize);
+        match since_at(self.since.as_slice(), place) {
+            Since::Same => Some(place),
+            _ => None,
+        }
+    }
+
+    // The place that a serial was given since, if it was noted and has it still.
+    fn noted_place(&self, serial: u64) -> Option<usize>
+        ensures { IfSome result (λ p. serial_in (serials_of self.now) p ≡ Some serial) }
+    {
         let given = self.given.as_slice();
-        match given.binary_search_by(|it| it.distance.cmp(&distance)) {
-            Ok(i) => Some(given[i].place),
-            Err(_) => None,
-        }
-    }
-
-    // The place that a serial was given last, if it has it still.
-    fn noted(&self, serial: u64) -> Option<usize>
-        ensures { IfSome result (λ p. serial_in self.now p ≡ Some serial) }
-    {
-        let distance = serial.wrapping_sub(self.base);
-        if distance < self.numbered.len() as u64 {
-            let found = self.tested(self.numbered[distance as usize], serial);
-            if found.is_some() {
-                return found;
+        match given.binary_search_by(|it| it.serial.cmp(&serial)) {
+            Ok(i) => {
+                let place = given[i].place;
+                if is_given(serial, &since_at(self.since.as_slice(), place)) {
+                    Some(place)
+                } else {
+                    None
+                }
             }
-        }
-        match self.place_given(distance) {
-            Some(place) => self.tested(place, serial),
-            None => None,
+            Err(_) => None,
         }
     }
 
     /// The place that has a serial, if there is one, where no two places have it.
     pub fn find(&self, serial: u64) -> Option<usize>
-        requires { (p q : ℕ) → serial_in self.now p ≡ Some serial
-            → serial_in self.now q ≡ Some serial → p ≡ q }
-        ensures { result ≡ position (has_serial serial) self.now }
+        requires distinct { AreDistinct self.now.order }
+        requires inside { AreWithin (length self.now.since) self.now.order }
+        requires once { (p q : ℕ) → serial_in (serials_of self.now) p ≡ Some serial
+            → serial_in (serials_of self.now) q ≡ Some serial → p ≡ q }
+        ensures { result ≡ position (has_serial serial) (serials_of self.now) }
     {
-        match self.noted(serial) {
+        match self.numbered(serial) {
             Some(place) => Some(place),
-            None => place_of(self.base, self.serials.as_slice(), serial),
+            None => match self.noted_place(serial) {
+                Some(place) => Some(place),
+                None => place_given(self.since.as_slice(), serial),
+            },
         }
     }
 
     // Notes which place is given a serial, in a list that drops what no place has any more as often
     // as it is full.
-    fn note(&mut self, distance: u64, place: usize)
+    fn note_given(&mut self, serial: u64, place: usize)
         ensures { self.new ≡ self.old }
     {
         if self.given.len() == self.given.capacity() {
-            let serials = self.serials.as_slice();
-            self.given.retain(|given| is_kept(serials, given));
+            let since = self.since.as_slice();
+            self.given.retain(|given| is_kept(since, given));
         }
         if self.given.len() < self.given.capacity() {
-            self.given.push_reserved(Given { distance, place });
+            self.given.push_reserved(Given { serial, place });
         }
     }
 
-    // Notes which place has the i-th serial of a numbering.
-    fn note_numbered(&mut self, i: usize, place: usize)
-        ensures { self.new ≡ self.old }
+    // Says what became of the value at a place.
+    fn set(&mut self, place: usize, since: Since)
+        requires { place < length self.old.since }
+        ensures { self.new ≡ with_since self.old place since }
     {
-        if i < self.numbered.len() {
-            self.numbered[i] = place;
+        if self.noted.len() < self.noted.capacity() {
+            self.noted.push_reserved(place);
         }
-    }
-
-    // No serial was given since the last numbering.
-    fn forget_given(&mut self)
-        ensures { self.new ≡ self.old }
-    {
-        self.given.clear();
-    }
-
-    // Sets the serial of a place.
-    fn set(&mut self, place: usize, serial: u64)
-        requires { place < length self.old }
-        ensures { self.new ≡ slice_set self.old place (Some serial) }
-    {
-        self.serials[place] = Some(serial.wrapping_sub(self.base));
+        self.since[place] = since;
     }
 
     /// Gives a place a serial.
     pub fn give(&mut self, place: usize, serial: u64)
-        requires { place < length self.old }
-        ensures { self.new ≡ slice_set self.old place (Some serial) }
+        requires { place < length self.old.since }
+        ensures { self.new
+            ≡ with_since self.old place (given_now serial (since_in self.old.since place)) }
     {
-        self.set(place, serial);
-        self.note(serial.wrapping_sub(self.base), place);
+        let since = self.since[place];
+        self.set(place, since.given(serial));
+        self.note_given(serial, place);
     }
 
     /// Takes the serial of a place away.
     pub fn take(&mut self, place: usize)
-        requires { place < length self.old }
-        ensures { self.new ≡ slice_set self.old place None }
+        requires { place < length self.old.since }
+        ensures { self.new
+            ≡ with_since self.old place (taken_now (since_in self.old.since place)) }
     {
-        self.serials[place] = None;
+        let since = self.since[place];
+        self.set(place, since.taken());
     }
 
-    /// Moves all serials, so that those from `from` on begin at `to`.
-    pub fn shift(&mut self, from: u64, to: u64)
-        ensures { self.new ≡ moved from to self.old }
+    /// Numbers the values of a map from `first` on, and returns how many they are. That costs
+    /// nothing for a value that was there at the last numbering.
+    pub fn number(&mut self, maps: &Maps, map: usize, first: u64) -> u64
+        requires map { map < length maps.now }
+        requires few { first ≤ 2 ^ 32 }
+        requires kept { IsKept (map_at maps.now map) self.old }
+        ensures count { result ≡ length (values (map_at maps.now map).places) }
+        ensures order { self.new.order ≡ values (map_at maps.now map).places }
+        ensures room { self.new.room ≡ self.old.room }
+        ensures first { self.new.first ≡ first }
+        ensures long { length self.new.since ≡ length self.old.since }
+        ensures same { AllSame self.new.since }
     {
-        self.base = self.base.wrapping_add(to.wrapping_sub(from));
-    }
-
-    /// Gives the places of a list the serials from `first` on, in the order of the list. No other
-    /// place has one before, so none has one after.
-    pub fn number(&mut self, places: &[usize], first: u64)
-        requires within { All (λ p. p < length self.old) places.now }
-        requires distinct { AreDistinct places.now }
-        requires only { OnlyThere places.now self.old }
-        requires room { first + length places.now < 2 ^ 64 }
-        ensures numbers { NumbersAll first places.now self.new }
-        ensures len { length self.new ≡ length self.old }
-    {
-        // What is given now is kept by what it is above `first`.
-        self.shift(self.base, first);
-        self.forget_given();
-        for i in 0..places.len() {
-            self.set(places[i], first + i as u64);
-            self.note_numbered(i, places[i]);
-        }
+        take_out(&mut self.ranks, self.since.as_slice(), &self.noted);
+        put_in(
+            maps,
+            map,
+            &mut self.ranks,
+            self.since.as_mut_slice(),
+            &self.noted,
+        );
+        self.noted.clear();
+        self.given.clear();
+        self.first = first;
+        self.ranks.len() as u64
     }
 }

@@ -4,6 +4,7 @@ use Rattle.isa_model.specs.Machine.States.{KeyValues, key_values_of}
 use Rattle.isa_model.specs.Machine.MachineStates.{FitRows}
 use Rattle.maps.proofs.MapLaws.{FitRows-IsMap}
 use Rattle.maps.specs.Maps.{rows_of}
+use Rattle.live_maps.specs.Kept.{serials_in}
 use Rattle.live_maps.specs.Live.{Live}
 use Rattle.live_maps.proofs.ContentLaws.{key_values_of-live_contents}
 use Rattle.live_maps.proofs.live.LiveMaps.count.Goals as goal
@@ -19,5 +20,5 @@ returns-clause-fit c =
     let i = c.self.inside in
     subst (λ (l : Live). FitRows l.rows (map key_values_of l.contents)) c.self.view_is
     (subst (λ (es : List KeyValues). FitRows (rows_of i.maps) es)
-    (sym (key_values_of-live_contents i.maps i.serials.items c.self.invariant.2.long))
+    (sym (key_values_of-live_contents i.maps (serials_in i.serials.items) c.self.invariant.2.long))
     (FitRows-IsMap i.maps c.count.ensures.maps))

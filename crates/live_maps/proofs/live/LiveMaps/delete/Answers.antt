@@ -5,13 +5,11 @@ use Rattle.isa_model.specs.declared.map_defs.MapDef.{MapDef}
 use Rattle.isa_model.specs.Machine.MapContents.{delete_answer}
 use Rattle.maps.specs.Maps.{MapState, Deleted, map_at}
 use Rattle.live_maps.specs.Live.{Live, Serials, AreLive, content_at, serials_at, without}
-use Rattle.live_maps.specs.Orders.{AreLiveMaps, IsOrder, KeyOrder, places_without}
+use Rattle.live_maps.specs.Kept.{AreKept, AreLiveMaps, Kept, kept_at, serials_in, since_in, taken_now, with_since}
 use Rattle.live_maps.proofs.ContentLaws.{live_of}
 use Rattle.live_maps.proofs.LiveLaws.{live-removed, live-same, deleted_there, delete_answer-live}
 use Rattle.live_maps.proofs.LookUpLaws.{lookup-present}
-use Rattle.live_maps.proofs.OrderLaws.{AreOrders-changed, IsOrder-listed, order_found, values-removed}
-use Rattle.live_maps.proofs.NumberingLaws.{values-distinct}
-use Rattle.live_maps.specs.Numbering.{AreDistinct}
+use Rattle.live_maps.proofs.OrderLaws.{AreKept-taken}
 use Rattle.live_maps.proofs.OneChanged.{OneChanged, row_known, one_changed, row_seen, still_kept}
 use Rattle.live_maps.proofs.live.LiveMaps.delete.Goals as goal
 use Rattle.live_maps.proofs.live.LiveMaps.delete.Goals.{In-Some, In_default, Else-answer-eq0}
@@ -25,7 +23,7 @@ some_changed : (c : In-Some)
     → OneChanged (Size c.args.key.now) c.self.inside.maps c.delete-answer.new.maps c.args.map
 some_changed c =
     let i = c.self.inside in
-    one_changed (Size c.args.key.now) i.next i.maps i.serials.items c.args.self.now c.self.view_is
+    one_changed (Size c.args.key.now) i.next i.maps (serials_in i.serials.items) c.args.self.now c.self.view_is
     c.args.map
     c.requires c.delete-answer.new.maps c.delete-answer.ensures.others c.say_fits.ensures
 
@@ -33,7 +31,7 @@ default_changed : (c : In_default)
     → OneChanged (Size c.args.key.now) c.self.inside.maps c.delete-answer.new.maps c.args.map
 default_changed c =
     let i = c.self.inside in
-    one_changed (Size c.args.key.now) i.next i.maps i.serials.items c.args.self.now c.self.view_is
+    one_changed (Size c.args.key.now) i.next i.maps (serials_in i.serials.items) c.args.self.now c.self.view_is
     c.args.map
     c.requires c.delete-answer.new.maps c.delete-answer.ensures.others c.say_fits.ensures
 
@@ -41,7 +39,7 @@ error_changed : (c : Else-answer-eq0)
     → OneChanged (Size c.args.key.now) c.self.inside.maps c.delete-answer.new.maps c.args.map
 error_changed c =
     let i = c.self.inside in
-    one_changed (Size c.args.key.now) i.next i.maps i.serials.items c.args.self.now c.self.view_is
+    one_changed (Size c.args.key.now) i.next i.maps (serials_in i.serials.items) c.args.self.now c.self.view_is
     c.args.map
     c.requires c.delete-answer.new.maps c.delete-answer.ensures.others c.say_fits.ensures
 
@@ -69,7 +67,7 @@ had c = sym c.find-found.ensures ∙ c.in-Some.is
 -- the serials without that of the place
 abbrev left : (c : In-Some) → List Serials
 left c =
-    let all = c.self.inside.serials.items in
+    let all = (serials_in c.self.inside.serials.items) in
     slice_set all c.args.map (slice_set (serials_at all c.args.map) c.in-Some.place None)
 
 -- the maps and their serials without the key
@@ -77,11 +75,11 @@ lives : (c : In-Some) → OneChanged (Size c.args.key.now) c.self.inside.maps c.
     c.args.map
     → AreLive c.self.inside.next c.delete-answer.new.maps (left c)
     × (live_of c.delete-answer.new.maps (left c) c.self.inside.next
-    ≡ without (live_of c.self.inside.maps c.self.inside.serials.items c.self.inside.next) c.args.map
+    ≡ without (live_of c.self.inside.maps (serials_in c.self.inside.serials.items) c.self.inside.next) c.args.map
     c.args.key.now)
 lives c d =
     let i = c.self.inside in
-    live-removed i.next i.maps i.serials.items c.args.map c.delete-answer.new.maps d.inside
+    live-removed i.next i.maps (serials_in i.serials.items) c.args.map c.delete-answer.new.maps d.inside
     c.self.invariant.2 c.delete-answer.ensures.others
     c.args.key.now c.in-Some.place d.is (deleted c.delete-answer.result c.if-answer-eq0.true _ _ _
     c.delete-answer.ensures.deleted) (had c)
@@ -93,7 +91,7 @@ same : (c : Else-answer-eq0) → OneChanged (Size c.args.key.now) c.self.inside.
 same c d =
     let i = c.self.inside in
     let del = c.delete-answer.ensures.deleted in
-    sym (live-same i.next i.maps i.serials.items c.args.map c.delete-answer.new.maps d.inside
+    sym (live-same i.next i.maps (serials_in i.serials.items) c.args.map c.delete-answer.new.maps d.inside
     c.self.invariant.2 c.delete-answer.ensures.others
     del.row (del.deletes.stays c.if-answer-eq0.false) del.deletes.block)
 
@@ -108,28 +106,28 @@ never c =
 pub find-found-requires-clause-map : goal.find-found-requires-clause-map
 find-found-requires-clause-map c =
     let i = c.self.inside in
-    let known = row_known (Size c.args.key.now) i.next i.maps i.serials.items c.args.self.now
+    let known = row_known (Size c.args.key.now) i.next i.maps (serials_in i.serials.items) c.args.self.now
     c.self.view_is c.args.map c.requires in
     known.0
 
 pub find-found-requires-clause-key_size : goal.find-found-requires-clause-key_size
 find-found-requires-clause-key_size c =
     let i = c.self.inside in
-    let known = row_known (Size c.args.key.now) i.next i.maps i.serials.items c.args.self.now
+    let known = row_known (Size c.args.key.now) i.next i.maps (serials_in i.serials.items) c.args.self.now
     c.self.view_is c.args.map c.requires in
     known.1
 
 pub delete-answer-requires-clause-map : goal.delete-answer-requires-clause-map
 delete-answer-requires-clause-map c =
     let i = c.self.inside in
-    let known = row_known (Size c.args.key.now) i.next i.maps i.serials.items c.args.self.now
+    let known = row_known (Size c.args.key.now) i.next i.maps (serials_in i.serials.items) c.args.self.now
     c.self.view_is c.args.map c.requires in
     known.0
 
 pub delete-answer-requires-clause-key_size : goal.delete-answer-requires-clause-key_size
 delete-answer-requires-clause-key_size c =
     let i = c.self.inside in
-    let known = row_known (Size c.args.key.now) i.next i.maps i.serials.items c.args.self.now
+    let known = row_known (Size c.args.key.now) i.next i.maps (serials_in i.serials.items) c.args.self.now
     c.self.view_is c.args.map c.requires in
     known.1
 
@@ -137,7 +135,7 @@ pub take_away-requires-clause-index : goal.take_away-requires-clause-index
 take_away-requires-clause-index c =
     let d = some_changed (goal.at.take_away-requires-clause-index c).In-Some in
     let inside = d.inside in
-    let long = c.self.invariant.2.long in
+    let long = c.self.invariant.3.long in
     let items = c.self.inside.serials.ok.0 in
     omega arith
 
@@ -145,52 +143,28 @@ pub take_away-requires-clause-place : goal.take_away-requires-clause-place
 take_away-requires-clause-place c =
     let w = goal.at.take_away-requires-clause-place c in
     let i = c.self.inside in
-    (lookup-present i.next i.maps i.serials.items c.args.map c.self.invariant.2
+    (lookup-present i.next i.maps (serials_in i.serials.items) c.args.map c.self.invariant.2
     (some_changed w.In-Some).inside c.args.key.now c.in-Some.place (had w.In-Some)).0
 
--- the order without the place
-ordered : (c : In-Some) → OneChanged (Size c.args.key.now) c.self.inside.maps
+pub take_away-requires-clause-fresh : goal.take_away-requires-clause-fresh
+take_away-requires-clause-fresh c =
+    let w = goal.at.take_away-requires-clause-fresh c in
+    (c.self.invariant.3.each c.args.map (some_changed w.In-Some).inside).fresh
+
+-- what is kept of the maps without the key
+kept_taken : (c : In-Some) → OneChanged (Size c.args.key.now) c.self.inside.maps
     c.delete-answer.new.maps c.args.map
-    → (o q : KeyOrder) → IsOrder (map_at c.self.inside.maps c.args.map)
-    (serials_at c.self.inside.serials.items c.args.map) o
-    → (q.is_behind ≡ false → o.is_behind ≡ false)
-    → (q.is_behind ≡ false → q.places ≡ places_without c.in-Some.place o.places)
-    → q.room ≡ o.room → q.first ≡ None
-    → IsOrder (map_at c.delete-answer.new.maps c.args.map)
-    (slice_set (serials_at c.self.inside.serials.items c.args.map) c.in-Some.place None) q
-ordered c d o q was behind places room first =
+    → AreKept c.delete-answer.new.maps (slice_set c.self.inside.serials.items c.args.map
+    (with_since (kept_at c.self.inside.serials.items c.args.map) c.in-Some.place
+    (taken_now (since_in (kept_at c.self.inside.serials.items c.args.map).since c.in-Some.place))))
+kept_taken c d =
     let i = c.self.inside in
     let m = c.args.map in
-    let x = map_at i.maps m in
-    let y = map_at c.delete-answer.new.maps m in
-    let key = c.args.key.now in
-    let p = c.in-Some.place in
-    let del = deleted c.delete-answer.result c.if-answer-eq0.true key x y
-    c.delete-answer.ensures.deleted in
-    let apart = (c.self.invariant.2.each m d.inside).is_map.apart in
-    IsOrder-listed y (slice_set (serials_at i.serials.items m) p None) q
-    (λ b. places b ∙ ap (places_without p) (was.places (behind b))
-    ∙ sym (values-removed x.places key p apart (had c))
-    ∙ sym (ap values (del.deletes.removes refl)))
-    (room ∙ was.room ∙ sym (ap (λ (r : MapDef). r.entries) del.row)) first
-
-pub remove-requires-clause-map : goal.remove-requires-clause-map
-remove-requires-clause-map c =
-    let d = some_changed (goal.at.remove-requires-clause-map c).In-Some in
-    let inside = d.inside in
-    let count = d.count in
-    omega arith
-
-pub remove-requires-clause-distinct : goal.remove-requires-clause-distinct
-remove-requires-clause-distinct c =
-    let w = goal.at.remove-requires-clause-distinct c in
-    let i = c.self.inside in
-    let m = c.args.map in
-    let d = some_changed w.In-Some in
-    let was = order_found i.maps i.serials.items i.orders.items m c.index_mut.result.now _
-    c.self.invariant.3 d.inside c.index_mut.ensures.value in
-    λ b. subst (λ (places : List ℕ). AreDistinct places) (sym (was.places b))
-    (values-distinct (map_at i.maps m).places (c.self.invariant.2.each m d.inside).is_map.apart)
+    let del = deleted c.delete-answer.result c.if-answer-eq0.true c.args.key.now (map_at i.maps m)
+    (map_at c.delete-answer.new.maps m) c.delete-answer.ensures.deleted in
+    AreKept-taken i.next i.maps c.delete-answer.new.maps i.serials.items m c.args.key.now
+    c.in-Some.place c.self.invariant.2 c.self.invariant.3 d.inside c.delete-answer.ensures.others
+    del.row (had c) (del.deletes.removes refl) (lives c d).0
 
 pub invariant_of-self : goal.invariant_of-self
 invariant_of-self c =
@@ -198,27 +172,15 @@ invariant_of-self c =
     let i = c.self.inside in
     let m = c.args.map in
     let new = c.delete-answer.new.maps in
-    let others = c.delete-answer.ensures.others in
     let d = some_changed w.In-Some in
-    let q : KeyOrder = c.remove.new.self in
-    let new_orders = slice_set i.orders.items m q in
-    let was = order_found i.maps i.serials.items i.orders.items m c.index_mut.result.now _
-    c.self.invariant.3 d.inside c.index_mut.ensures.value in
-    let now = ordered w.In-Some d c.index_mut.result.now q was c.remove.ensures.behind
-    c.remove.ensures.places c.remove.ensures.room c.remove.ensures.first in
-    let kept =
-    still_kept (vec_capacity i.serials) (vec_capacity i.orders) i.next i.next i.maps new
-    i.serials.items (left w.In-Some) i.orders.items new_orders m c.self.invariant others
-    (lives w.In-Some d).0
-    (AreOrders-changed i.maps new i.serials.items i.orders.items m
-    (slice_set (serials_at i.serials.items m) c.in-Some.place None) q others
-    c.self.invariant.2.long d.inside now c.self.invariant.3) in
-    subst (λ (n : ℕ). AreLiveMaps n
-    (vec_capacity i.orders) i.next new c.take_away.new.all.items new_orders)
-    (sym c.take_away.ensures.room)
-    (subst (λ (a : List Serials). AreLiveMaps (vec_capacity i.serials)
-    (vec_capacity i.orders) i.next new
-    a new_orders) (sym c.take_away.ensures.taken) kept)
+    let later = c.take_away.new.all.items in
+    subst (λ (n : ℕ). AreLiveMaps n i.next new later) (sym c.take_away.ensures.room)
+    (still_kept (vec_capacity i.serials) i.next i.next i.maps new i.serials.items later m
+    c.self.invariant c.delete-answer.ensures.others
+    (subst (λ (a : List Serials). AreLive i.next new a) (sym c.take_away.ensures.taken)
+    (lives w.In-Some d).0)
+    (subst (λ (a : List Kept). AreKept new a) (sym c.take_away.ensures.kept)
+    (kept_taken w.In-Some d)))
 
 pub invariant_of-self-in_default : goal.invariant_of-self-in_default
 invariant_of-self-in_default c = absurd (never (goal.at.invariant_of-self-in_default c).In_default)
@@ -227,15 +189,13 @@ pub invariant_of-self-else-answer-eq0 : goal.invariant_of-self-else-answer-eq0
 invariant_of-self-else-answer-eq0 c =
     let w = goal.at.invariant_of-self-else-answer-eq0 c in
     let i = c.self.inside in
-    subst (λ (l : List MapState). AreLiveMaps (vec_capacity i.serials)
-    (vec_capacity i.orders) i.next l
-    i.serials.items i.orders.items)
+    subst (λ (l : List MapState). AreLiveMaps (vec_capacity i.serials) i.next l i.serials.items)
     (same w.Else-answer-eq0 (error_changed w.Else-answer-eq0)) c.self.invariant
 
 pub returns-in-Some-clause-answer : goal.returns-in-Some-clause-answer
 returns-in-Some-clause-answer c =
     let i = c.self.inside in
-    answered i.next i.maps c.delete-answer.new.maps i.serials.items c.args.self.now c.self.view_is
+    answered i.next i.maps c.delete-answer.new.maps (serials_in i.serials.items) c.args.self.now c.self.view_is
     c.args.map
     c.args.key.now c.delete-answer.result c.self.invariant.2 (some_changed
     (goal.at.returns-in-Some-clause-answer c).In-Some)
@@ -244,7 +204,7 @@ returns-in-Some-clause-answer c =
 pub returns-in_default-clause-answer : goal.returns-in_default-clause-answer
 returns-in_default-clause-answer c =
     let i = c.self.inside in
-    answered i.next i.maps c.delete-answer.new.maps i.serials.items c.args.self.now c.self.view_is
+    answered i.next i.maps c.delete-answer.new.maps (serials_in i.serials.items) c.args.self.now c.self.view_is
     c.args.map
     c.args.key.now c.delete-answer.result c.self.invariant.2 (default_changed
     (goal.at.returns-in_default-clause-answer c).In_default)
@@ -253,7 +213,7 @@ returns-in_default-clause-answer c =
 pub returns-else-answer-eq0-clause-answer : goal.returns-else-answer-eq0-clause-answer
 returns-else-answer-eq0-clause-answer c =
     let i = c.self.inside in
-    answered i.next i.maps c.delete-answer.new.maps i.serials.items c.args.self.now c.self.view_is
+    answered i.next i.maps c.delete-answer.new.maps (serials_in i.serials.items) c.args.self.now c.self.view_is
     c.args.map
     c.args.key.now c.delete-answer.result c.self.invariant.2 (error_changed
     (goal.at.returns-else-answer-eq0-clause-answer c).Else-answer-eq0)

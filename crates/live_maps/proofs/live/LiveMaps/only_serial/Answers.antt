@@ -3,6 +3,7 @@ use Rattle.std.specs.Prelude.{IsSomeAnd, slice_get}
 use Rattle.isa_model.specs.declared.map_defs.MapDef.{MapDef}
 use Rattle.isa_model.specs.declared.map_defs.MapType.TheVariants.{Array}
 use Rattle.isa_model.specs.Machine.Steps.{one_serial}
+use Rattle.live_maps.specs.Kept.{serials_in}
 use Rattle.live_maps.specs.Live.{Live, content_at}
 use Rattle.live_maps.proofs.ContentLaws.{rows_of-known}
 use Rattle.live_maps.proofs.LookUpLaws.{only-present}
@@ -17,9 +18,19 @@ serial_at-requires-clause-index c =
     (subst (λ (l : Live). IsSomeAnd (slice_get l.rows c.args.map) P)
     (sym c.self.view_is) c.requires) in
     let inside = known.0 in
-    let long = c.self.invariant.2.long in
+    let long = c.self.invariant.3.long in
     let items = i.serials.ok.0 in
     omega arith
+
+pub serial_at-requires-clause-distinct : goal.serial_at-requires-clause-distinct
+serial_at-requires-clause-distinct c =
+    let i = c.self.inside in
+    let P : MapDef → Type 0 = λ row. (row.kind ≡ Array) × (row.entries ≡ 1) in
+    let known =
+    rows_of-known P i.maps c.args.map
+    (subst (λ (l : Live). IsSomeAnd (slice_get l.rows c.args.map) P)
+    (sym c.self.view_is) c.requires) in
+    (c.self.invariant.3.each c.args.map known.0).distinct
 
 pub serial_at-requires-clause-place : goal.serial_at-requires-clause-place
 serial_at-requires-clause-place c =
@@ -29,7 +40,7 @@ serial_at-requires-clause-place c =
     rows_of-known P i.maps c.args.map
     (subst (λ (l : Live). IsSomeAnd (slice_get l.rows c.args.map) P)
     (sym c.self.view_is) c.requires) in
-    (only-present i.next i.maps i.serials.items c.args.map c.self.invariant.2 known.0 known.1.0
+    (only-present i.next i.maps (serials_in i.serials.items) c.args.map c.self.invariant.2 known.0 known.1.0
     known.1.1).0
 
 pub returns : goal.returns
@@ -41,7 +52,7 @@ returns c =
     (subst (λ (l : Live). IsSomeAnd (slice_get l.rows c.args.map) P)
     (sym c.self.view_is) c.requires) in
     let r =
-    only-present i.next i.maps i.serials.items c.args.map c.self.invariant.2 known.0 known.1.0
+    only-present i.next i.maps (serials_in i.serials.items) c.args.map c.self.invariant.2 known.0 known.1.0
     known.1.1 in
     c.unwrap_or.ensures ∙ ap (λ (o : Option ℕ). unwrap_or o 0) c.serial_at.ensures ∙ r.1
     ∙ ap (λ (l : Live). one_serial (content_at l c.args.map)) c.self.view_is

@@ -1,37 +1,31 @@
 use Rattle.std.proofs.Common.{◌≡◌, ◌∙◌, ℕ, List, map, sym, ap, subst}
 use Rattle.isa_model.specs.Machine.States.{KeyValues, key_values_of}
 use Rattle.isa_model.specs.Running.Runs.{numbered_maps, count_map_values}
-use Rattle.maps.specs.Maps.{rows_of, contents_of, map_at}
-use Rattle.live_maps.specs.Live.{Live, AreLive, serials_at}
+use Rattle.maps.specs.Maps.{rows_of, contents_of}
+use Rattle.live_maps.specs.Kept.{serials_in}
+use Rattle.live_maps.specs.Live.{Live, AreLive}
 use Rattle.live_maps.proofs.ContentLaws.{live_of, key_values_of-live_contents}
-use Rattle.live_maps.proofs.NumberingLaws.{AreLive-numbered, OnlyThere-live, numbered-all}
+use Rattle.live_maps.proofs.NumberingLaws.{AreLive-numbered, numbered-all}
 use Rattle.live_maps.proofs.live.LiveMaps.renumber.Goals as goal
-
-pub number_all-count-requires-clause-only : goal.number_all-count-requires-clause-only
-number_all-count-requires-clause-only c m inside =
-    let i = c.self.inside in
-    OnlyThere-live i.next (map_at i.maps m) (serials_at i.serials.items m)
-    (c.self.invariant.2.each m inside)
 
 pub invariant_of-self : goal.invariant_of-self
 invariant_of-self c =
     let maps = c.self.inside.maps in
-    let all = c.number_all-count.new.all.items in
+    let all = serials_in c.number_all-count.new.all.items in
     let done = c.number_all-count.ensures in
     let inv = c.self.invariant in (
       inv.0,
       done.room ∙ inv.1,
       subst (λ (n : ℕ). AreLive n maps all) (sym done.numbered.counted)
           (AreLive-numbered maps all done.maps done.numbered.are),
-      done.orders,
-      done.orders_room ∙ inv.4,
+      done.kept,
     )
 
 pub returns-clause-numbered : goal.returns-clause-numbered
 returns-clause-numbered c =
     let i = c.self.inside in
     let maps = i.maps in
-    let all = c.number_all-count.new.all.items in
+    let all = serials_in c.number_all-count.new.all.items in
     let done = c.number_all-count.ensures in
     let numbered : List KeyValues
     → Live = λ es.
@@ -47,8 +41,8 @@ returns-clause-numbered c =
       next_serial = done.numbered.counted j;
     } in
     let plain : contents_of maps
-    ≡ map key_values_of (live_of maps i.serials.items i.next).contents =
-    sym (key_values_of-live_contents maps i.serials.items c.self.invariant.2.long) in
+    ≡ map key_values_of (live_of maps (serials_in i.serials.items) i.next).contents =
+    sym (key_values_of-live_contents maps (serials_in i.serials.items) c.self.invariant.2.long) in
     new ∙ ap numbered plain
     ∙ ap (λ (l : Live). record l {
       contents = numbered_maps 0 (map key_values_of l.contents);

@@ -1,4 +1,5 @@
 use Rattle.std.proofs.Common.{◌+◌, arith}
+use Rattle.live_maps.specs.Kept.{serials_in}
 use Rattle.live_maps.proofs.LiveLaws.{AreLive-more}
 use Rattle.live_maps.proofs.live.LiveMaps.take_serial.Goals as goal
 
@@ -6,5 +7,5 @@ pub invariant_of-self : goal.invariant_of-self
 invariant_of-self c =
     let i = c.self.inside in
     let inv = c.self.invariant in
-    let live = AreLive-more i.next (i.next + 1) i.maps i.serials.items (omega arith) inv.2 in
-    (inv.0, inv.1, live, inv.3, inv.4)
+    let live = AreLive-more i.next (i.next + 1) i.maps (serials_in i.serials.items) (omega arith) inv.2 in
+    (inv.0, inv.1, live, inv.3)

@@ -1,15 +1,16 @@
 use Rattle.std.proofs.Common.{◌≡◌, ◌+◌, ◌∙◌, refl, sym, ap, subst, length, List, ℕ, suc, Option, Some, None, false, arith}
 use Rattle.std.specs.Prelude.{IsSomeAnd, slice_get, slice_set, vec_capacity, ◌==◌, if◌then◌else◌}
-use Rattle.std.specs.FinMap.{get, remove, values}
+use Rattle.std.specs.FinMap.{get}
 use Rattle.isa_model.specs.declared.map_defs.MapDef.{MapDef}
 use Rattle.isa_model.specs.Machine.MapContents.{update_answer}
-use Rattle.map_indexes.specs.PlaceKeys.{Places}
+use Rattle.map_indexes.specs.PlaceKeys.{TakesPlace}
+use Rattle.maps.proofs.ContentLaws.{get-taken}
 use Rattle.maps.specs.Maps.{MapState, Updated, map_at}
 use Rattle.live_maps.specs.Live.{Live, Serials, AreLive, place_if_new, content_at, serials_at, with_bytes}
-use Rattle.live_maps.specs.Orders.{AreLiveMaps, IsOrder, KeyOrder}
+use Rattle.live_maps.specs.Kept.{AreKept, AreLiveMaps, Kept, given_now, kept_at, serials_in, since_in, with_since}
 use Rattle.live_maps.proofs.ContentLaws.{live_of}
 use Rattle.live_maps.proofs.LiveLaws.{live-updated, live-added, live-same, not_zero, updated_there, place_if_new-Some, place_if_new-None, update_answer-live}
-use Rattle.live_maps.proofs.OrderLaws.{AreOrders-changed, AreOrders-set, IsOrder-listed, order_found, remove-added}
+use Rattle.live_maps.proofs.OrderLaws.{AreKept-given, AreKept-set}
 use Rattle.live_maps.proofs.OneChanged.{OneChanged, row_known, one_changed, row_seen, still_kept}
 use Rattle.live_maps.proofs.live.LiveMaps.update.Goals as goal
 use Rattle.live_maps.proofs.live.LiveMaps.update.Goals.{In-Some, In_default, Else-answer-eq0}
@@ -24,7 +25,7 @@ some_changed : (c : In-Some)
     c.args.map
 some_changed c =
     let i = c.self.inside in
-    one_changed (Sizes c.args.key.now c.args.value.now) i.next i.maps i.serials.items
+    one_changed (Sizes c.args.key.now c.args.value.now) i.next i.maps (serials_in i.serials.items)
     c.args.self.now c.self.view_is c.args.map
     c.requires.sizes c.update-answer.new.maps c.update-answer.ensures.others c.say_fits.ensures
 
@@ -33,7 +34,7 @@ default_changed : (c : In_default)
     c.args.map
 default_changed c =
     let i = c.self.inside in
-    one_changed (Sizes c.args.key.now c.args.value.now) i.next i.maps i.serials.items
+    one_changed (Sizes c.args.key.now c.args.value.now) i.next i.maps (serials_in i.serials.items)
     c.args.self.now c.self.view_is c.args.map
     c.requires.sizes c.update-answer.new.maps c.update-answer.ensures.others c.say_fits.ensures
 
@@ -42,7 +43,7 @@ error_changed : (c : Else-answer-eq0)
     c.args.map
 error_changed c =
     let i = c.self.inside in
-    one_changed (Sizes c.args.key.now c.args.value.now) i.next i.maps i.serials.items
+    one_changed (Sizes c.args.key.now c.args.value.now) i.next i.maps (serials_in i.serials.items)
     c.args.self.now c.self.view_is c.args.map
     c.requires.sizes c.update-answer.new.maps c.update-answer.ensures.others c.say_fits.ensures
 
@@ -78,7 +79,7 @@ came c =
 -- the serials with one for the new place
 abbrev given : (c : In-Some) → List Serials
 given c =
-    let all = c.self.inside.serials.items in
+    let all = (serials_in c.self.inside.serials.items) in
     slice_set all c.args.map (slice_set (serials_at all c.args.map) c.in-Some.place
     (Some c.self.inside.next))
 
@@ -87,14 +88,14 @@ added : (c : In-Some) → OneChanged (Sizes c.args.key.now c.args.value.now) c.s
     c.update-answer.new.maps c.args.map
     → AreLive (suc c.self.inside.next) c.update-answer.new.maps (given c)
     × (live_of c.update-answer.new.maps (given c) (suc c.self.inside.next)
-    ≡ with_bytes (live_of c.self.inside.maps c.self.inside.serials.items c.self.inside.next)
+    ≡ with_bytes (live_of c.self.inside.maps (serials_in c.self.inside.serials.items) c.self.inside.next)
     c.args.map c.args.key.now c.args.value.now)
 added c d =
     let i = c.self.inside in
     let u = updated c.update-answer.result c.if-answer-eq0.true _ _ _ _ _
     c.update-answer.ensures.updated in
     let two = came c in
-    live-added i.next i.maps i.serials.items c.args.map c.update-answer.new.maps d.inside
+    live-added i.next i.maps (serials_in i.serials.items) c.args.map c.update-answer.new.maps d.inside
     c.self.invariant.2 c.update-answer.ensures.others
     c.args.key.now c.args.value.now c.args.flags c.in-Some.place d.is d.row.1 u two.0 two.1
 
@@ -116,16 +117,16 @@ had c =
 -- the maps and their serials with another value of the key
 written : (c : In_default) → OneChanged (Sizes c.args.key.now c.args.value.now) c.self.inside.maps
     c.update-answer.new.maps c.args.map
-    → AreLive c.self.inside.next c.update-answer.new.maps c.self.inside.serials.items
-    × (live_of c.update-answer.new.maps c.self.inside.serials.items c.self.inside.next
-    ≡ with_bytes (live_of c.self.inside.maps c.self.inside.serials.items c.self.inside.next)
+    → AreLive c.self.inside.next c.update-answer.new.maps (serials_in c.self.inside.serials.items)
+    × (live_of c.update-answer.new.maps (serials_in c.self.inside.serials.items) c.self.inside.next
+    ≡ with_bytes (live_of c.self.inside.maps (serials_in c.self.inside.serials.items) c.self.inside.next)
     c.args.map c.args.key.now c.args.value.now)
 written c d =
     let i = c.self.inside in
     let u = updated c.update-answer.result c.if-answer-eq0.true _ _ _ _ _
     c.update-answer.ensures.updated in
     let p = had c in
-    live-updated i.next i.maps i.serials.items c.args.map c.update-answer.new.maps d.inside
+    live-updated i.next i.maps (serials_in i.serials.items) c.args.map c.update-answer.new.maps d.inside
     c.self.invariant.2 c.update-answer.ensures.others
     c.args.key.now c.args.value.now c.args.flags p.0 d.is d.row.1 u p.1
 
@@ -137,48 +138,48 @@ same c d =
     let i = c.self.inside in
     let u = c.update-answer.ensures.updated in
     let stays = u.updates.stays c.if-answer-eq0.false in
-    live-same i.next i.maps i.serials.items c.args.map c.update-answer.new.maps d.inside
+    live-same i.next i.maps (serials_in i.serials.items) c.args.map c.update-answer.new.maps d.inside
     c.self.invariant.2 c.update-answer.ensures.others u.row stays.0 stays.1
 
 pub find-found-requires-clause-map : goal.find-found-requires-clause-map
 find-found-requires-clause-map c =
     let i = c.self.inside in
-    let known = row_known (Sizes c.args.key.now c.args.value.now) i.next i.maps i.serials.items
+    let known = row_known (Sizes c.args.key.now c.args.value.now) i.next i.maps (serials_in i.serials.items)
     c.args.self.now c.self.view_is c.args.map c.requires.sizes in
     known.0
 
 pub find-found-requires-clause-key_size : goal.find-found-requires-clause-key_size
 find-found-requires-clause-key_size c =
     let i = c.self.inside in
-    let known = row_known (Sizes c.args.key.now c.args.value.now) i.next i.maps i.serials.items
+    let known = row_known (Sizes c.args.key.now c.args.value.now) i.next i.maps (serials_in i.serials.items)
     c.args.self.now c.self.view_is c.args.map c.requires.sizes in
     known.1.0
 
 pub update-answer-requires-clause-map : goal.update-answer-requires-clause-map
 update-answer-requires-clause-map c =
     let i = c.self.inside in
-    let known = row_known (Sizes c.args.key.now c.args.value.now) i.next i.maps i.serials.items
+    let known = row_known (Sizes c.args.key.now c.args.value.now) i.next i.maps (serials_in i.serials.items)
     c.args.self.now c.self.view_is c.args.map c.requires.sizes in
     known.0
 
 pub update-answer-requires-clause-key_size : goal.update-answer-requires-clause-key_size
 update-answer-requires-clause-key_size c =
     let i = c.self.inside in
-    let known = row_known (Sizes c.args.key.now c.args.value.now) i.next i.maps i.serials.items
+    let known = row_known (Sizes c.args.key.now c.args.value.now) i.next i.maps (serials_in i.serials.items)
     c.args.self.now c.self.view_is c.args.map c.requires.sizes in
     known.1.0
 
 pub update-answer-requires-clause-value_size : goal.update-answer-requires-clause-value_size
 update-answer-requires-clause-value_size c =
     let i = c.self.inside in
-    let known = row_known (Sizes c.args.key.now c.args.value.now) i.next i.maps i.serials.items
+    let known = row_known (Sizes c.args.key.now c.args.value.now) i.next i.maps (serials_in i.serials.items)
     c.args.self.now c.self.view_is c.args.map c.requires.sizes in
     known.1.1
 
 pub new_place-requires-clause-map : goal.new_place-requires-clause-map
 new_place-requires-clause-map c =
     let i = c.self.inside in
-    let d = one_changed (Sizes c.args.key.now c.args.value.now) i.next i.maps i.serials.items
+    let d = one_changed (Sizes c.args.key.now c.args.value.now) i.next i.maps (serials_in i.serials.items)
     c.args.self.now c.self.view_is c.args.map c.requires.sizes c.update-answer.new.maps
     c.update-answer.ensures.others c.say_fits.ensures in
     let inside = d.inside in
@@ -188,7 +189,7 @@ new_place-requires-clause-map c =
 pub new_place-requires-clause-key_size : goal.new_place-requires-clause-key_size
 new_place-requires-clause-key_size c =
     let i = c.self.inside in
-    let known = row_known (Sizes c.args.key.now c.args.value.now) i.next i.maps i.serials.items
+    let known = row_known (Sizes c.args.key.now c.args.value.now) i.next i.maps (serials_in i.serials.items)
     c.args.self.now c.self.view_is c.args.map c.requires.sizes in
     known.1.0 ∙ sym (ap (λ (r : MapDef). r.key_size) c.update-answer.ensures.updated.row)
 
@@ -196,7 +197,7 @@ pub give_serial-requires-clause-index : goal.give_serial-requires-clause-index
 give_serial-requires-clause-index c =
     let d = some_changed (goal.at.give_serial-requires-clause-index c).In-Some in
     let inside = d.inside in
-    let long = c.self.invariant.2.long in
+    let long = c.self.invariant.3.long in
     let items = c.self.inside.serials.ok.0 in
     omega arith
 
@@ -212,51 +213,30 @@ give_serial-requires-clause-place c =
     ap (λ (r : MapDef). r.entries) c.update-answer.ensures.updated.row in
     omega arith
 
--- without the new key there are the places that there were
-others_stay : (c : In-Some) → values (map_at c.self.inside.maps c.args.map).places
-    ≡ values (remove (map_at c.update-answer.new.maps c.args.map).places c.args.key.now)
-others_stay c =
-    let x = map_at c.self.inside.maps c.args.map in
-    let y = map_at c.update-answer.new.maps c.args.map in
-    let key = c.args.key.now in
-    let u = updated c.update-answer.result c.if-answer-eq0.true key c.args.value.now c.args.flags x
-    y c.update-answer.ensures.updated in
-    let none = (came c).0 in
-    let taken = (u.updates.writes refl).taken none in
-    sym (ap (λ (P : Places). values (remove P key)) taken.added
-    ∙ ap values (remove-added x.places key _ none))
-
-pub insert-requires-clause-map : goal.insert-requires-clause-map
-insert-requires-clause-map c =
-    let d = some_changed (goal.at.insert-requires-clause-map c).In-Some in
-    let inside = d.inside in
-    let count = d.count in
-    omega arith
-
-pub insert-requires-clause-place : goal.insert-requires-clause-place
-insert-requires-clause-place c = (came (goal.at.insert-requires-clause-place c).In-Some).1
-
-pub insert-requires-clause-others : goal.insert-requires-clause-others
-insert-requires-clause-others c =
-    let w = goal.at.insert-requires-clause-others c in
-    let i = c.self.inside in
-    let d = some_changed w.In-Some in
-    let was = order_found i.maps i.serials.items i.orders.items c.args.map c.index_mut.result.now _
-    c.self.invariant.3 d.inside c.index_mut.ensures.value in
-    λ b. was.places b ∙ others_stay w.In-Some
-
-pub insert-requires-clause-room : goal.insert-requires-clause-room
-insert-requires-clause-room c =
-    let w = goal.at.insert-requires-clause-room c in
+-- what is kept of the maps with the new key
+kept_given : (c : In-Some) → OneChanged (Sizes c.args.key.now c.args.value.now)
+    c.self.inside.maps c.update-answer.new.maps c.args.map
+    → AreKept c.update-answer.new.maps (slice_set c.self.inside.serials.items c.args.map
+    (with_since (kept_at c.self.inside.serials.items c.args.map) c.in-Some.place
+    (given_now c.self.inside.next
+    (since_in (kept_at c.self.inside.serials.items c.args.map).since c.in-Some.place))))
+kept_given c d =
     let i = c.self.inside in
     let m = c.args.map in
-    let d = some_changed w.In-Some in
-    let was = order_found i.maps i.serials.items i.orders.items m c.index_mut.result.now _
-    c.self.invariant.3 d.inside c.index_mut.ensures.value in
-    let room = was.room in
-    let same : (map_at c.update-answer.new.maps m).row.entries ≡ (map_at i.maps m).row.entries =
-    ap (λ (r : MapDef). r.entries) c.update-answer.ensures.updated.row in
-    omega arith
+    let u = updated c.update-answer.result c.if-answer-eq0.true _ _ _ (map_at i.maps m)
+    (map_at c.update-answer.new.maps m) c.update-answer.ensures.updated in
+    let two = came c in
+    let none = two.0 in
+    let w = u.updates.writes refl in
+    let at : Some w.place ≡ Some c.in-Some.place =
+    sym (get-taken (map_at i.maps m).places (map_at c.update-answer.new.maps m).places
+    c.args.key.now w.place (w.taken none)) ∙ two.1 in
+    let same : w.place ≡ c.in-Some.place = cc in
+    AreKept-given i.next i.maps c.update-answer.new.maps i.serials.items m c.args.key.now
+    c.in-Some.place c.self.invariant.2 c.self.invariant.3 d.inside c.update-answer.ensures.others
+    u.row d.is none
+    (subst (λ (p : ℕ). TakesPlace (map_at i.maps m).places c.args.key.now p
+    (map_at c.update-answer.new.maps m).places) same (w.taken none)) (added c d).0
 
 pub invariant_of-self : goal.invariant_of-self
 invariant_of-self c =
@@ -264,32 +244,17 @@ invariant_of-self c =
     let i = c.self.inside in
     let m = c.args.map in
     let new = c.update-answer.new.maps in
-    let others = c.update-answer.ensures.others in
     let d = some_changed w.In-Some in
+    let later = c.give_serial.new.all.items in
     let s : suc i.next ≡ i.next + 1 = omega arith in
-    let q : KeyOrder = c.insert.new.self in
-    let new_orders = slice_set i.orders.items m q in
-    let here : Serials = slice_set (serials_at i.serials.items m) c.in-Some.place (Some i.next) in
-    let was = order_found i.maps i.serials.items i.orders.items m c.index_mut.result.now _
-    c.self.invariant.3 d.inside c.index_mut.ensures.value in
-    let now : IsOrder (map_at new m) here q =
-    IsOrder-listed (map_at new m) here q c.insert.ensures.places
-    (c.insert.ensures.room ∙ was.room
-    ∙ sym (ap (λ (r : MapDef). r.entries) c.update-answer.ensures.updated.row))
-    c.insert.ensures.first in
-    let kept =
-    still_kept (vec_capacity i.serials) (vec_capacity i.orders) i.next (suc i.next) i.maps new
-    i.serials.items (given w.In-Some) i.orders.items new_orders m c.self.invariant others
-    (added w.In-Some d).0
-    (AreOrders-changed i.maps new i.serials.items i.orders.items m here q others
-    c.self.invariant.2.long d.inside now c.self.invariant.3) in
-    subst (λ (n : ℕ). AreLiveMaps n (vec_capacity i.orders)
-    (i.next + 1) new c.give_serial.new.all.items
-    new_orders) (sym c.give_serial.ensures.room)
-    (subst (λ (a : List Serials). AreLiveMaps (vec_capacity i.serials) (vec_capacity i.orders)
-    (i.next + 1) new a new_orders) (sym c.give_serial.ensures.given)
-    (subst (λ (n : ℕ). AreLiveMaps (vec_capacity i.serials) (vec_capacity i.orders) n new
-    (given w.In-Some) new_orders) s kept))
+    let kept = still_kept (vec_capacity i.serials) i.next (suc i.next) i.maps new i.serials.items
+    later m c.self.invariant c.update-answer.ensures.others
+    (subst (λ (a : List Serials). AreLive (suc i.next) new a) (sym c.give_serial.ensures.given)
+    (added w.In-Some d).0)
+    (subst (λ (a : List Kept). AreKept new a) (sym c.give_serial.ensures.kept)
+    (kept_given w.In-Some d)) in
+    subst (λ (n : ℕ). AreLiveMaps n (i.next + 1) new later) (sym c.give_serial.ensures.room)
+    (subst (λ (n : ℕ). AreLiveMaps (vec_capacity i.serials) n new later) s kept)
 
 pub invariant_of-self-in_default : goal.invariant_of-self-in_default
 invariant_of-self-in_default c =
@@ -302,25 +267,22 @@ invariant_of-self-in_default c =
     let u = updated c.update-answer.result c.if-answer-eq0.true _ _ _ _ _
     c.update-answer.ensures.updated in
     let p = had w.In_default in
-    still_kept (vec_capacity i.serials) (vec_capacity i.orders) i.next i.next i.maps new
-    i.serials.items i.serials.items i.orders.items i.orders.items m c.self.invariant others
-    (written w.In_default d).0
-    (AreOrders-set i.maps new i.serials.items i.orders.items m (map_at new m) others d.inside u.row
+    still_kept (vec_capacity i.serials) i.next i.next i.maps new i.serials.items i.serials.items m
+    c.self.invariant others (written w.In_default d).0
+    (AreKept-set i.maps new i.serials.items m others d.inside u.row
     ((u.updates.writes refl).kept p.0 p.1) c.self.invariant.3)
 
 pub invariant_of-self-else-answer-eq0 : goal.invariant_of-self-else-answer-eq0
 invariant_of-self-else-answer-eq0 c =
     let w = goal.at.invariant_of-self-else-answer-eq0 c in
     let i = c.self.inside in
-    subst (λ (l : List MapState). AreLiveMaps (vec_capacity i.serials)
-    (vec_capacity i.orders) i.next l
-    i.serials.items i.orders.items)
+    subst (λ (l : List MapState). AreLiveMaps (vec_capacity i.serials) i.next l i.serials.items)
     (sym (same w.Else-answer-eq0 (error_changed w.Else-answer-eq0))) c.self.invariant
 
 pub returns-in-Some-clause-answer : goal.returns-in-Some-clause-answer
 returns-in-Some-clause-answer c =
     let i = c.self.inside in
-    answered i.next i.maps c.update-answer.new.maps i.serials.items c.args.self.now c.self.view_is
+    answered i.next i.maps c.update-answer.new.maps (serials_in i.serials.items) c.args.self.now c.self.view_is
     c.args.map
     c.args.key.now c.args.value.now c.args.flags c.update-answer.result c.self.invariant.2
     (some_changed (goal.at.returns-in-Some-clause-answer c).In-Some)
@@ -329,7 +291,7 @@ returns-in-Some-clause-answer c =
 pub returns-in_default-clause-answer : goal.returns-in_default-clause-answer
 returns-in_default-clause-answer c =
     let i = c.self.inside in
-    answered i.next i.maps c.update-answer.new.maps i.serials.items c.args.self.now c.self.view_is
+    answered i.next i.maps c.update-answer.new.maps (serials_in i.serials.items) c.args.self.now c.self.view_is
     c.args.map
     c.args.key.now c.args.value.now c.args.flags c.update-answer.result c.self.invariant.2
     (default_changed (goal.at.returns-in_default-clause-answer c).In_default)
@@ -338,7 +300,7 @@ returns-in_default-clause-answer c =
 pub returns-else-answer-eq0-clause-answer : goal.returns-else-answer-eq0-clause-answer
 returns-else-answer-eq0-clause-answer c =
     let i = c.self.inside in
-    answered i.next i.maps c.update-answer.new.maps i.serials.items c.args.self.now c.self.view_is
+    answered i.next i.maps c.update-answer.new.maps (serials_in i.serials.items) c.args.self.now c.self.view_is
     c.args.map
     c.args.key.now c.args.value.now c.args.flags c.update-answer.result c.self.invariant.2
     (error_changed (goal.at.returns-else-answer-eq0-clause-answer c).Else-answer-eq0)
@@ -375,7 +337,7 @@ returns-else-answer-eq0-clause-updated c =
     let i = c.self.inside in
     let test : (c.update-answer.result == 0) ≡ false = not_zero c.update-answer.result
     c.if-answer-eq0.false in
-    ap (λ (l : List MapState). live_of l i.serials.items i.next) (same w.Else-answer-eq0
+    ap (λ (l : List MapState). live_of l (serials_in i.serials.items) i.next) (same w.Else-answer-eq0
     (error_changed w.Else-answer-eq0)) ∙ c.self.view_is
     ∙ ap (λ b. if b then with_bytes c.args.self.now c.args.map c.args.key.now c.args.value.now else
     c.args.self.now) (sym test)

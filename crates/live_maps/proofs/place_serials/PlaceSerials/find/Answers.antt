@@ -1,19 +1,24 @@
-use Rattle.std.proofs.Common.{◌∙◌, sym, ap}
+use Rattle.std.proofs.Common.{◌∙◌, List, sym, ap}
 use Rattle.std.specs.List.{position}
-use Rattle.live_maps.specs.Live.{Serials, has_serial}
-use Rattle.live_maps.specs.Numbering.{above}
-use Rattle.live_maps.proofs.AboveLaws.{position-map}
+use Rattle.live_maps.specs.declared.place_serials.Since.{Since}
+use Rattle.live_maps.specs.Kept.{Kept, is_given, serials_of}
+use Rattle.live_maps.proofs.KeptLaws.{position-later}
 use Rattle.live_maps.proofs.LookUpLaws.{position-once}
 use Rattle.live_maps.proofs.place_serials.PlaceSerials.find.Goals as goal
 
 pub returns-in-Some : goal.returns-in-Some
 returns-in-Some c =
-    sym (position-once c.args.serial c.in-Some.place c.args.self.now c.requires c.in-Some.ensures)
+    sym (position-once c.args.serial c.in-Some.place (serials_of c.args.self.now) c.requires.once
+    c.in-Some.ensures.found)
 
-pub returns-in-None : goal.returns-in-None
-returns-in-None c =
-    let i = c.self.inside in
-    c.place_of.ensures
-    ∙ ap (position (λ of. has_serial c.args.serial (above i.base of))) c.as_slice.ensures.value
-    ∙ sym (position-map (has_serial c.args.serial) (above i.base) i.serials.items)
-    ∙ ap (λ (s : Serials). position (has_serial c.args.serial) s) c.self.view_is
+pub returns-in-Some-noted_place : goal.returns-in-Some-noted_place
+returns-in-Some-noted_place c =
+    sym (position-once c.args.serial c.in-Some-noted_place.place (serials_of c.args.self.now)
+    c.requires.once c.in-Some-noted_place.ensures)
+
+pub returns-in-None-noted_place : goal.returns-in-None-noted_place
+returns-in-None-noted_place c =
+    c.place_given.ensures
+    ∙ ap (λ (l : List Since). position (is_given c.args.serial) l) c.as_slice.ensures.value
+    ∙ ap (λ (k : Kept). position (is_given c.args.serial) k.since) c.self.view_is
+    ∙ position-later c.args.self.now c.args.serial c.in-None.ensures.none

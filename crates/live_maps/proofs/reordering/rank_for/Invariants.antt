@@ -1,0 +1,18 @@
+use Rattle.std.proofs.Common.{◌≡◌, ◌<◌, ◌≤◌, ◌-◌, ℕ, Some, length}
+use Rattle.std.specs.Prelude.{slice_get}
+use Rattle.maps.specs.Maps.{map_at}
+use Rattle.live_maps.specs.Kept.{IsBefore, NotBefore}
+use Rattle.live_maps.proofs.reordering.rank_for.Given as goal
+
+abbrev pub invariant-loop-low : goal.invariant-loop-low
+invariant-loop-low l = record {
+  order : l.low ≤ l.high;
+  inside : l.high ≤ length l.ranks.places;
+  below : (i p : ℕ) → i < l.low → slice_get l.ranks.places i ≡ Some p
+      → IsBefore (map_at l.maps l.map).places p l.place;
+  after : (i p : ℕ) → l.high ≤ i → slice_get l.ranks.places i ≡ Some p
+      → NotBefore (map_at l.maps l.map).places p l.place;
+}
+
+abbrev pub decreases-loop-low : goal.decreases-loop-low
+decreases-loop-low l = l.high - l.low
