@@ -1,6 +1,5 @@
 -- What stays true of a search, move by move.
 use Rattle.std.proofs.Common.{◌≡◌, ◌≤◌, ◌+◌, ◌∷◌, ◌++◌, [], ℕ, Some, None, Option, List, length, length-append, max, arith, refl, sym, ap, ◌∙◌, subst, inl, inr}
-use Rattle.std.specs.Prelude.{IsSome}
 use Rattle.std.specs.List.{All}
 use Rattle.std.proofs.lemmas.List.Elements.{All-push, All-pop}
 use Rattle.isa_model.specs.declared.instructions.Insn.{Insn}
@@ -28,7 +27,7 @@ use Rattle.explorer.specs.Search.{precision_in, Settles, Spends, CountsTo, Arriv
 use Rattle.walks.specs.Forgetting.{Precision, Coarse, Forgets}
 use Rattle.walks.proofs.PrecisionLaws.{Forgets-as, WalksTo-as}
 use Rattle.walks.proofs.Forgotten.{LeadsTo-forgets, GoesOnTo-forgets}
-use Rattle.explorer.proofs.Walking.{steps_by, into_by, Path-walks}
+use Rattle.explorer.proofs.Walking.{steps_by, into_by, Path-walks, some_insn}
 use Rattle.explorer.proofs.Counting.{Spends-one, Spends-two, spent_here, spent_into, spent_on}
 use Rattle.walks.specs.Counts.{StepsInto, LeadsNowhere, Nothing}
 use Rattle.explorer.proofs.StoredStatesLaws.{AllSettled-more, IsCovered-known, Arrives-keeps, Arrives-fine, Arrives-stored, GetsNumber-fine, GetsNumber-keeps}
@@ -228,12 +227,8 @@ IsAtInsns-next p s next flow ready (inr (inr h)) =
     (Some next.slot) refl all in
     record { insn_begins = begins; returns = returns }
 
-some_there : (o : Option Insn) → IsSome o → (i : Insn) × (o ≡ Some i)
-some_there (Some i) h = (i, refl)
-some_there None h = absurd (cc)
-
 pub fetched : (p : Program) (s : State) → IsAtInsns p s → (i : Insn) × (fetch p s.slot ≡ Some i)
-fetched p s ready = some_there (fetch p s.slot) ready.insn_begins
+fetched p s ready = some_insn (fetch p s.slot) ready.insn_begins
 
 -- the instruction's state waits for the state after it
 pub record Entered (how : Precision) (p : Program) (m : ℕ) (states : List StoredState)

@@ -2,10 +2,13 @@
 use Rattle.std.proofs.Common.{◌≡◌, ◌∷◌, ℕ, List, Option, Result, Some, None, refl, sym, subst}
 use Rattle.std.specs.Prelude.{Ok, Err, IfErr}
 use Rattle.isa_model.specs.Code.Instructions.{Program}
+use Rattle.isa_model.specs.Machine.MachineStates.{IsProgram}
 use Rattle.control_flow.specs.Flows.{IsFlow}
 use Rattle.control_flow.specs.declared.kept_numbers.KeptNumbers.{KeptNumbers}
 use Rattle.walks.specs.Forgetting.{Precision, Exact, Coarse, IsNoFiner}
 use Rattle.walks.specs.Refused.{StopsAt, IsRefused}
+use Rattle.walks.specs.Accepting.{AcceptsAll}
+use Rattle.walks.proofs.AcceptingLaws.{AcceptsAll-refused}
 use Rattle.walks.specs.declared.refusals.Refusal.{Refusal}
 use Rattle.walks.specs.declared.refusals.Refusal.TheVariants.{Flow, Step, Repeats, TooLong, Memory}
 use Rattle.explorer.specs.declared.moves.Halt.{Halt}
@@ -36,6 +39,12 @@ pub search_refused : {S : Type 0} (r : Result ℕ (Halt S)) (p q : Program) → 
     → IfErr r (λ h. IfRefused h (StopsAt Exact p)) → IfErr r (λ h. IfRefused h (IsRefused q))
 search_refused (Ok n) p q same good stops = tt
 search_refused (Err h) p q same good stops = halt_refused h p q same good stops
+
+-- no program that must be accepted has its refusal
+pub halted_accepts : {S : Type 0} (p : Program) (h : Halt S) → IsProgram p
+    → IfRefused h (IsRefused p) → IfRefused h (λ e _. AcceptsAll p e)
+halted_accepts p (Refused e slot) program refused = AcceptsAll-refused p e slot program refused
+halted_accepts p (Stopped stop) program refused = tt
 
 -- a listener stops a search, and so control flow is good
 halt_stopped : {S : Type 0} (h : Halt S) (p : Program) → IsFlow p → IfStopped h (IsFlow p)

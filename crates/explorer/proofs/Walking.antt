@@ -1,5 +1,6 @@
 -- What the path says of walks from the start.
 use Rattle.std.proofs.Common.{◌≡◌, ◌+◌, ◌∷◌, [], ℕ, zero, suc, Some, None, Option, List, length, map, arith, refl, sym, ap, ◌∙◌, subst, inl, inr, ◌⊎◌, slice_get}
+use Rattle.std.specs.Prelude.{IsSome}
 use Rattle.std.specs.Option.{option_map}
 use Rattle.std.proofs.lemmas.Option.{slice_get-map}
 use Rattle.isa_model.specs.declared.instructions.Insn.{Insn}
@@ -14,7 +15,7 @@ use Rattle.walks.specs.declared.refusals.Refusal.TheVariants.{Flow, Step, Repeat
 use Rattle.explorer.specs.declared.stored_states.StoredState.{StoredState}
 use Rattle.explorer.specs.declared.trail.Visit.{Visit}
 use Rattle.walks.specs.Walks.{IsAmong, StepsTo, HasSteps, WalksTo}
-use Rattle.walks.specs.Forgetting.{Precision, Forgets}
+use Rattle.walks.specs.Forgetting.{Precision, Coarse, Forgets}
 use Rattle.walks.specs.Counts.{AreForgotten, StepsInto}
 use Rattle.walks.specs.Refused.{StopsAt}
 use Rattle.explorer.specs.StoredStates.{StoredAt}
@@ -39,6 +40,20 @@ steps_by p q s a b n t w v same makes i here is among forgets =
       among = subst (λ x. IsAmong x a b n) (sym is) among;
       forgets = forgets;
     }
+
+-- an instruction that there is
+pub some_insn : (o : Option Insn) → IsSome o → (i : Insn) × (o ≡ Some i)
+some_insn None h = absurd (cc h)
+some_insn (Some i) h = (i, refl)
+
+-- a step that is taken again
+pub steps_again : (p q : Program) (s a b n t : State) (w v : Ways) → IsSome (fetch p s.slot)
+    → ((i : Insn) → fetch p s.slot ≡ Some i → StepsToWays p s i w a b) → w ≡ v
+    → IsAmong v a b n → q ≡ p → Forgets Coarse q n t → StepsTo Coarse p s t
+steps_again p q s a b n t w v begins makes is among same forgets =
+    let (i, here) = some_insn (fetch p s.slot) begins in
+    steps_by p p s a b n t w v refl makes i here is among
+    (subst (λ (x : Program). Forgets Coarse x n t) same forgets)
 
 pub into_by : (p q : Program) (s a b first other : State) (w v : Ways) → p ≡ q
     → ((i : Insn) → fetch q s.slot ≡ Some i → StepsToWays q s i w a b) → (i : Insn)

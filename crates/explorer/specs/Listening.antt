@@ -232,3 +232,12 @@ EndsIn p tale e slot = IsToStop p tale e slot
 abbrev pub EndsAsPrecise : Program → (Precision → List State → State → Type 0) → Refusal → ℕ
     → Type 0
 EndsAsPrecise p tales e slot = EndsIn p (tales (precision_of e)) e slot
+
+-- ---- a path that is followed again
+
+-- the listener was called for a path that ends in a state at the slot
+pub record HasRetraced (tale : List State → State → Type 0) (slot : ℕ) : Type 0 where
+  pub state : State
+  pub before : List State
+  pub slot_is : state.slot ≡ slot
+  pub told : tale (state ∷ before) state

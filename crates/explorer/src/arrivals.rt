@@ -16,7 +16,7 @@ use walks::{Refusal, forget_all, kept_slots, may_forget_all};
 
 /// Forgets what does not matter of a state at which a path arrives next. If several states of its
 /// slot are finished, and none covers it, that may be all numbers: what arrives later is then
-/// likely to be covered.
+/// likely to be covered. Returns whether it was.
 pub fn forget_at(
     alloc: Global,
     flow: &Flow<'_>,
@@ -25,20 +25,21 @@ pub fn forget_at(
     has_called: bool,
     state: &mut State,
     scratch: &mut State,
-) -> Result<(), AllocError>
+) -> Result<bool, AllocError>
     ensures forgets { OnOk result
         (Forgets (precision_in kept.now) flow.now state.old state.new) }
     ensures same { states.new.states.items ≡ states.old.states.items }
 {
     forget_by(flow, kept, has_called, state);
     if !states.is_settled(state.slot) || !may_forget_all(flow, state) {
-        return Ok(());
+        return Ok(false);
     }
     states.take_up(alloc, state, &None, kept_slots(flow, state.slot))?;
-    if states.cover_of(state, scratch).is_none() {
+    let is_plain = states.cover_of(state, scratch).is_none();
+    if is_plain {
         forget_all(flow, state);
     }
-    Ok(())
+    Ok(is_plain)
 }
 
 /// A path arrives at a state. If the state was kept already and is to be stored, the kept one is

@@ -20,6 +20,7 @@ use crate::listening::Listener;
 use crate::moves::{Halt, NO_MEMORY, Refused};
 use crate::search::Search;
 use crate::stored_states::StoredState;
+use crate::trail::{Courses, Trail};
 use bounds::Verified;
 use control_flow::{Flow, KeptNumbers};
 use image::Image;
@@ -58,6 +59,8 @@ pub struct Searched<S> {
     pub stored: Vec<StoredState>,
     /// The limit of the search that was reached, if one was.
     pub limit: Option<SearchLimit>,
+    /// How its last path went on from each visit, for [`retrace`](crate::retrace).
+    pub courses: Courses,
 }
 
 impl<S: Drop> Searched<S> {
@@ -69,6 +72,7 @@ impl<S: Drop> Searched<S> {
             result: ended,
             stored: mem::replace(&mut search.states.states, Vec::new(alloc)),
             limit: search.states.limit(),
+            courses: mem::replace(&mut search.path, Trail::new(alloc)).into_courses(),
         }
     }
 
@@ -80,6 +84,7 @@ impl<S: Drop> Searched<S> {
             result: Err(halt),
             stored: Vec::new(alloc),
             limit: None,
+            courses: Courses::none(alloc),
         }
     }
 }

@@ -19,7 +19,7 @@ use crate::listening::{Listener, halt, tell};
 use crate::long_searches::{forget_by, lengthen};
 use crate::moves::{Halt, Move, NO_MEMORY, NextMove, Refused};
 use crate::stored_states::StoredStates;
-use crate::trail::{Trail, Visit};
+use crate::trail::{Course, Trail, Visit};
 use control_flow::{Flow, KeptNumbers};
 use image::Image;
 use isa_model::MAX_EXPLORED;
@@ -178,7 +178,7 @@ impl Search {
             }
         };
         let has_called = self.current.callers.len() > caller_count;
-        let Ok(()) = forget_at(
+        let Ok(is_plain) = forget_at(
             alloc,
             flow,
             &mut self.states,
@@ -194,7 +194,12 @@ impl Search {
             best: 0,
             stored,
         };
-        let Ok(()) = self.path.push(alloc, visit) else {
+        let course = Course {
+            is_aside: false,
+            is_coarse: self.kept.is_some(),
+            is_plain,
+        };
+        let Ok(()) = self.path.push(alloc, visit, course) else {
             return Err(NO_MEMORY);
         };
         let made = self.come(alloc, flow, None)?;

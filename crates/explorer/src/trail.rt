@@ -20,6 +20,17 @@ pub struct Visit {
     pub stored: Option<usize>,
 }
 
+/// Says how a path went on from a visit, for whoever follows it again. It is advice.
+#[derive(Clone, Copy, Drop)]
+pub struct Course {
+    /// The jump was taken, after what comes if it is not.
+    pub is_aside: bool,
+    /// Only certain numbers were kept of the state that came next.
+    pub is_coarse: bool,
+    /// All numbers of it were forgotten.
+    pub is_plain: bool,
+}
+
 /// A visit without its pending state.
 #[derive(Clone, Copy, Drop)]
 struct KeptVisit {
@@ -27,6 +38,47 @@ struct KeptVisit {
     stored: Option<u32>,
     /// Says whether there is a pending state.
     waits: bool,
+    course: Course,
+}
+
+impl Course {
+    /// The way to the state after the taken jump.
+    #[inline(always)]
+    fn aside(self) -> Self {
+        Course {
+            is_aside: true,
+            is_coarse: self.is_coarse,
+            is_plain: false,
+        }
+    }
+}
+
+/// How a path went on from each of its visits.
+#[derive(Drop)]
+pub struct Courses {
+    visits: Vec<KeptVisit>,
+}
+
+impl Courses {
+    /// Of no visits.
+    pub fn none(alloc: Global) -> Self {
+        Courses {
+            visits: Vec::new(alloc),
+        }
+    }
+
+    /// How many visits there are.
+    pub fn len(&self) -> usize {
+        self.visits.len()
+    }
+
+    /// How the path went on from a visit.
+    pub fn at(&self, index: usize) -> Option<Course> {
+        match self.visits.get(index) {
+            Some(visit) => Some(visit.course),
+            None => None,
+        }
+    }
 }
 
 /// The visits of a path, the first instruction's first. Most visits of a long path have nothing
@@ -101,6 +153,13 @@ impl Trail {
         }
     }
 
+    /// How the path goes on from its visits. Nothing is pending any more.
+    pub fn into_courses(self) -> Courses {
+        Courses {
+            visits: self.visits,
+        }
+    }
+
     /// The state that became pending last, and still is.
     #[inline(always)]
     pub fn last_pending(&self) -> Option<&Kept> {
@@ -114,9 +173,9 @@ impl Trail {
         self.pending.others_at(slot, stored)
     }
 
-    /// Puts a visit after the others.
+    /// Puts a visit after the others, from which the path goes on so.
     #[inline(always)]
-    pub fn push(&mut self, alloc: Global, visit: Visit) -> Result<(), AllocError>
+    pub fn push(&mut self, alloc: Global, visit: Visit, course: Course) -> Result<(), AllocError>
         ensures items { OnOk result (self.new.items ≡ self.old.items ++ visit ∷ []) }
         ensures len { OnOk result (length self.new.items ≡ length self.old.items + 1) }
     {
@@ -131,6 +190,7 @@ impl Trail {
             best,
             stored,
             waits,
+            course,
         };
         self.visits.push(kept)?;
         let Ok(()) = put_pending(&mut self.pending, alloc, pending) else {
@@ -161,6 +221,7 @@ impl Trail {
             best: kept.best.max(number),
             stored: kept.stored,
             waits: false,
+            course: kept.course.aside(),
         };
         let Ok(state) = self.pending.pop(alloc) else {
             return Err(AllocError);

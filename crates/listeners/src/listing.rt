@@ -259,6 +259,7 @@ pub fn explore(alloc: Global, image: &Image) -> Result<Explored, (Refusal, usize
         result,
         mut stored,
         limit: _,
+        courses: _,
     } = search_with(alloc, image, &mut lister);
     match result {
         Ok(number) => {

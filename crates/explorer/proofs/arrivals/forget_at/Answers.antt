@@ -12,8 +12,8 @@ take_up-requires c = λ new j below none.
     c.forget_by.ensures.forgets in
     forgotten.1 j below (c.kept_slots.ensures j below none)
 
-pub returns-then-is_none-clause-forgets : goal.returns-then-is_none-clause-forgets
-returns-then-is_none-clause-forgets c =
+pub returns-then-is_plain-clause-forgets : goal.returns-then-is_plain-clause-forgets
+returns-then-is_plain-clause-forgets c =
     Forgets-further c.args.flow.now c.args.state.now c.forget_by.new.state c.forget_all.new.state
     c.forget_by.ensures.forgets
     (NumbersForgotten-as (precision_in c.args.kept.now) Exact c.args.flow.now c.forget_by.new.state

@@ -15,6 +15,7 @@ returns-clause-items c =
       best = visit.best;
       stored = c.in_ok-stored.stored;
       waits = c.is_some-waits.result;
+      course = c.args.course;
     })
     c.self.inside.pending.items c.put_pending.new.pending.items visit.pending c.self.invariant
     c.in_ok-push.ensures.items c.in-Ok.ensures.items c.is_some-waits.ensures
@@ -36,6 +37,7 @@ invariant_of-self-in-Ok c =
       best = c.args.visit.best;
       stored = c.in_ok-stored.stored;
       waits = c.is_some-waits.result;
+      course = c.args.course;
     })
     c.self.inside.pending.items c.put_pending.new.pending.items c.args.visit.pending
     c.self.invariant c.in_ok-push.ensures.items c.in-Ok.ensures.items
@@ -49,6 +51,7 @@ invariant_of-self-in_default c =
       best = c.args.visit.best;
       stored = c.in_ok-stored.stored;
       waits = c.is_some-waits.result;
+      course = c.args.course;
     } in
     let count : vec_len c.push.new.self - 1 ≡ length visits =
     omega (arith, c.in_ok-push.ensures.len, c.self.inside.visits.ok.0) in

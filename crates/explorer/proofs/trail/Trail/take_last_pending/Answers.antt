@@ -52,7 +52,12 @@ returns-then-not-kept c = (
 )
 
 abbrev now : After-pop → KeptVisit
-now c = record { best = c.max.result; stored = c.index-kept.result.now.stored; waits = false }
+now c = record {
+  best = c.max.result;
+  stored = c.index-kept.result.now.stored;
+  waits = false;
+  course = c.aside.result;
+}
 
 -- the last visit as it was kept and as it is now
 record Turned (c : After-pop) : Type 0 where

@@ -1,0 +1,10 @@
+use Rattle.std.proofs.Common.{List, ◌∷◌}
+use Rattle.stack_state.specs.declared.states.State.{State}
+use Rattle.walks.specs.Forgetting.{Coarse}
+use Rattle.explorer.proofs.retracing.retrace.Given as goal
+
+-- the listener was called for a path to the walker's state
+abbrev pub invariant-loop-index : goal.invariant-loop-index
+invariant-loop-index g l =
+    (before : List State) × g.L.Listener.follows l.listener Coarse l.image
+    (l.walker.state ∷ before) l.walker.state
