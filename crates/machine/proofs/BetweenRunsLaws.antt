@@ -1,5 +1,5 @@
 -- The results of a caller's look-ups, updates and deletes between runs, by the maps.
-use Rattle.std.proofs.Common.{◌≡◌, ℕ, zero, suc, ◌<◌, List, [], ◌∷◌, length, take, drop, cond, refl, sym, ap, subst, ◌∙◌}
+use Rattle.std.proofs.Common.{◌≡◌, ℕ, ◌<◌, List, [], ◌∷◌, length, take, drop, cond, refl, sym, ap, subst, ◌∙◌}
 use Rattle.std.specs.Prelude.{All, true, false, IfSome, Option, None, Some, is_some, option_copied, slice_set, slice_index_or}
 use Rattle.std.specs.Borrow.{Bor}
 use Rattle.std.specs.List.{slice_get, filter_map, cons_option, range_with_len}
@@ -23,6 +23,7 @@ use Rattle.isa_model.specs.Reporting.Reports.{key_value_by_index, in_report_orde
 use Rattle.maps.specs.Maps.{MapState, IsMap, Updated, Deleted, map_at, content_in, ordered_in, rows_of, contents_of}
 use Rattle.maps.specs.ReportOrder.{with_key_of}
 use Rattle.maps.proofs.MapLaws.{FitsRow-IsMap, FitRows-IsMap, contents_of-at, contents_of-set, rows_of-set, length-rows_of}
+use Rattle.map_texts.proofs.Listing.{pair_at}
 use Rattle.word_machine.specs.declared.memory.Memory.{Memory}
 use Rattle.machine.specs.Running.{Running}
 use Rattle.machine.specs.Ready.{IsReady, IsVersioned}
@@ -210,13 +211,6 @@ module _ (maps : List MapState) (are : All IsMap maps) (m : ℕ) (inside : m < l
       (subst (All (IsSized s.row)) (sym listed)
       (sized_by s.row.kind s.row (content_in s) is_map.is_row.key
       (FitsRow-IsMap s is_map).key_values))
-
-pair_at : (es : KeyValues) (k : ℕ) (value : List ℕ)
-    → Some value ≡ option_map (λ e. e.1) (slice_get es k)
-    → (e : List ℕ × List ℕ) × (slice_get es k ≡ Some e) × (e.1 ≡ value)
-pair_at [] k value e = absurd (cc)
-pair_at (x ∷ es) zero value e = (x, refl, cc)
-pair_at (x ∷ es) (suc k) value e = pair_at es k value e
 
 -- the key and the value that are found at k are copied
 module _ (row : MapDef) (es : KeyValues) (k : ℕ) (value : List ℕ) (are : All (IsSized row) es)

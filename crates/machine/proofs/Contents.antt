@@ -59,10 +59,6 @@ sorted-placed : {Y : Type 0} (f : ℕ → Y) (P : Places)
     → T (is_sorted key_order (changed f (entries P)))
 sorted-placed f P = subst T (sym (is_sorted-changed f (entries P))) (entries_sorted P)
 
-cond_not : {A : Type 0} (b : Bool) (x y : A) → cond (not b) x y ≡ cond b y x
-cond_not true x y = refl
-cond_not false x y = refl
-
 -- a key is removed
 pub placed-remove : {Y : Type 0} (f : ℕ → Y) (P : Places) (k : List ℕ)
     → changed f (entries (remove P k)) ≡ without_key k (changed f (entries P))
@@ -78,7 +74,9 @@ placed-remove {Y} f P k =
     ∙ ap (cond (is_key q k) None) (sym (find-placed f P q))
     ∙ ap (λ (b : Bool). cond b None (at_key q (changed f (entries P))))
     ((eq_by_cmp_equiv nat_list_cmp_total).symm q k)
-    ∙ sym (cond_not (is_key k q) (at_key q (changed f (entries P))) None)
+    ∙ elim (is_key k q) as (λ b. cond b None (at_key q (changed f (entries P)))
+    ≡ cond (not b) (at_key q (changed f (entries P))) None)
+    [ true ↦ refl | false ↦ refl ]
     ∙ sym (find-where_key key_order (λ x. not (is_key k x)) q
     (λ x e. ap (λ (y : List ℕ). not (is_key k y))
     (sym (slice_cmp-IsAntisymmetric nat_cmp-IsAntisymmetric q x e))) (changed f (entries P))))

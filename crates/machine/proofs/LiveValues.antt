@@ -1,7 +1,7 @@
 -- Map values in their maps' blocks: where the bytes of a live one are, and what a write to it
 -- leaves.
-use Rattle.std.proofs.Common.{◌≡◌, ℕ, zero, suc, ◌+◌, ◌*◌, ◌<◌, ◌≤◌, List, [], ◌∷◌, length, map, refl, sym, ap, subst, ◌∙◌, arith, Bool, true, false, Some, inl, inr, get_or-set_same, get_or-set_other, slice_set}
-use Rattle.std.specs.Prelude.{slice_index_or, T, ◌&&◌}
+use Rattle.std.proofs.Common.{◌≡◌, ℕ, zero, suc, ◌+◌, ◌*◌, ◌<◌, ◌≤◌, List, [], ◌∷◌, length, map, refl, sym, ap, subst, ◌∙◌, arith, true, Some, inl, inr, get_or-set_same, get_or-set_other, slice_set}
+use Rattle.std.specs.Prelude.{slice_index_or, T}
 use Rattle.std.specs.List.{splice}
 use Rattle.std.specs.Ordering.{is_lt, is_eq}
 use Rattle.std.specs.declared.cmp.Ordering.{Ordering}
@@ -20,6 +20,7 @@ use Rattle.isa_model.specs.Machine.Memory.{key_value_at}
 use Rattle.isa_model.specs.Machine.MapContents.{key_order}
 use Rattle.isa_model.specs.Machine.MachineStates.{AreBytes, FitRows, IsState}
 use Rattle.isa_model.proofs.ValueLaws.{All-splice}
+use Rattle.isa_model.proofs.TestLaws.{both_parts}
 use Rattle.map_indexes.specs.BlockRows.{block_row, with_block_row}
 use Rattle.map_indexes.specs.BlockRowLaws.{row_end, length-block_row, splice_in_row, length-changed_row, block_row-written, block_row-other}
 use Rattle.map_indexes.proofs.PlaceKeysLaws.{is_key-itself, same_or_not}
@@ -58,14 +59,6 @@ live_map p s m j K h = elim (cases_lt m (length p.maps)) [
       absurd (omega arith)
 ]
 
-first_of : (a b : Bool) → T (a && b) → T a
-first_of true b t = tt
-first_of false b t = absurd t
-
-second_of : (a b : Bool) → T (a && b) → T b
-second_of true b t = t
-second_of false b t = absurd t
-
 not_less : (o : Ordering) → T (is_lt o) → is_eq o ≡ true → ⊥
 not_less Less t e = absurd (cc)
 not_less Equal t e = t
@@ -84,13 +77,13 @@ pub same_key : (es : List (List ℕ × ℕ)) (i j : ℕ) → T (is_sorted key_or
 same_key [] i j s h g e = absurd (omega arith)
 same_key (x ∷ es) zero zero s h g e = refl
 same_key (x ∷ es) zero (suc j) s h g e =
-    absurd (not_above x.0 es j (first_of (below_all key_order x.0 es) (is_sorted key_order es) s)
+    absurd (not_above x.0 es j (both_parts (below_all key_order x.0 es) (is_sorted key_order es) s).0
     (omega arith) (sym e))
 same_key (x ∷ es) (suc i) zero s h g e =
-    absurd (not_above x.0 es i (first_of (below_all key_order x.0 es) (is_sorted key_order es) s)
+    absurd (not_above x.0 es i (both_parts (below_all key_order x.0 es) (is_sorted key_order es) s).0
     (omega arith) e)
 same_key (x ∷ es) (suc i) (suc j) s h g e =
-    ap suc (same_key es i j (second_of (below_all key_order x.0 es) (is_sorted key_order es) s)
+    ap suc (same_key es i j (both_parts (below_all key_order x.0 es) (is_sorted key_order es) s).1
     (omega arith) (omega arith) e)
 
 slice_set-map : {X Y : Type 0} (f g : X → Y) (xs : List X) (j : ℕ) (y : Y) (d : X) → j < length xs
