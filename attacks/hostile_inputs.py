@@ -334,7 +334,7 @@ def changing() -> str:
 
 
 def traced() -> Iterator[Tried]:
-    """A frame by `trace` that fills a map from the greatest key on, and one on the full map; and frames that change 16 full maps."""
+    """A frame by `trace` that fills a map from the greatest key on, and one on the full map; and frames that change full maps."""
     frames = write("frames", b"XPF1" + b"".join(record(1, (0, interface, 0), 0, b"") for interface in (0, 1)))
     for name, frame in ("300,000 loads through a pointer", LOADS), ("a key that comes and goes 76,000 times", COMES):
         write("text", FULL.format(keys=MOST_KEYS - 1, frame=frame))
