@@ -79,7 +79,7 @@ def images(paths: list[str]) -> Iterator[Item]:
         for file in files:
             if file.endswith(".image"):
                 beside = file.removesuffix(".image") + ".frames"
-                found = kernel.frames_in(beside)[0] if os.path.exists(beside) else []
+                found = kernel.fitting(bytes_of(beside))[0] if os.path.exists(beside) else []
                 yield file, bytes_of(file), found + frames_of(random.Random(file))
 
 

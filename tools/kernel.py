@@ -30,7 +30,6 @@ used: it needs Linux on x86-64 and root.
 from __future__ import annotations
 
 import argparse
-import os
 import shutil
 import struct
 import subprocess
@@ -205,16 +204,21 @@ def differences(kernel: Kernel, ran: Ran, frames: list[Frame]) -> tuple[list[str
 # ---- the command
 
 
+def fitting(stream: bytes) -> tuple[list[Frame], int]:
+    """The frames of a stream that fit the kernel's test run, and how many are left out."""
+    found = records(stream)
+    fit = [it for it in found if LEAST <= len(it[1]) <= MOST]
+    return fit, len(found) - len(fit)
+
+
 def frames_in(path: str, xdpvm: str, folder: str) -> tuple[list[Frame], int]:
-    """The frames of a stream, a capture or a text that fit the kernel's test run, and how many were left out."""
+    """The same of a stream, a capture or a text of frames."""
     begin, made = sources.begin_of(path), path
     if begin not in STREAMS:
         made = f"{folder}/made.frames"
         Conversion(xdpvm, "frames", []).made(begin, path, made, path)
     with open(made, "rb") as file:
-        found = records(file.read())
-    fit = [it for it in found if LEAST <= len(it[1]) <= MOST]
-    return fit, len(found) - len(fit)
+        return fitting(file.read())
 
 
 def arguments() -> argparse.Namespace:
