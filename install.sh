@@ -6,7 +6,7 @@
 # where one ended; what the gate (.ci/run) has proved at this commit on this machine is taken as it is. With PROGRAM, SURVEY for xdpvm_survey and FILTER for xdpvm_filter, it takes these, as `rt ci` leaves them in crates/*/out, and
 # proves nothing.
 # FOLDER gets the programs, and links to the tools, each as xdpvm-NAME for tools/NAME.py: xdpvm-xdp runs a filter of any form on
-# a capture; xdpvm-frames, xdpvm-image, xdpvm-table and xdpvm-compile convert captures, objects, proof tables and C; xdpvm-expression
+# a capture; xdpvm-frames, xdpvm-image, xdpvm-table and xdpvm-compile convert texts of frames, objects, proof tables and C; xdpvm-expression
 # (filter.py) makes a filter of tcpdump's words; xdpvm-survey judges many filters; xdpvm-kernel compares with Linux; xdpvm-run
 # runs the examples. What they need is in share/xdpvm with the
 # pages and the examples. share/, include/ and lib/ are beside a FOLDER that is called bin, and in another one.

@@ -17,7 +17,9 @@ refused() {
     fi
 }
 
-xdpvm-frames "$top/examples/firewall.pcapng" firewall.frames
+xdpvm_filter convert "$top/examples/firewall.pcapng" firewall.frames
+xdpvm-frames "$top/examples/filters/mix.txt" mix.frames
+xdpvm_filter show mix.frames | grep -c "^frame " > count
 xdpvm run "$top/examples/firewall.image" firewall.frames sent.frames > report
 cmp report "$top/examples/firewall.report"
 xdpvm-run run "$top/examples/firewall.text" "$top/examples/firewall.pcapng" sent.pcapng > report
@@ -25,7 +27,7 @@ cmp report "$top/examples/firewall.report"
 xdpvm-xdp share/xdpvm/examples/firewall.text share/xdpvm/examples/firewall.pcapng passed.pcapng > counts
 grep -q '^8 frames: 4 PASS, 4 DROP$' counts
 cmp passed.pcapng sent.pcapng
-xdpvm-frames sent.pcapng again.frames
+xdpvm_filter convert sent.pcapng again.frames
 cmp again.frames sent.frames
 
 # an output that is an input, words of help, what is not installed
