@@ -10,7 +10,6 @@ use Rattle.commands.specs.declared.texts.KeptText.{KeptText}
 use Rattle.commands.specs.Texts.{ShowsError}
 use Rattle.walks.specs.declared.refusals.Refusal.{Refusal}
 use Rattle.rechecking.specs.declared.errors.TableError.{TableError}
-use Rattle.listeners.specs.Reasons.{IsReason}
 use Rattle.explanations.specs.Entries.{IsEntryReason}
 use Rattle.words.specs.declared.tasks.WordsError.{WordsError}
 use Rattle.words.specs.Requests.{TaskRequest, RunFiles, TableFiles, Run, Trace, Prove}
@@ -24,6 +23,7 @@ use Rattle.messages.specs.declared.rejections.Rejection.TheVariants as rejection
 use Rattle.messages.specs.declared.forms.FileForm.{FileForm}
 use Rattle.messages.specs.Faults.{fault_lines}
 use Rattle.messages.specs.Messages.{rejection_text, code_line}
+use Rattle.messages.specs.Reasons.{IsReason}
 use Rattle.commands.specs.Statuses.{IsWordsEnd, message_of, status_of}
 use Rattle.commands.specs.Saying.{AppendsPart, LacksMemory}
 use Rattle.commands.specs.Known.{Plainly, told_of}

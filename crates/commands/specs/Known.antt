@@ -13,11 +13,11 @@ use Rattle.commands.specs.declared.endings.Ending.{Ending}
 use Rattle.commands.specs.Statuses.{message_of}
 use Rattle.isa_model.specs.declared.instructions.Insn.{Insn}
 use Rattle.isa_model.specs.{Program}
-use Rattle.listeners.specs.Reasons.{IsReason}
 use Rattle.explanations.specs.declared.entries.EntryReason.{EntryReason}
 use Rattle.explanations.specs.Entries.{IsEntryReason}
 use Rattle.messages.specs.declared.rejections.Rejection.TheVariants as rejection
 use Rattle.messages.specs.Messages.{code_line}
+use Rattle.messages.specs.Reasons.{IsReason}
 
 -- the lines at the end of the message after a task that read this program text: if it was refused,
 -- its line with a caret, as far as it was kept, and a hint

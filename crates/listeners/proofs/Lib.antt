@@ -2,4 +2,3 @@ pub mod Stops
 pub mod Turning
 pub mod Following
 pub mod ListingLaws
-pub mod ReasonLaws

@@ -6,7 +6,6 @@ use Rattle.isa_model.specs.Code.Instructions.{Program, fetch}
 use Rattle.image.specs.declared.errors.ImageError.{ImageError}
 use Rattle.walks.specs.declared.refusals.Refusal.{Refusal}
 use Rattle.walks.specs.declared.refusals.Refusal.TheVariants as program_refusal
-use Rattle.listeners.specs.Reasons.{IsReason}
 use Rattle.assembler.specs.declared.errors.AsmError.{AsmError}
 use Rattle.transfer.specs.Messages as transfer
 use Rattle.table_entries.specs.declared.refusals.TableRefusal.TheVariants as table_refusal
@@ -17,6 +16,7 @@ use Rattle.explanations.specs.Entries.{IsEntryReason}
 use Rattle.messages.specs.declared.rejections.Rejection.TheVariants as rejection
 use Rattle.messages.specs.Lines.{image_line, verdict_line, table_line, text_line}
 use Rattle.messages.specs.Messages.{entry_position, insn_position, rejection_text}
+use Rattle.messages.specs.Reasons.{IsReason}
 
 -- the message for bytes that are no image; it does not say what they look like
 abbrev pub image_text : ImageError → List ℕ

@@ -2,15 +2,15 @@
 
 ghost use Rattle.std.specs.Prelude.{◌≡◌, ◌++◌, false, None, IfSome};
 ghost use Rattle.std.specs.String.{string_bytes};
-ghost use Rattle.listeners.specs.Reasons.{IsReason};
 ghost use Rattle.messages.specs.Messages.{rejection_text};
+ghost use Rattle.messages.specs.Reasons.{IsReason};
 ghost use Rattle.messages.specs.Texts.{image_text, source_text, program_front, IsProgramText};
 
 use crate::lines::{image_line, text_line, verdict_line};
+use crate::reasons::reason;
 use crate::rejections::Rejection;
 use assembler::AsmError;
 use image::{Image, ImageError};
-use listeners::reason;
 use std::alloc::Global;
 use walks::Refusal;
 

@@ -14,8 +14,8 @@ use Rattle.walks.specs.declared.explained.Explanation.{Explanation}
 use Rattle.walks.specs.Explained.{Explains}
 use Rattle.explanations.specs.Flows.{flow_line}
 use Rattle.explanations.specs.States.{lines_of}
-use Rattle.listeners.specs.Reasons.{IsReason}
-use Rattle.listeners.specs.Reasons.IsReason.{OfState, OfFlow}
+use Rattle.messages.specs.Reasons.{IsReason}
+use Rattle.messages.specs.Reasons.IsReason.{OfState, OfFlow}
 
 -- the text of a refusal of control flow, unless memory ran out
 pub of_flow : (p : Program) (e : Refusal) (slot : ℕ) (error : FlowError) (i : Insn)

@@ -3,8 +3,8 @@ use Rattle.std.specs.Prelude.{IfOk}
 use Rattle.std.specs.String.{string_bytes}
 use Rattle.walks.specs.declared.explained.Explanation.{Explanation}
 use Rattle.explanations.specs.States.{lines_of}
-use Rattle.listeners.proofs.ReasonLaws.{of_flow, of_state}
-use Rattle.listeners.proofs.reasons.reason.Goals as goal
+use Rattle.messages.proofs.ReasonLaws.{of_flow, of_state}
+use Rattle.messages.proofs.reasons.reason.Goals as goal
 
 pub returns-in-Flow : goal.returns-in-Flow
 returns-in-Flow c =

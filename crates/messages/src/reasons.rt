@@ -2,12 +2,12 @@
 
 ghost use Rattle.std.specs.Prelude.{IfSome};
 ghost use Rattle.std.specs.String.{string_bytes};
-ghost use Rattle.listeners.specs.Reasons.{IsReason};
+ghost use Rattle.messages.specs.Reasons.{IsReason};
 
-use crate::explaining::explain;
 use explanations::{flow_line, lines_of};
 use image::Image;
 use isa_model::MAX_SLOTS;
+use listeners::explain;
 use std::alloc::Global;
 use walks::Refusal;
 
