@@ -8,16 +8,15 @@ use crate::looks::{Look, look_at};
 use crate::pages::show_page;
 use crate::steps::print_steps;
 use crate::surveying::survey;
-use crate::{Asked, read_words};
 use exact_io::PromptWriter;
 use std::io::Write;
 use std::rt::{Clock, Files};
-use words::WordsError;
+use words::{SurveyAsked, WordsError, read_survey_words};
 
 /// Does what is asked for, and returns the status.
 fn serve<R: Files + Clock + AllocGlobal + Clone + Drop, W1: Write, W2: Write>(
     rt: &R,
-    asked: &Asked<'_>,
+    asked: &SurveyAsked<'_>,
     has_progress: bool,
     out: &mut W1,
     err: &mut W2,
@@ -25,13 +24,15 @@ fn serve<R: Files + Clock + AllocGlobal + Clone + Drop, W1: Write, W2: Write>(
     ensures { IfOk result (λ status. status ≤ 5) }
 {
     match asked {
-        Asked::Survey(wanted) => survey(rt, wanted, has_progress, out, err),
-        Asked::Log(path, part) => look_at(rt, *path, Look::Log(*part), out, err),
-        Asked::Page(path) => show_page(rt, *path, out, err),
-        Asked::Listing(path) => look_at(rt, *path, Look::Listing, out, err),
-        Asked::Graph(path) => look_at(rt, *path, Look::Graph, out, err),
-        Asked::Hits(run, format) => print_hits(rt, *run, *format, out, err),
-        Asked::Steps(run, frame, is_json) => print_steps(rt, *run, *frame, *is_json, out, err),
+        SurveyAsked::Survey(wanted) => survey(rt, wanted, has_progress, out, err),
+        SurveyAsked::Log(path, part) => look_at(rt, *path, Look::Log(*part), out, err),
+        SurveyAsked::Page(path) => show_page(rt, *path, out, err),
+        SurveyAsked::Listing(path) => look_at(rt, *path, Look::Listing, out, err),
+        SurveyAsked::Graph(path) => look_at(rt, *path, Look::Graph, out, err),
+        SurveyAsked::Hits(run, format) => print_hits(rt, *run, *format, out, err),
+        SurveyAsked::Steps(run, frame, is_json) => print_steps(
+            rt, *run, *frame, *is_json, out, err,
+        ),
     }
 }
 
@@ -65,7 +66,7 @@ pub fn execute<R: Files + Clock + AllocGlobal + Clone + Drop, W1: Write + Drop, 
 ) -> u8
     ensures { result ≤ 5 }
 {
-    let asked = match read_words(rt.alloc(), words) {
+    let asked = match read_survey_words(rt.alloc(), words) {
         Ok(asked) => asked,
         Err(error) => return SurveyError::of_words(error).tell(err),
     };

@@ -5,7 +5,6 @@ ghost use Rattle.std.specs.Prelude.{◌≤◌, IfOk};
 use crate::begun::{NotBegun, judged, load, maps_begun, parsed_again};
 use crate::failures::SurveyError;
 use crate::streams::{open_stream, say_faulted};
-use crate::{Format, RunAsked};
 use coverage::{BoundVerdict, StreamHits, hits_csv, hits_json, hits_text};
 use exact_io::write_bytes;
 use image::Image;
@@ -14,6 +13,7 @@ use std::alloc::{AllocError, Global};
 use std::io;
 use std::io::Write;
 use std::rt::{Clock, Files};
+use words::{Format, RunAsked};
 
 /// What was counted of an image.
 #[derive(Drop)]

@@ -2,7 +2,6 @@
 
 ghost use Rattle.std.specs.Prelude.{◌≤◌, IfOk};
 
-use crate::LogPart;
 use crate::failures::{SurveyError, no_slot_line};
 use crate::files::read_image;
 use control_flow::FlowError;
@@ -15,6 +14,7 @@ use std::io;
 use std::io::Write;
 use std::rt::Files;
 use surveys::{LookError, write_graph, write_listing, write_log};
+use words::LogPart;
 
 /// Says what is shown of an image.
 #[derive(Clone, Copy, Drop)]

@@ -2,7 +2,6 @@
 
 ghost use Rattle.std.specs.Prelude.{◌≤◌, IfOk};
 
-use crate::RunAsked;
 use crate::begun::{NotBegun, judged, load, maps_begun, parsed_again};
 use crate::failures::SurveyError;
 use crate::streams::{open_stream, say_faulted};
@@ -16,6 +15,7 @@ use std::alloc::{AllocError, Global};
 use std::io;
 use std::io::Write;
 use std::rt::{Clock, Files};
+use words::RunAsked;
 
 /// What was found of a frame, and the version of the program.
 #[derive(Drop)]

@@ -2,7 +2,6 @@
 
 ghost use Rattle.std.specs.Prelude.{◌≤◌, IfOk};
 
-use crate::Survey;
 use crate::failures::{SurveyError, empty_line, unnamed_line};
 use crate::files::read_image;
 use crate::folders::{FolderFailure, NamedPath, add_folder, add_images, images};
@@ -16,6 +15,7 @@ use std::io::{ErrorKind, Write};
 use std::rt::{Clock, Files};
 use survey_rows::{Counts, Judgement, Row, Summary};
 use surveys::{Judged, judge};
+use words::Survey;
 
 /// Says on standard error why a file cannot be read, and returns how its image is judged.
 fn judged_unread<W: Write>(path: &str, kind: ErrorKind, err: &mut W) -> Judgement {

@@ -2,7 +2,6 @@
 
 use crate::failures::SurveyError;
 use crate::folders::NamedPath;
-use crate::{Format, Survey};
 use exact_io::write_bytes;
 use std::alloc::{AllocError, Global};
 use std::fs;
@@ -13,6 +12,7 @@ use survey_rows::{
     change_heads, changes_since, csv_text, grid_of, grid_text, json_text, shown, shown_width, sort,
     widen_heads,
 };
+use words::{Format, Survey};
 
 /// Of how many images differences are written at a time.
 const PART: usize = 1024;

@@ -9,6 +9,11 @@ mod filter_line;
 mod filter_tasks;
 mod given;
 mod shown;
+mod survey_asked;
+mod survey_line;
+mod survey_reading;
+mod survey_run_line;
+mod survey_run_reading;
 mod tasks;
 
 pub use asked::read_words;
@@ -18,4 +23,6 @@ pub use filter_tasks::{
 };
 pub use given::given_words;
 pub use shown::shown_lines;
+pub use survey_asked::{Format, LogPart, RunAsked, Survey, SurveyAsked};
+pub use survey_reading::read_survey_words;
 pub use tasks::{AssemblyPaths, NOT_UNICODE, RunPaths, StepLimit, TablePaths, Task, WordsError};

@@ -1,6 +1,6 @@
-//! The command line of the program, for clap.
+//! The command line of xdpvm_survey, for clap.
 
-use crate::run_lines::{hits, steps};
+use super::survey_run_line::{hits, steps};
 use clap::{Arg, ArgAction, Command};
 use std::alloc::{AllocError, Global};
 

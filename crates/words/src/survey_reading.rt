@@ -1,13 +1,14 @@
-//! What the arguments on the command line ask for.
+//! What the arguments of xdpvm_survey ask for.
 
-use crate::asked::{Asked, Format, LogPart, Survey};
-use crate::command_line::program;
-use crate::run_reading::{hits_in, steps_in};
+use super::shown::shown_lines;
+use super::survey_asked::{Format, LogPart, Survey, SurveyAsked};
+use super::survey_line::program;
+use super::survey_run_reading::{hits_in, steps_in};
+use super::tasks::WordsError;
 use clap::ArgMatches;
 use clap::error::ErrorKind;
 use std::alloc::{AllocError, Global};
 use survey_rows::Column;
-use words::{WordsError, shown_lines};
 
 // The messages for arguments that clap accepts and the program does not.
 const NO_FORMAT: &str = "error: the value of --format is not table, csv or json\n";
@@ -111,14 +112,14 @@ fn log_in<'a>(
     alloc: Global,
     image: &'a str,
     matches: &ArgMatches<'a>,
-) -> Result<Asked<'a>, WordsError> {
+) -> Result<SurveyAsked<'a>, WordsError> {
     if !matches.get_flag("html") {
-        return Ok(Asked::Log(image, part_in(alloc, matches)?));
+        return Ok(SurveyAsked::Log(image, part_in(alloc, matches)?));
     }
     if matches.get_str("slot").is_some() || matches.get_str("states").is_some() {
         return Err(wrong(alloc, NO_PAGE));
     }
-    Ok(Asked::Page(image))
+    Ok(SurveyAsked::Page(image))
 }
 
 // The most bytes of a table; they are said of tables that are asked for.
@@ -156,7 +157,7 @@ fn look_in<'a>(
     alloc: Global,
     name: &str,
     matches: &ArgMatches<'a>,
-) -> Result<Asked<'a>, WordsError> {
+) -> Result<SurveyAsked<'a>, WordsError> {
     let Some(image) = matches.get_str("image") else {
         return Err(WordsError::Wrong(String::new(alloc)));
     };
@@ -164,8 +165,8 @@ fn look_in<'a>(
         "hits" => hits_in(alloc, matches),
         "steps" => steps_in(alloc, matches),
         "log" => log_in(alloc, image, matches),
-        _ if matches.get_flag("dot") => Ok(Asked::Graph(image)),
-        _ => Ok(Asked::Listing(image)),
+        _ if matches.get_flag("dot") => Ok(SurveyAsked::Graph(image)),
+        _ => Ok(SurveyAsked::Listing(image)),
     }
 }
 
@@ -187,13 +188,16 @@ fn words_error_of(alloc: Global, error: &clap::Error) -> WordsError {
 }
 
 /// Returns what the arguments ask for. The first word is the program's name.
-pub fn read_words<'a>(alloc: Global, words: &'a [String]) -> Result<Asked<'a>, WordsError> {
+pub fn read_survey_words<'a>(
+    alloc: Global,
+    words: &'a [String],
+) -> Result<SurveyAsked<'a>, WordsError> {
     let matches = match program(alloc)?.try_get_matches_from(words) {
         Ok(matches) => matches,
         Err(error) => return Err(words_error_of(alloc, &error)),
     };
     match matches.subcommand() {
         Some((name, given)) => look_in(alloc, name, given),
-        None => Ok(Asked::Survey(survey_in(alloc, &matches)?)),
+        None => Ok(SurveyAsked::Survey(survey_in(alloc, &matches)?)),
     }
 }

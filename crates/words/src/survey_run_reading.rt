@@ -1,11 +1,11 @@
-//! What the commands that run an image on a frame stream ask for.
+//! What the commands of xdpvm_survey that run an image on a frame stream ask for.
 
-use crate::asked::{Asked, Format, RunAsked};
-use crate::reading::{number_in, wrong};
+use super::survey_asked::{Format, RunAsked, SurveyAsked};
+use super::survey_reading::{number_in, wrong};
+use super::tasks::{StepLimit, WordsError};
 use clap::ArgMatches;
 use isa_model::MAX_STEPS;
 use std::alloc::Global;
-use words::{StepLimit, WordsError};
 
 const NO_FORMAT: &str = "error: the value of --format is not text, csv or json\n";
 
@@ -75,14 +75,17 @@ fn run_in<'a>(alloc: Global, matches: &ArgMatches<'a>) -> Result<RunAsked<'a>, W
 }
 
 /// The counts that are asked for.
-pub fn hits_in<'a>(alloc: Global, matches: &ArgMatches<'a>) -> Result<Asked<'a>, WordsError> {
+pub fn hits_in<'a>(alloc: Global, matches: &ArgMatches<'a>) -> Result<SurveyAsked<'a>, WordsError> {
     let asked = run_in(alloc, matches)?;
-    Ok(Asked::Hits(asked, format_in(alloc, matches)?))
+    Ok(SurveyAsked::Hits(asked, format_in(alloc, matches)?))
 }
 
 /// The steps that are asked for.
-pub fn steps_in<'a>(alloc: Global, matches: &ArgMatches<'a>) -> Result<Asked<'a>, WordsError> {
+pub fn steps_in<'a>(
+    alloc: Global,
+    matches: &ArgMatches<'a>,
+) -> Result<SurveyAsked<'a>, WordsError> {
     let asked = run_in(alloc, matches)?;
     let frame = frame_in(alloc, matches)?;
-    Ok(Asked::Steps(asked, frame, matches.get_flag("json")))
+    Ok(SurveyAsked::Steps(asked, frame, matches.get_flag("json")))
 }

@@ -1,6 +1,6 @@
-//! The commands that run an image on a frame stream, for clap.
+//! The commands of xdpvm_survey that run an image on a frame stream, for clap.
 
-use crate::command_line::{ValueChoice, flag, look, option};
+use super::survey_line::{ValueChoice, flag, look, option};
 use clap::{Arg, ArgAction, Command};
 use std::alloc::{AllocError, Global};
 

@@ -1,8 +1,8 @@
-//! What the program can be asked for: a survey, or a log, a listing or a graph of one image, or what
+//! What xdpvm_survey can be asked for: a survey, or a log, a listing or a graph of one image, or what
 //! its runs on packet frames did.
 
+use super::tasks::StepLimit;
 use survey_rows::Column;
-use words::StepLimit;
 
 /// Says how rows are written.
 #[derive(Clone, Copy, PartialEq, Eq, Debug, Drop)]
@@ -50,7 +50,7 @@ pub struct RunAsked<'a> {
 
 /// Says what is asked for.
 #[derive(Drop)]
-pub enum Asked<'a> {
+pub enum SurveyAsked<'a> {
     Survey(Survey<'a>),
     /// The instructions that the search explores of an image, or a part of them.
     Log(&'a str, LogPart),
