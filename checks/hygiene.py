@@ -9,6 +9,8 @@ twice      statements that stand word for word in two files of proofs/, besides 
 answers    functions with more than 150 lines of answers
 arguments  statements of proofs/ with more than 20 arguments and premises
 blanks     runs of five `_` or more in proofs/
+copies     private functions whose only clause is that the result is what the definition of their own name says: it says the body
+           again, and is worth its lines only where it is the standard's, or where the contract of a caller rests on it
 
 --each KIND prints each of a kind with its place. The exit status is 1 if there are more of a kind than LIMITS says. In the gate.
 """
@@ -21,13 +23,15 @@ from typing import NamedTuple
 
 from common import TOP, command_line
 
-LIMITS = {"unnamed": 0, "twice": 7, "answers": 6, "arguments": 6, "blanks": 159}
+LIMITS = {"unnamed": 0, "twice": 7, "answers": 6, "arguments": 6, "blanks": 159, "copies": 350}
 MOST_LINES, MOST_ARGUMENTS = 150, 20
 CRATES = Path(TOP, "crates")
 WORD = re.compile(r"[^\s(){},;:\"\[\].|]+")
 HEAD = re.compile(r"(?:pub )?([^\W\d][^\s:(){}.]*) :(?: |$)")
 BINDER = re.compile(r"[({]([^():{}]+) :")
 BLANKS = re.compile(r"(?:(?<![^\s(])_\s+){4,}_(?![^\s)])")
+PRIVATE = re.compile(r"^( *)fn (\w+)", re.MULTILINE)
+CLAUSE = re.compile(r"\bensures(?: \w+)? \{")
 NO_LEMMA = re.compile(r"Examples\.antt:|/The[A-Z]\w*/")  # computed examples, and what a trait asks for
 
 
@@ -86,6 +90,17 @@ def unnamed(every: list[Lemma]) -> list[str]:
     return [f"{it.place}: {it.name}" for it in every if seen[it.name] <= own[it.name] and not NO_LEMMA.search(it.place)]
 
 
+def copies() -> Iterator[str]:
+    """The private functions whose one clause names the definition that has their name, each with its place."""
+    for path in files(".rt"):
+        text = path.read_text(encoding="utf-8")
+        for found in PRIVATE.finditer(text):
+            head = re.split(rf"\n{found[1]}[^\s)]", text[found.start() :], maxsplit=1)[0]
+            same = re.search(rf"\bresult(?:\.now)? ≡ (?:spec\.)?{found[2]}\b", head)
+            if same and len(CLAUSE.findall(head)) == 1:
+                yield f"{path.relative_to(CRATES)}:{text.count(chr(10), 0, found.start()) + 1}: {found[2]}"
+
+
 def counted() -> dict[str, list[str]]:
     """What there is of each kind, each with its place."""
     every, texts, answers = [], collections.defaultdict(list), []
@@ -108,7 +123,14 @@ def counted() -> dict[str, list[str]]:
         f"{it.place}: {it.name}" for same in texts.values() for it in same[1:] if len({x.place.split(":")[0] for x in same}) > 1
     ]
     many = [f"{it.place}: {it.name}: {arguments(it.type)}" for it in every if arguments(it.type) > MOST_ARGUMENTS]
-    return {"unnamed": unnamed(every), "twice": twice, "answers": answers, "arguments": many, "blanks": blanks}
+    return {
+        "unnamed": unnamed(every),
+        "twice": twice,
+        "answers": answers,
+        "arguments": many,
+        "blanks": blanks,
+        "copies": [*copies()],
+    }
 
 
 def main() -> int:

@@ -14,8 +14,8 @@ use Rattle.rechecking.specs.declared.errors.TableError.{TableError}
 use Rattle.rechecking.specs.Tables.{EntryAt}
 use Rattle.explanations.specs.declared.entries.EntryReason.{EntryReason}
 use Rattle.explanations.specs.declared.mismatches.Mismatch.{Mismatch}
-use Rattle.explanations.specs.declared.mismatches.Mismatch.TheVariants.{Missing, NotSmaller, Slot, Frames, Returns, Register, Stack}
-use Rattle.explanations.specs.Mismatches.{Differs, IsInBoth, IsMismatch, difference_lines}
+use Rattle.explanations.specs.declared.mismatches.Mismatch.TheVariants.{Missing, NotSmaller}
+use Rattle.explanations.specs.Mismatches.{Differs, IsInBoth, IsThere, IsMismatch, difference_lines}
 use Rattle.explanations.specs.Entries.{states_of, ways_in, count_line, TellsNamed, TellsSuccessors, IsReasonAt, IsEntryReason}
 
 -- ---- words
@@ -33,6 +33,18 @@ differs_by r nth index a b c x y z e f g h =
 -- ---- entries that are named
 
 -- an entry that is there, with a smaller number, differs so
+there_differs : (t : EntryAt) (number index : ℕ) (e a : State) (entry : Entry) (m : Mismatch)
+    → t index ≡ Some entry → entry.state ≡ e → entry.number < number
+    → Differs e a m × IsInBoth e a m → IsThere t number index e a m
+there_differs t number index e a entry m there same less h = record {
+  entry = entry;
+  there = there;
+  state_is = same;
+  smaller = less;
+  differs = h.0;
+  inside = h.1;
+}
+
 pub mismatches_of : (t : EntryAt) (number index : ℕ) (e a : State) (entry : Entry)
     (r : Option Mismatch) → t index ≡ Some entry → entry.state ≡ e → entry.number < number
     → IfSome r (λ m. Differs e a m × IsInBoth e a m)
@@ -40,51 +52,8 @@ pub mismatches_of : (t : EntryAt) (number index : ℕ) (e a : State) (entry : En
 mismatches_of t number index e a entry None there same less h = tt
 mismatches_of t number index e a entry (Some Missing) there same less h = absurd h.0
 mismatches_of t number index e a entry (Some (NotSmaller other)) there same less h = absurd h.0
-mismatches_of t number index e a entry (Some Slot) there same less h =
-    record {
-      entry = entry;
-      there = there;
-      state_is = same;
-      smaller = less;
-      differs = h.0;
-      inside = h.1;
-    }
-mismatches_of t number index e a entry (Some Frames) there same less h =
-    record {
-      entry = entry;
-      there = there;
-      state_is = same;
-      smaller = less;
-      differs = h.0;
-      inside = h.1;
-    }
-mismatches_of t number index e a entry (Some (Returns frame)) there same less h =
-    record {
-      entry = entry;
-      there = there;
-      state_is = same;
-      smaller = less;
-      differs = h.0;
-      inside = h.1;
-    }
-mismatches_of t number index e a entry (Some (Register frame register)) there same less h =
-    record {
-      entry = entry;
-      there = there;
-      state_is = same;
-      smaller = less;
-      differs = h.0;
-      inside = h.1;
-    }
-mismatches_of t number index e a entry (Some (Stack frame slot)) there same less h =
-    record {
-      entry = entry;
-      there = there;
-      state_is = same;
-      smaller = less;
-      differs = h.0;
-      inside = h.1;
-    }
+mismatches_of t number index e a entry (Some m) there same less h =
+    there_differs t number index e a entry m there same less h
 
 -- ---- successors
 

@@ -72,13 +72,17 @@ slots_done count n old new whole h = record {
 
 -- ---- the loop through call frames
 
+-- of this frame the new one has what is in the front
+abbrev IsPart : (last registers slots j : ℕ) → (old new : AbstractFrame) → Type 0
+IsPart last registers slots j old new =
+    IsFrontOf (count_in last registers 10 j) (count_in last slots frame_slots j) old new
+
 -- the frames of callers before index i are done, and the rest of the state is as before
 pub record FrontTo (e : State) (last registers slots i : ℕ) (front : State) : Type 0 where
   pub slot_is : front.slot ≡ e.slot
   pub as_many : length front.callers.items ≡ length e.callers.items
   pub innermost : front.innermost ≡ e.innermost
-  pub done : (j : ℕ) → j < i
-      → IsFrontOf (count_in last registers 10 j) (count_in last slots frame_slots j)
+  pub done : (j : ℕ) → j < i → IsPart last registers slots j
       (get_or e.callers.items j no_frame) (get_or front.callers.items j no_frame)
   pub rest : (j : ℕ) → i ≤ j
       → get_or front.callers.items j no_frame ≡ get_or e.callers.items j no_frame
@@ -94,8 +98,7 @@ front_begun e last registers slots = record {
 
 pub front_more : (e front : State) (last registers slots i : ℕ) (d f : AbstractFrame)
     → i < length e.callers.items
-    → IsFrontOf (count_in last registers 10 i) (count_in last slots frame_slots i)
-    (get_or front.callers.items i d) f
+    → IsPart last registers slots i (get_or front.callers.items i d) f
     → FrontTo e last registers slots i front
     → FrontTo e last registers slots (i + 1)
     (record front { callers = record { items = set front.callers.items i f } })
@@ -111,18 +114,11 @@ front_more e front last registers slots i d f below made h =
             ∙ get_or-set_same front.callers.items i f no_frame inside in
             let was : get_or front.callers.items i d ≡ get_or e.callers.items i no_frame =
             get_or_default front.callers.items i d no_frame inside ∙ h.rest i (omega arith) in
-            let at_i : IsFrontOf (count_in last registers 10 i) (count_in last slots frame_slots i)
-            (get_or e.callers.items i no_frame) f =
-            subst (λ x. IsFrontOf (count_in last registers 10 i)
-            (count_in last slots frame_slots i) x f) was made in
-            subst (λ x. IsFrontOf (count_in last registers 10 j)
-            (count_in last slots frame_slots j) (get_or e.callers.items j no_frame) x) (sym own)
-            (subst (λ (n : ℕ). IsFrontOf (count_in last registers 10 n)
-            (count_in last slots frame_slots n) (get_or e.callers.items n no_frame) f) (sym same)
-            at_i)
+            subst (λ x. IsPart last registers slots j (get_or e.callers.items j no_frame) x) (sym own)
+            (subst (λ (n : ℕ). IsPart last registers slots n (get_or e.callers.items n no_frame) f)
+            (sym same) (subst (λ x. IsPart last registers slots i x f) was made))
         | inr apart ↦
-            subst (λ x. IsFrontOf (count_in last registers 10 j)
-            (count_in last slots frame_slots j) (get_or e.callers.items j no_frame) x)
+            subst (λ x. IsPart last registers slots j (get_or e.callers.items j no_frame) x)
             (sym (get_or-set_other front.callers.items i j f no_frame apart))
             (h.done j (omega arith))
       ];
@@ -132,9 +128,7 @@ front_more e front last registers slots i d f below made h =
     }
 
 pub front_done : (e front : State) (last registers slots i : ℕ) (f : AbstractFrame)
-    → i ≡ length e.callers.items
-    → IsFrontOf (count_in last registers 10 i) (count_in last slots frame_slots i)
-    front.innermost f
+    → i ≡ length e.callers.items → IsPart last registers slots i front.innermost f
     → FrontTo e last registers slots i front
     → IsFront e last registers slots (record front { innermost = f })
 front_done e front last registers slots i f whole made h =
@@ -144,11 +138,9 @@ front_done e front last registers slots i f whole made h =
       frames = λ j below. elim (cases_lt j i) [
         | inl low ↦
             let many = h.as_many in
-            subst (λ x. IsFrontOf (count_in last registers 10 j)
-            (count_in last slots frame_slots j) x (abstract_frame_at after j))
+            subst (λ x. IsPart last registers slots j x (abstract_frame_at after j))
             (sym (abstract_frame_at-caller e j (omega arith)))
-            (subst (λ x. IsFrontOf (count_in last registers 10 j)
-            (count_in last slots frame_slots j) (get_or e.callers.items j no_frame) x)
+            (subst (λ x. IsPart last registers slots j (get_or e.callers.items j no_frame) x)
             (sym (abstract_frame_at-caller after j (omega arith)))
             (h.done j low))
         | inr high ↦
@@ -160,12 +152,9 @@ front_done e front last registers slots i f whole made h =
             let new : abstract_frame_at after j ≡ f =
             ap (abstract_frame_at after) there ∙ abstract_frame_at-innermost after in
             let same : i ≡ j = omega arith in
-            subst (λ x. IsFrontOf (count_in last registers 10 j)
-            (count_in last slots frame_slots j) x (abstract_frame_at after j)) (sym old)
-            (subst (λ x. IsFrontOf (count_in last registers 10 j)
-            (count_in last slots frame_slots j) front.innermost x) (sym new)
-            (subst (λ (n : ℕ). IsFrontOf (count_in last registers 10 n)
-            (count_in last slots frame_slots n) front.innermost f) same made))
+            subst (λ x. IsPart last registers slots j x (abstract_frame_at after j)) (sym old)
+            (subst (λ x. IsPart last registers slots j front.innermost x) (sym new)
+            (subst (λ (n : ℕ). IsPart last registers slots n front.innermost f) same made))
       ];
     }
 
@@ -189,8 +178,7 @@ pub front_turn : (e front : State) (last registers slots i m n : ℕ) (ds : List
 front_turn e front last registers slots i m n ds d f same below few some made h =
     let items = front.callers.items in
     let there : get_or ds i d ≡ get_or items i d = ap (λ xs. get_or xs i d) same in
-    let at : IsFrontOf (count_in last registers 10 i) (count_in last slots frame_slots i)
-    (get_or items i d) f =
+    let at : IsPart last registers slots i (get_or items i d) f =
     subst (λ (x : ℕ). IsFrontOf x (count_in last slots frame_slots i) (get_or items i d) f) few
     (subst (λ (x : ℕ). IsFrontOf m x (get_or items i d) f) some
     (subst (λ x. IsFrontOf m n x f) there made)) in

@@ -1,4 +1,5 @@
--- Texts of several lists, line by line; and the first stack slot with a byte that is not written.
+-- Texts of several lists, line by line; what a loop has found at its end; and the first stack slot
+-- with a byte that is not written.
 use Rattle.std.proofs.Common.{◌≡◌, ◌∙◌, ℕ, suc, ◌+◌, List, [], ◌∷◌, ◌++◌, ap, refl, sym}
 use Rattle.std.proofs.lemmas.Bool.{eq-eqb}
 use Rattle.std.proofs.lemmas.Grind.{flat_map-append}
@@ -23,6 +24,12 @@ flat_map_four f a b c d all is =
     sym (append_assoc (flat_map f a) (flat_map f b) (flat_map f c ++ flat_map f d))
     ∙ (sym (append_assoc (flat_map f a ++ flat_map f b) (flat_map f c) (flat_map f d))
     ∙ (sym four ∙ ap (flat_map f) is))
+
+-- ---- loops
+
+-- what is so after n turns, the last of them the one with the number m
+pub at_end : {A : Type 0} (f : ℕ → A) (x : A) (n m : ℕ) → n ≡ m → x ≡ f n → x ≡ f m
+at_end f x n m last is = is ∙ ap f last
 
 -- ---- stack slots
 

@@ -1,6 +1,7 @@
 -- What a refused instruction needs, or what helps.
-use Rattle.std.specs.Prelude.{ℕ, ◌==◌, ℤ, pos, int_lt, ◌+ℤ◌, ◌-ℤ◌, List, [], ◌++◌, length, slice_get, Option, Some, None, Bool, true, false, ◌&&◌, not, codes, decimal, if◌then◌else◌}
+use Rattle.std.specs.Prelude.{ℕ, ◌==◌, ℤ, pos, int_lt, ◌+ℤ◌, ◌-ℤ◌, List, [], ◌++◌, length, slice_get, Bool, true, false, ◌&&◌, not, codes, decimal, if◌then◌else◌}
 use Rattle.std.specs.Fmt.{signed_decimal}
+use Rattle.std.specs.Option.{option_map_or}
 use Rattle.isa_model.specs.declared.instructions.Insn.{Insn}
 use Rattle.isa_model.specs.declared.instructions.Insn.TheVariants.{CallHelper}
 use Rattle.isa_model.specs.declared.instructions.Place.{Place}
@@ -42,12 +43,8 @@ abbrev pub behind_words : ℕ → List ℕ
 behind_words identity = if identity == 0 then codes "" else codes " after the part"
 
 -- how large the values of a map are
-abbrev pub size_in : Option MapDef → ℕ
-size_in None = 0
-size_in (Some row) = row.value_size
-
 abbrev pub value_size : List MapDef → ℕ → ℕ
-value_size rows m = size_in (slice_get rows m)
+value_size rows m = option_map_or (λ row. row.value_size) (slice_get rows m) 0
 
 -- which bytes are needed, and which there are: of a call frame, of the packet, of a map value
 abbrev pub frame_line : (span : List ℕ) → (bytes : ℕ) → List ℕ
@@ -105,12 +102,9 @@ access_line rows (kind.MapValue m least greatest) place size =
     map_value_line (span_words least greatest place.offset size) (value_size rows m)
 access_line rows k place size = []
 
-abbrev pub line_at : List MapDef → State → Option (Size × Place) → List ℕ
-line_at rows a None = []
-line_at rows a (Some (size, place)) = access_line rows (kind_of a place.base) place size
-
 abbrev pub place_line : List MapDef → State → Insn → List ℕ
-place_line rows a i = line_at rows a (access i)
+place_line rows a i =
+    option_map_or (λ at. access_line rows (kind_of a at.1.base) at.1 at.0) (access i) []
 
 -- ---- helpers
 
@@ -139,26 +133,20 @@ argument_line a MapDeleteElem = key_line (kind_of a R1)
 argument_line a KtimeGetNs = codes "helper 5, the time, has no arguments\n"
 
 -- which helpers there are, or which argument is wrong
-abbrev pub numbered_line : State → ℤ → Option Helper → List ℕ
-numbered_line a number None = codes "helper "
-    ++ (signed_decimal number
-    ++ codes " is not known: there are 1 look-up, 2 update, 3 delete and 5 time\n")
-numbered_line a number (Some helper) = argument_line a helper
-
 abbrev pub helper_line : State → Insn → List ℕ
-helper_line a (CallHelper number) = numbered_line a number (helper_numbered number)
+helper_line a (CallHelper number) =
+    option_map_or (argument_line a) (helper_numbered number) (codes "helper "
+    ++ (signed_decimal number
+    ++ codes " is not known: there are 1 look-up, 2 update, 3 delete and 5 time\n"))
 helper_line a i = []
 
 -- the sizes of a map's keys and values
-abbrev pub row_line : ℕ → Option MapDef → List ℕ
-row_line m None = []
-row_line m (Some row) =
-    codes "a key of map " ++ (decimal m ++ (codes " has " ++ (decimal row.key_size
-    ++ (codes " bytes, a value " ++ (decimal row.value_size
-    ++ codes ": write all of them to the stack first, and point to the lowest\n")))))
-
 abbrev pub sizes_by : List MapDef → Kind → List ℕ
-sizes_by rows (kind.Map m) = row_line m (slice_get rows m)
+sizes_by rows (kind.Map m) =
+    option_map_or (λ row. codes "a key of map " ++ (decimal m ++ (codes " has "
+    ++ (decimal row.key_size ++ (codes " bytes, a value " ++ (decimal row.value_size
+    ++ codes ": write all of them to the stack first, and point to the lowest\n"))))))
+    (slice_get rows m) []
 sizes_by rows k = []
 
 abbrev pub sizes_line : List MapDef → State → List ℕ

@@ -1,5 +1,5 @@
 -- What is said of a program whose control flow is refused, besides the sentence and the slot.
-use Rattle.std.specs.Prelude.{ℕ, zero, suc, ◌+◌, ◌-◌, ◌==◌, nat_le, max, ℤ, pos, ◌+ℤ◌, List, [], ◌++◌, length, Option, Some, None, codes, decimal, if◌then◌else◌}
+use Rattle.std.specs.Prelude.{ℕ, zero, suc, ◌+◌, ◌-◌, ◌==◌, nat_le, max, ℤ, pos, ◌+ℤ◌, Bool, true, false, List, [], ◌++◌, length, Option, Some, None, codes, decimal, if◌then◌else◌}
 use Rattle.std.specs.Fmt.{signed_decimal}
 use Rattle.std.specs.Option.{option_map, option_and_then}
 use Rattle.isa_model.specs.declared.instructions.Insn.{Insn}
@@ -18,12 +18,13 @@ abbrev pub distance_of : Insn → Option ℤ
 distance_of (CallLocal by) = Some by
 distance_of i = jump_distance i
 
--- where the instruction at a slot jumps or calls; and where it calls
-unfoldable pub target_at : Program → ℕ → Option ℕ
-target_at p slot = option_map (destination p slot) (option_and_then distance_of (fetch p slot))
+-- where the instruction at a slot jumps or calls; or only where it calls
+abbrev pub distance_by : (only_calls : Bool) → Insn → Option ℤ
+distance_by only_calls i = if only_calls then call_distance i else distance_of i
 
-unfoldable pub called_at : Program → ℕ → Option ℕ
-called_at p slot = option_map (destination p slot) (option_and_then call_distance (fetch p slot))
+unfoldable pub target_at : Program → (only_calls : Bool) → ℕ → Option ℕ
+target_at p only_calls slot =
+    option_map (destination p slot) (option_and_then (distance_by only_calls) (fetch p slot))
 
 -- the slot, if it leads to the one that is looked for
 abbrev pub found_at : (slot to : ℕ) → Option ℕ → Option ℕ
@@ -34,14 +35,11 @@ abbrev pub or_later : (earlier later : Option ℕ) → Option ℕ
 or_later None later = later
 or_later (Some slot) later = Some slot
 
--- the first slot below a count that jumps or calls to a slot; and that calls it
-abbrev pub first_leading : Program → (to count : ℕ) → Option ℕ
-first_leading p to zero = None
-first_leading p to (suc n) = or_later (first_leading p to n) (found_at n to (target_at p n))
-
-abbrev pub first_calling : Program → (to count : ℕ) → Option ℕ
-first_calling p to zero = None
-first_calling p to (suc n) = or_later (first_calling p to n) (found_at n to (called_at p n))
+-- the first slot below a count that jumps or calls to a slot; or only that calls it
+abbrev pub first_leading : Program → (only_calls : Bool) → (to count : ℕ) → Option ℕ
+first_leading p only_calls to zero = None
+first_leading p only_calls to (suc n) =
+    or_later (first_leading p only_calls to n) (found_at n to (target_at p only_calls n))
 
 -- the later of two slots at which functions begin; that of the call, if there is one, counts only
 -- up to the given slot
@@ -53,7 +51,7 @@ later_of slot (Some k) found = if nat_le k slot then max k found else found
 -- leads
 abbrev pub function_at : Program → (slot count : ℕ) → ℕ
 function_at p slot zero = 0
-function_at p slot (suc n) = later_of slot (called_at p n) (function_at p slot n)
+function_at p slot (suc n) = later_of slot (target_at p true n) (function_at p slot n)
 
 -- ---- lines
 
@@ -86,7 +84,7 @@ called_words (Some from) = codes " (called at slot " ++ (decimal from ++ codes "
 abbrev pub function_words : Program → ℕ → List ℕ
 function_words p f =
     codes "from slot " ++ (decimal f
-    ++ (codes " on" ++ called_words (first_calling p f (length p.insns))))
+    ++ (codes " on" ++ called_words (first_leading p true f (length p.insns))))
 
 -- the target is in another function
 abbrev pub other_words : ℕ → (there here : List ℕ) → List ℕ
@@ -111,7 +109,7 @@ abbrev pub end_line : Program → ℕ → List ℕ
 end_line p next =
     if nat_le (length p.insns) next
     then codes "the code ends after it: end the function by exit or a jump\n"
-    else next_line next (first_calling p next (length p.insns))
+    else next_line next (first_leading p true next (length p.insns))
 
 -- whether an instruction, which is not reached itself, leads to a slot
 abbrev pub unreached_line : Option ℕ → List ℕ
@@ -126,8 +124,8 @@ unreached_line (Some from) =
 -- what is said of the instruction at the slot
 abbrev pub flow_line : Program → FlowError → ℕ → Insn → List ℕ
 flow_line p TargetOutside slot i = outside_line slot (length p.insns) (distance_of i)
-flow_line p SecondHalf slot i = second_half_line (target_at p slot)
-flow_line p OtherFunction slot i = other_line p slot (target_at p slot)
+flow_line p SecondHalf slot i = second_half_line (target_at p false slot)
+flow_line p OtherFunction slot i = other_line p slot (target_at p false slot)
 flow_line p FallsOff slot i = end_line p (slot + slots_filled i)
-flow_line p Unreachable slot i = unreached_line (first_leading p slot (length p.insns))
+flow_line p Unreachable slot i = unreached_line (first_leading p false slot (length p.insns))
 flow_line p Memory slot i = []

@@ -1,6 +1,7 @@
 -- The registers and stack slots of a state that concern an instruction, a line each.
 use Rattle.std.specs.Prelude.{ℕ, ◌+◌, ◌-◌, ◌/◌, ◌%◌, min, ◌+ℤ◌, ℤ, List, [], ◌∷◌, ◌++◌, length, slice_get, Option, Some, None, Bool, ◌==◌, ◌&&◌, nat_lt, codes, decimal, if◌then◌else◌}
 use Rattle.std.specs.List.{flat_map}
+use Rattle.std.specs.Option.{option_map_or}
 use Rattle.isa_model.specs.declared.registers.Reg.{Reg}
 use Rattle.isa_model.specs.declared.registers.Reg.TheVariants.{R0, R1, R2, R3}
 use Rattle.isa_model.specs.declared.instructions.Place.{Place}
@@ -24,7 +25,7 @@ use Rattle.walks.specs.declared.refusals.Refusal.TheVariants.{Step}
 use Rattle.walks.specs.declared.explained.Jump.{Jump}
 use Rattle.explanations.specs.Numbers.{half_words}
 use Rattle.explanations.specs.Kinds.{kind_words}
-use Rattle.explanations.specs.Slots.{byte_at, byte_line, slot_line, first_open}
+use Rattle.explanations.specs.Slots.{byte_at, slot_line, first_open}
 
 -- ---- registers
 
@@ -59,48 +60,35 @@ answer_line a e = []
 
 -- the stack slot that is read through a frame pointer
 abbrev pub read_line : State → Kind → ℤ → List ℕ
-read_line a (Stack frame offset) by = byte_line a frame (byte_at (offset +ℤ by))
+read_line a (Stack frame offset) by =
+    option_map_or (λ at. slot_line a frame (at / 8)) (byte_at (offset +ℤ by)) []
 read_line a k by = []
 
 abbrev pub read_slot_line : State → Place → List ℕ
 read_slot_line a place = read_line a (kind_of a place.base) place.offset
 
 -- of a helper's bytes, the first stack slot that is not all written
-abbrev pub open_line : State → ℕ → Option ℕ → List ℕ
-open_line a frame None = []
-open_line a frame (Some slot) = slot_line a frame slot
-
-abbrev pub bytes_from : State → ℕ → Option ℕ → ℕ → List ℕ
-bytes_from a frame None count = []
-bytes_from a frame (Some at) count =
-    open_line a frame
-    (first_open (stack_slots_of a frame) (at / 8)
-    (min ((at % 8 + count + 7) / 8) (frame_slots - at / 8)))
-
 abbrev pub bytes_line : State → Kind → ℕ → List ℕ
-bytes_line a (Stack frame offset) count = bytes_from a frame (byte_at offset) count
+bytes_line a (Stack frame offset) count =
+    option_map_or (λ at. option_map_or (slot_line a frame) (first_open (stack_slots_of a frame)
+    (at / 8) (min ((at % 8 + count + 7) / 8) (frame_slots - at / 8))) []) (byte_at offset) []
 bytes_line a k count = []
 
 abbrev pub called_row : List MapDef → Kind → Option MapDef
 called_row rows (Map m) = slice_get rows m
 called_row rows k = None
 
-abbrev pub key_bytes_line : State → Option MapDef → List ℕ
-key_bytes_line a None = []
-key_bytes_line a (Some row) = bytes_line a (kind_of a R2) row.key_size
+-- the bytes of its key and of its value, by the row of its map
+abbrev pub row_lines : State → Option Helper → MapDef → List ℕ
+row_lines a (Some MapLookupElem) row = bytes_line a (kind_of a R2) row.key_size
+row_lines a (Some MapUpdateElem) row =
+    bytes_line a (kind_of a R2) row.key_size ++ bytes_line a (kind_of a R3) row.value_size
+row_lines a (Some MapDeleteElem) row = bytes_line a (kind_of a R2) row.key_size
+row_lines a helper row = []
 
-abbrev pub value_bytes_line : State → Option MapDef → List ℕ
-value_bytes_line a None = []
-value_bytes_line a (Some row) = bytes_line a (kind_of a R3) row.value_size
-
--- the bytes of its key and of its value
 abbrev pub helper_lines : List MapDef → State → Option Helper → List ℕ
-helper_lines rows a (Some MapLookupElem) = key_bytes_line a (called_row rows (kind_of a R1))
-helper_lines rows a (Some MapUpdateElem) =
-    key_bytes_line a (called_row rows (kind_of a R1))
-    ++ value_bytes_line a (called_row rows (kind_of a R1))
-helper_lines rows a (Some MapDeleteElem) = key_bytes_line a (called_row rows (kind_of a R1))
-helper_lines rows a helper = []
+helper_lines rows a helper =
+    option_map_or (row_lines a helper) (called_row rows (kind_of a R1)) []
 
 abbrev pub stack_lines : List MapDef → State → Insn → List ℕ
 stack_lines rows a (Load size d place) = read_slot_line a place

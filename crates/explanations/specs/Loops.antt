@@ -1,5 +1,5 @@
 -- The loop that a path takes last, by the slots of its states, the first one first.
-use Rattle.std.specs.Prelude.{ℕ, zero, suc, ◌+◌, ◌-◌, ◌==◌, nat_le, nat_lt, List, [], ◌++◌, length, slice_index, Option, Some, None, Bool, true, false, ◌&&◌, codes, decimal, if◌then◌else◌}
+use Rattle.std.specs.Prelude.{ℕ, zero, suc, ◌+◌, ◌-◌, ◌==◌, nat_le, nat_lt, List, [], ◌++◌, length, count_by, slice_index, Option, Some, None, Bool, true, false, ◌&&◌, codes, decimal, if◌then◌else◌}
 use Rattle.isa_model.specs.declared.instructions.Insn.{Insn}
 use Rattle.isa_model.specs.declared.instructions.Insn.TheVariants.{Jump, JumpLong, JumpIf}
 use Rattle.isa_model.specs.Code.Instructions.{Program, fetch}
@@ -29,11 +29,9 @@ last_back p slots zero = None
 last_back p slots (suc n) =
     or_earlier (last_back p slots n) (back_jump p (slice_index slots n) (slice_index slots (n + 1)))
 
--- how often a path comes to a slot with this count of its slots
-abbrev pub times : ℕ → List ℕ → ℕ → ℕ
-times slot slots zero = 0
-times slot slots (suc n) =
-    if slice_index slots n == slot then times slot slots n + 1 else times slot slots n
+-- how often a path comes to a slot
+abbrev pub times : ℕ → List ℕ → ℕ
+times slot slots = count_by (λ k. k == slot) slots
 
 abbrev pub again_line : TheJump → ℕ → List ℕ
 again_line jump turns =
@@ -50,8 +48,8 @@ no_loop_line =
 abbrev pub taken_line : Option TheJump → List ℕ → List ℕ
 taken_line None slots = no_loop_line
 taken_line (Some jump) slots =
-    if nat_lt (times jump.to slots (length slots)) 2 then no_loop_line
-    else again_line jump (times jump.to slots (length slots))
+    if nat_lt (times jump.to slots) 2 then no_loop_line
+    else again_line jump (times jump.to slots)
 
 abbrev pub loop_line : Program → List ℕ → Refusal → List ℕ
 loop_line p slots TooLong = taken_line (last_back p slots (length slots - 1)) slots

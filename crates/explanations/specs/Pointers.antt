@@ -1,5 +1,6 @@
 -- Instructions that do to a pointer what is not defined, and what helps.
 use Rattle.std.specs.Prelude.{List, ℕ, [], Option, Some, None, Bool, true, false, ◌||◌, codes, if◌then◌else◌}
+use Rattle.std.specs.Option.{option_map_or}
 use Rattle.isa_model.specs.declared.instructions.Insn.{Insn}
 use Rattle.isa_model.specs.declared.instructions.Insn.TheVariants.{Alu, Load, LoadSx, StoreConstant, Store, Atomic, Exchange, CompareExchange}
 use Rattle.isa_model.specs.declared.instructions.Operand.{Operand}
@@ -70,9 +71,5 @@ memory_by (kind.Number numbers) = codes
     "a number is no address, and 0 is a look-up that found nothing: use a pointer, or the other branch\n"
 memory_by k = codes "memory is reached by r1 of the start, r10, a packet or a value pointer\n"
 
-abbrev pub memory_at : State → Option (Size × Place) → List ℕ
-memory_at a None = []
-memory_at a (Some (size, place)) = memory_by (kind_of a place.base)
-
 abbrev pub memory_line : State → Insn → List ℕ
-memory_line a i = memory_at a (access i)
+memory_line a i = option_map_or (λ at. memory_by (kind_of a at.1.base)) (access i) []

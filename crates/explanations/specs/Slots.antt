@@ -1,5 +1,5 @@
 -- What is known of the eight bytes of a stack slot, as text.
-use Rattle.std.specs.Prelude.{ℕ, zero, suc, ◌+◌, ◌-◌, ◌*◌, ◌/◌, ◌==◌, nat_lt, ℤ, pos, negsuc, ◌+ℤ◌, ◌-ℤ◌, List, [], ◌++◌, length, Option, Some, None, codes, if◌then◌else◌}
+use Rattle.std.specs.Prelude.{ℕ, zero, suc, ◌+◌, ◌-◌, ◌*◌, ◌==◌, nat_lt, ℤ, pos, negsuc, ◌+ℤ◌, ◌-ℤ◌, List, [], ◌++◌, length, Option, Some, None, codes, if◌then◌else◌}
 use Rattle.std.specs.Fmt.{signed_decimal}
 use Rattle.std.specs.Int.{bit_at}
 use Rattle.isa_model.specs.Code.Limits.{stack_size}
@@ -48,11 +48,6 @@ in_frame (negsuc n) = None
 
 abbrev pub byte_at : ℤ → Option ℕ
 byte_at z = in_frame (z +ℤ pos stack_size)
-
--- the line of the stack slot in which a byte is
-abbrev pub byte_line : State → ℕ → Option ℕ → List ℕ
-byte_line a frame None = []
-byte_line a frame (Some at) = slot_line a frame (at / 8)
 
 -- the first stack slot among this count of them that has a byte which is no written number byte
 abbrev pub first_open : List StackSlot → ℕ → ℕ → Option ℕ

@@ -27,6 +27,6 @@ abbrev pub lines_of : Program → Insn → Refusal → Explanation → List ℕ
 lines_of p i e x =
     register_lines x.state i ++ (unset_lines p x.slots.items x.state i e
     ++ (case_line p.maps x.state i e
-    ++ (loop_line p x.slots.items e ++ (turn_lines x.earlier x.state e
+    ++ (loop_line p x.slots.items e ++ (turn_lines e x.earlier x.state
     ++ (answer_line x.state e ++ (stack_lines p.maps x.state i
     ++ (way_line x.way.items ++ limit_line x.limit)))))))

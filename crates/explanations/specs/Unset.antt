@@ -56,33 +56,22 @@ cause_of p r slots (suc n) =
 
 -- ---- lines
 
-abbrev pub called_line : (register slot : ℕ) → List ℕ
-called_line register slot =
+-- what left it so, and what helps; a register that was set is unset only after a delete, which
+-- forgets pointers to values
+abbrev pub cause_line : ℕ → Option Cause → List ℕ
+cause_line register (Some (cause.Called slot)) =
     codes "r" ++ (decimal register ++ (codes " is unset since the call at slot "
     ++ (decimal slot ++ codes
     ": every call leaves r1 to r5 unset; set it again, or keep its value in r6 to r9\n")))
-
-abbrev pub began_line : (register slot : ℕ) → List ℕ
-began_line register slot =
+cause_line register (Some (cause.Began slot)) =
     codes "r" ++ (decimal register ++ (codes " is unset since the call at slot "
     ++ (decimal slot ++ codes
     ": a function gets only r1 to r5; pass its value in one of them\n")))
-
--- a register that was set is unset only after a delete, which forgets pointers to values
-abbrev pub deleted_line : (register slot : ℕ) → List ℕ
-deleted_line register slot =
-    codes "r" ++ (decimal register ++ (codes " was set at slot "
-    ++ (decimal slot ++ codes
+cause_line register (Some (cause.Set slot)) =
+    codes "r" ++ (decimal register ++ (codes " was set at slot " ++ (decimal slot ++ codes
     ", and a later delete (call 3) unset all pointers to values of its map: look the key up again\n")))
-
-abbrev pub path_line : (register : ℕ) → List ℕ
-path_line register = codes "set r" ++ (decimal register ++ codes " on every path that leads here\n")
-
-abbrev pub cause_line : ℕ → Option Cause → List ℕ
-cause_line register (Some (cause.Called slot)) = called_line register slot
-cause_line register (Some (cause.Began slot)) = began_line register slot
-cause_line register (Some (cause.Set slot)) = deleted_line register slot
-cause_line register None = path_line register
+cause_line register None =
+    codes "set r" ++ (decimal register ++ codes " on every path that leads here\n")
 
 abbrev pub line_by : Kind → ℕ → Option Cause → List ℕ
 line_by Unset register found = cause_line register found

@@ -4,7 +4,7 @@ ghost use Rattle.std.specs.Prelude.{◌≡◌, ◌<◌, ◌^◌, ◌+◌, IfOk, 
 ghost use Rattle.std.specs.String.{string_bytes};
 ghost use Rattle.control_flow.specs.Graph.{call_distance};
 ghost use Rattle.explanations.specs.Flows as spec;
-ghost use Rattle.explanations.specs.Flows.{distance_of, target_at, called_at, found_at, or_later, first_leading, first_calling, later_of, function_at, outside_words, outside_line, second_half_words, second_half_line, called_words, function_words, other_words, other_line, next_line, end_line, unreached_line};
+ghost use Rattle.explanations.specs.Flows.{distance_of, distance_by, target_at, found_at, or_later, first_leading, later_of, function_at, outside_words, outside_line, second_half_words, second_half_line, called_words, function_words, other_words, other_line, next_line, end_line, unreached_line};
 
 use control_flow::FlowError;
 use image::Image;
@@ -34,25 +34,25 @@ fn distance_of(insn: &Insn) -> Option<i32>
     }
 }
 
-// Where the instruction at a slot jumps or calls.
-#[tactic(auto, unfolding(crate::specs::Flows::target_at))]
-fn target_at(image: &Image, slot: usize) -> Option<usize>
-    requires { slot < 2 ^ 63 }
-    ensures { result ≡ target_at image.now slot }
+// Over which distance an instruction jumps or calls; or only over which it calls.
+fn distance_by(insn: &Insn, only_calls: bool) -> Option<i32>
+    ensures { result ≡ distance_by only_calls insn.now }
 {
-    let insn = image.at(slot)?;
-    let by = distance_of(insn)?;
-    Some(destination(slot, by, image.slots()))
+    if only_calls {
+        call_distance(insn)
+    } else {
+        distance_of(insn)
+    }
 }
 
-// Which function the instruction at a slot calls.
-#[tactic(auto, unfolding(crate::specs::Flows::called_at))]
-fn called_at(image: &Image, slot: usize) -> Option<usize>
+// Where the instruction at a slot jumps or calls; or only where it calls.
+#[tactic(auto, unfolding(crate::specs::Flows::target_at))]
+fn target_at(image: &Image, slot: usize, only_calls: bool) -> Option<usize>
     requires { slot < 2 ^ 63 }
-    ensures { result ≡ called_at image.now slot }
+    ensures { result ≡ target_at image.now only_calls slot }
 {
     let insn = image.at(slot)?;
-    let by = call_distance(insn)?;
+    let by = distance_by(insn, only_calls)?;
     Some(destination(slot, by, image.slots()))
 }
 
@@ -75,24 +75,16 @@ fn or_later(earlier: Option<usize>, later: Option<usize>) -> Option<usize>
     }
 }
 
-// The first slot that jumps or calls to a slot.
-fn first_leading(image: &Image, to: usize) -> Option<usize>
-    ensures { result ≡ first_leading image.now to (length image.now.insns) }
+// The first slot that jumps or calls to a slot; or only that calls it.
+fn first_leading(image: &Image, to: usize, only_calls: bool) -> Option<usize>
+    ensures { result ≡ first_leading image.now only_calls to (length image.now.insns) }
 {
     let mut found = None;
     for slot in 0..image.slots() {
-        found = or_later(found, found_at(slot, to, target_at(image, slot)));
-    }
-    found
-}
-
-// The first slot that calls the function at a slot.
-fn first_calling(image: &Image, to: usize) -> Option<usize>
-    ensures { result ≡ first_calling image.now to (length image.now.insns) }
-{
-    let mut found = None;
-    for slot in 0..image.slots() {
-        found = or_later(found, found_at(slot, to, called_at(image, slot)));
+        found = or_later(
+            found,
+            found_at(slot, to, target_at(image, slot, only_calls)),
+        );
     }
     found
 }
@@ -119,7 +111,7 @@ fn function_at(image: &Image, slot: usize) -> usize
 {
     let mut found = 0;
     for from in 0..image.slots() {
-        found = later_of(slot, called_at(image, from), found);
+        found = later_of(slot, target_at(image, from, true), found);
     }
     found
 }
@@ -186,7 +178,7 @@ fn called_words(alloc: Global, from: Option<usize>) -> Result<String, AllocError
 fn function_words(alloc: Global, image: &Image, begin: usize) -> Result<String, AllocError>
     ensures { IfOk result (λ text. string_bytes text ≡ function_words image.now begin) }
 {
-    let words = called_words(alloc, first_calling(image, begin))?;
+    let words = called_words(alloc, first_leading(image, begin, true))?;
     format!(in alloc; "from slot {begin} on{words}")
 }
 
@@ -242,7 +234,7 @@ fn end_line(alloc: Global, image: &Image, next: usize) -> Result<String, AllocEr
             "the code ends after it: end the function by exit or a jump\n",
         );
     }
-    next_line(alloc, next, first_calling(image, next))
+    next_line(alloc, next, first_leading(image, next, true))
 }
 
 // Whether an instruction, which is not reached itself, leads to a slot.
@@ -276,10 +268,10 @@ pub fn flow_line(
     let slots = image.slots();
     match error {
         FlowError::TargetOutside => outside_line(alloc, slot, slots, distance_of(insn)),
-        FlowError::SecondHalf => second_half_line(alloc, target_at(image, slot)),
-        FlowError::OtherFunction => other_line(alloc, image, slot, target_at(image, slot)),
+        FlowError::SecondHalf => second_half_line(alloc, target_at(image, slot, false)),
+        FlowError::OtherFunction => other_line(alloc, image, slot, target_at(image, slot, false)),
         FlowError::FallsOff => end_line(alloc, image, slot + insn.slots()),
-        FlowError::Unreachable => unreached_line(alloc, first_leading(image, slot)),
+        FlowError::Unreachable => unreached_line(alloc, first_leading(image, slot, false)),
         FlowError::Memory => Ok(String::new(alloc)),
     }
 }

@@ -54,15 +54,9 @@ fn last_back(image: &Image, slots: &[usize]) -> Option<Jump>
 
 // How often a path with these slots comes to a slot.
 fn times(slot: usize, slots: &[usize]) -> usize
-    ensures { result ≡ times slot slots.now (length slots.now) }
+    ensures { result ≡ times slot slots.now }
 {
-    let mut count = 0;
-    for index in 0..slots.len() {
-        if slots[index] == slot {
-            count += 1;
-        }
-    }
-    count
+    slots.iter().filter(|found| **found == slot).count()
 }
 
 fn again_line(alloc: Global, jump: Jump, turns: usize) -> Result<String, AllocError>

@@ -4,7 +4,7 @@ ghost use Rattle.std.specs.Prelude.{◌≡◌, ◌<◌, IfOk, bytes_eq};
 ghost use Rattle.std.specs.String.{string_bytes};
 ghost use Rattle.stack_state.specs.Slots.{frame_slots};
 ghost use Rattle.explanations.specs.Turns as spec;
-ghost use Rattle.explanations.specs.Turns.{turn_line, register_turn, register_turns, stack_turn, stack_turns};
+ghost use Rattle.explanations.specs.Turns.{turn_line, register_turn, stack_turn, place_turn, place_turns};
 
 use crate::differences::{register_words, stack_words};
 use crate::slots::offset_of;
@@ -44,19 +44,6 @@ fn register_turn(
     turn_line(alloc, place.as_str(), before.as_str(), now.as_str())
 }
 
-/// The lines of the registers of the innermost frame.
-fn register_turns(alloc: Global, earlier: &State, state: &State) -> Result<String, AllocError>
-    ensures { IfOk result (λ text. string_bytes text
-        ≡ register_turns earlier.now state.now 10) }
-{
-    let mut text = String::new(alloc);
-    for count in 0..10usize {
-        let line = register_turn(alloc, earlier, state, 9 - count)?;
-        text = format!(in alloc; "{line}{text}")?;
-    }
-    Ok(text)
-}
-
 /// The line of a stack slot of the innermost frame.
 fn stack_turn(
     alloc: Global,
@@ -74,13 +61,30 @@ fn stack_turn(
     turn_line(alloc, place.as_str(), before.as_str(), now.as_str())
 }
 
-/// The lines of the stack slots of the innermost frame.
-fn stack_turns(alloc: Global, earlier: &State, state: &State) -> Result<String, AllocError>
-    ensures { IfOk result (λ text. string_bytes text ≡ stack_turns earlier.now state.now 64) }
+/// The line of a register; or, counted on behind these ten, of a stack slot.
+fn place_turn(
+    alloc: Global,
+    earlier: &State,
+    state: &State,
+    place: usize,
+) -> Result<String, AllocError>
+    requires { place < 74 }
+    ensures { IfOk result (λ text. string_bytes text ≡ place_turn earlier.now state.now place) }
+{
+    if place < 10 {
+        register_turn(alloc, earlier, state, place)
+    } else {
+        stack_turn(alloc, earlier, state, place - 10)
+    }
+}
+
+/// The lines of the registers and the stack slots of the innermost frame.
+fn place_turns(alloc: Global, earlier: &State, state: &State) -> Result<String, AllocError>
+    ensures { IfOk result (λ text. string_bytes text ≡ place_turns earlier.now state.now 74) }
 {
     let mut text = String::new(alloc);
-    for count in 0..64usize {
-        let line = stack_turn(alloc, earlier, state, 63 - count)?;
+    for count in 0..74usize {
+        let line = place_turn(alloc, earlier, state, 73 - count)?;
         text = format!(in alloc; "{line}{text}")?;
     }
     Ok(text)
@@ -95,14 +99,10 @@ pub fn turn_lines(
     refusal: Refusal,
 ) -> Result<String, AllocError>
     ensures { IfOk result (λ text. string_bytes text
-        ≡ spec.turn_lines earlier.now state.now refusal) }
+        ≡ spec.turn_lines refusal earlier.now state.now) }
 {
     match (refusal, earlier) {
-        (Refusal::TooLong, Some(earlier)) => {
-            let registers = register_turns(alloc, earlier, state)?;
-            let slots = stack_turns(alloc, earlier, state)?;
-            format!(in alloc; "{registers}{slots}")
-        }
+        (Refusal::TooLong, Some(earlier)) => place_turns(alloc, earlier, state),
         _ => Ok(String::new(alloc)),
     }
 }

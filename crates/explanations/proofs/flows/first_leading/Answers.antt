@@ -1,9 +1,9 @@
-use Rattle.std.proofs.Common.{◌≡◌, length, arith, subst}
+use Rattle.std.proofs.Common.{arith, length}
 use Rattle.explanations.specs.Flows.{first_leading}
+use Rattle.explanations.proofs.Texts.{at_end}
 use Rattle.explanations.proofs.flows.first_leading.Goals as goal
 
 pub returns : goal.returns
 returns c =
-    let all : c.loop-slot.slot ≡ length c.args.image.now.insns = omega arith in
-    subst (λ n. c.loop-slot.found ≡ first_leading c.args.image.now c.args.to n) all
-    c.loop-slot.invariant
+    at_end (first_leading c.args.image.now c.args.only_calls c.args.to) c.loop-slot.found
+    c.loop-slot.slot (length c.args.image.now.insns) (omega arith) c.loop-slot.invariant

@@ -3,4 +3,4 @@ use Rattle.explanations.specs.Flows.{first_leading}
 use Rattle.explanations.proofs.flows.first_leading.Given as goal
 
 abbrev pub invariant-loop-slot : goal.invariant-loop-slot
-invariant-loop-slot l = l.found ≡ first_leading l.image l.to l.slot
+invariant-loop-slot l = l.found ≡ first_leading l.image l.only_calls l.to l.slot

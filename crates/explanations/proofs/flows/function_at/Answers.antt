@@ -1,9 +1,9 @@
-use Rattle.std.proofs.Common.{◌≡◌, length, arith, subst}
+use Rattle.std.proofs.Common.{arith, length}
 use Rattle.explanations.specs.Flows.{function_at}
+use Rattle.explanations.proofs.Texts.{at_end}
 use Rattle.explanations.proofs.flows.function_at.Goals as goal
 
 pub returns : goal.returns
 returns c =
-    let all : c.loop-from.from ≡ length c.args.image.now.insns = omega arith in
-    subst (λ n. c.loop-from.found ≡ function_at c.args.image.now c.args.slot n) all
-    c.loop-from.invariant
+    at_end (function_at c.args.image.now c.args.slot) c.loop-from.found
+    c.loop-from.from (length c.args.image.now.insns) (omega arith) c.loop-from.invariant

@@ -1,11 +1,11 @@
-use Rattle.std.proofs.Common.{◌≡◌, arith, subst}
+use Rattle.std.proofs.Common.{arith}
 use Rattle.std.specs.String.{string_bytes}
 use Rattle.explanations.specs.Slots.{written_words}
+use Rattle.explanations.proofs.Texts.{at_end}
 use Rattle.explanations.proofs.slots.written_words.Goals as goal
 
 pub returns : goal.returns
 returns c =
-    let all : c.loop-count.count ≡ 8 =
-    omega (arith, c.loop-count-test.false, c.loop-count.auto.count-end) in
-    subst (λ n. string_bytes c.loop-count.text ≡ written_words c.args.slot c.args.marks n) all
+    at_end (written_words c.args.slot c.args.marks) (string_bytes c.loop-count.text)
+    c.loop-count.count 8 (omega (arith, c.loop-count-test.false, c.loop-count.auto.count-end))
     c.loop-count.invariant

@@ -1,0 +1,7 @@
+use Rattle.std.proofs.Common.{◌≡◌}
+use Rattle.std.specs.String.{string_bytes}
+use Rattle.explanations.specs.Turns.{place_turns}
+use Rattle.explanations.proofs.turns.place_turns.Given as goal
+
+abbrev pub invariant-loop-count : goal.invariant-loop-count
+invariant-loop-count l = string_bytes l.text ≡ place_turns l.earlier l.state l.count

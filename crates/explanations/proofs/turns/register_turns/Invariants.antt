@@ -1,7 +1,0 @@
-use Rattle.std.proofs.Common.{◌≡◌}
-use Rattle.std.specs.String.{string_bytes}
-use Rattle.explanations.specs.Turns.{register_turns}
-use Rattle.explanations.proofs.turns.register_turns.Given as goal
-
-abbrev pub invariant-loop-count : goal.invariant-loop-count
-invariant-loop-count l = string_bytes l.text ≡ register_turns l.earlier l.state l.count
