@@ -28,11 +28,6 @@ SHARED = {
     "Refusal": "of the crate's own",
     "ReportForm": "the type of host, and what it means",
     "FrameClock": "the same clock in host and in the library",
-    "Kept": "a state of a search, and what is kept of a map's serials",
-    "IsKept": "of such a state, and of such serials",
-    "AreKept": "of such states, and of such serials",
-    "AreWithin": "of slots, and of places",
-    "Covers": "of abstract states, and of places that are noted",
 }
 
 TYPE = re.compile(r"^pub (?:unsafe )?(?:struct|enum|trait|type|union) (\w+)", re.M)

@@ -1,14 +1,13 @@
-pub mod OneChanged
 pub mod ChunkLaws
 pub mod ContentLaws
-pub mod KeptLaws
 pub mod KeyValueLaws
 pub mod LiveLaws
 pub mod LookUpLaws
 pub mod NumberingLaws
+pub mod OneChanged
 pub mod OrderLaws
 pub mod PlaceLists
+pub mod PlaceOrderLaws
 pub mod RanksLaws
 pub mod ReorderLaws
 pub mod SerialLaws
-pub mod ShiftLaws

@@ -1,5 +1,5 @@
 -- Laws of the numbering at the start of a run.
-use Rattle.std.proofs.Common.{◌≡◌, ℕ, zero, suc, ◌+◌, ◌-◌, ◌<◌, ◌≤◌, List, [], ◌∷◌, map, length, Option, Some, None, true, false, cond, refl, sym, ap, subst, ◌∙◌, arith, inl, inr}
+use Rattle.std.proofs.Common.{◌≡◌, ℕ, zero, suc, ◌+◌, ◌-◌, ◌<◌, ◌≤◌, List, [], ◌∷◌, map, length, Option, Some, true, false, cond, refl, sym, ap, subst, ◌∙◌, arith, inl, inr}
 use Rattle.std.specs.Prelude.{◌≢◌, All, slice_set, slice_index_or, unwrap_or}
 use Rattle.std.specs.FinMap.{get, entries, values, get-entries, len-entries}
 use Rattle.std.specs.FinMap.Entries.{find}
@@ -18,7 +18,7 @@ use Rattle.maps.proofs.ReportOrderLaws.{get_at}
 use Rattle.maps.specs.Maps.{MapState, IsMap, map_at, content_in, contents_of}
 use Rattle.live_maps.specs.Live.{Serials, serial_in, serials_at, stored, live_content, live_contents, HasSerials, AreLive}
 use Rattle.live_maps.proofs.KeyValueLaws.{AreApart, keys-apart}
-use Rattle.live_maps.specs.Numbering.{AreDistinct, AreNumbered, NumbersAll, OnlyThere, count_before, place_in}
+use Rattle.live_maps.specs.Numbering.{AreDistinct, AreNumbered, NumbersAll, count_before, place_in}
 
 -- a serial of numbered places is that of a place of the list
 pub numbered_only : (n : ℕ) (places : List ℕ) (serials : Serials) → NumbersAll n places serials

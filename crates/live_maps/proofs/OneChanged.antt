@@ -5,7 +5,7 @@ use Rattle.std.specs.List.{position}
 use Rattle.isa_model.specs.declared.map_defs.MapDef.{MapDef}
 use Rattle.maps.specs.Maps.{MapState, IsMap, map_at}
 use Rattle.live_maps.specs.Live.{Live, Serials, AreLive, content_at, serials_at, has_serial, value_bytes}
-use Rattle.live_maps.specs.Kept.{AreKept, AreLiveMaps, Kept, serials_in}
+use Rattle.live_maps.specs.PlaceOrders.{AreLiveMaps, AreOrdersOf, PlaceOrder, serials_in}
 use Rattle.live_maps.proofs.ContentLaws.{live_of, rows_of-known, rows_of-some, length-changed_maps}
 use Rattle.live_maps.proofs.LookUpLaws.{serial_place-inside, serial_place-some}
 
@@ -65,9 +65,9 @@ found_at next maps all now view m n p size h found fits =
     record { inside = inside; place = r.0; fits = omega arith }
 
 -- where one map has changed, the maps are kept as before, with what is kept of them
-pub still_kept : (serials_room next later : ℕ) (maps new : List MapState) (kept given : List Kept)
+pub still_kept : (serials_room next later : ℕ) (maps new : List MapState) (kept given : List PlaceOrder)
     (m : ℕ) → AreLiveMaps serials_room next maps kept → new ≡ slice_set maps m (map_at new m)
-    → AreLive later new (serials_in given) → AreKept new given
+    → AreLive later new (serials_in given) → AreOrdersOf new given
     → AreLiveMaps serials_room later new given
 still_kept serials_room next later maps new kept given m h others live are =
     let few = h.0 in

@@ -1,6 +1,6 @@
 -- Laws of the orders of all maps' keys: as a key is added or removed, and as values are numbered.
 use Rattle.std.specs.Prelude.{◌≢◌, ◌==◌, Bool, not, slice_get, slice_set, slice_index_or}
-use Rattle.std.proofs.Common.{◌≡◌, ℕ, suc, ◌+◌, ◌<◌, ◌≤◌, List, [], ◌∷◌, map, length, Option, Some, None, true, false, cond, refl, sym, ap, subst, ◌∙◌, arith}
+use Rattle.std.proofs.Common.{◌≡◌, ℕ, suc, ◌+◌, ◌<◌, List, [], ◌∷◌, map, length, Option, Some, None, true, false, cond, refl, sym, ap, subst, ◌∙◌, arith}
 use Rattle.std.specs.List.{filter}
 use Rattle.std.specs.Cmp.{eq_by_cmp_equiv}
 use Rattle.std.specs.Cmp.Lexicographic.{nat_list_cmp_total}
@@ -20,60 +20,60 @@ use Rattle.maps.proofs.ReportOrderLaws.{get_at}
 use Rattle.maps.specs.Maps.{MapState, IsMap, map_at}
 use Rattle.live_maps.specs.declared.place_serials.Since.{Since}
 use Rattle.live_maps.specs.declared.place_serials.Since.TheVariants.{Same, Gone, Given, New}
-use Rattle.live_maps.specs.Kept.{AreKept, AreFresh, IsKept, Kept, after, given_now, is_same, kept_at, serials_in, serials_of, since_in, start_serial, taken_now, with_since}
+use Rattle.live_maps.specs.PlaceOrders.{AreOrdersOf, IsOrderOf, PlaceOrder, after, given_now, is_same, kept_at, serials_in, serials_of, since_in, start_serial, taken_now, with_since}
 use Rattle.live_maps.specs.Live.{AreLive, HasSerials, Serials, serial_in, serials_at}
-use Rattle.live_maps.specs.Numbering.{AreDistinct, place_in}
-use Rattle.live_maps.proofs.KeptLaws.{IsKept-touched, come-live, gone-live, length-serials_in, serial_in-of, serials_at-kept, serials_of-given, serials_of-taken, start-at}
+use Rattle.live_maps.specs.Numbering.{AreDistinct}
+use Rattle.live_maps.proofs.PlaceOrderLaws.{IsOrderOf-touched, come-live, gone-live, length-serials_in, serial_in-of, serials_at-kept, serials_of-given, serials_of-taken, start-at}
 use Rattle.live_maps.proofs.NumberingLaws.{key_at}
 use Rattle.live_maps.proofs.PlaceLists.{IsOut, equal_to, none_without, not_equal, out_without, without}
 
 -- ---- all orders
 
 -- one map and its order replaced
-AreKept-replaced : (maps : List MapState) (kept : List Kept) (m : ℕ) (x : MapState) (k : Kept)
-    → m < length maps → IsKept x k → AreKept maps kept
-    → AreKept (slice_set maps m x) (slice_set kept m k)
-AreKept-replaced maps kept m x k inside now h = record {
+AreOrdersOf-replaced : (maps : List MapState) (kept : List PlaceOrder) (m : ℕ) (x : MapState) (k : PlaceOrder)
+    → m < length maps → IsOrderOf x k → AreOrdersOf maps kept
+    → AreOrdersOf (slice_set maps m x) (slice_set kept m k)
+AreOrdersOf-replaced maps kept m x k inside now h = record {
   long = length-set kept m k ∙ h.long ∙ sym (length-set maps m x);
-  each = λ j l. elim (eqb j m) as (λ b. eqb j m ≡ b → IsKept (map_at (slice_set maps m x) j)
+  each = λ j l. elim (eqb j m) as (λ b. eqb j m ≡ b → IsOrderOf (map_at (slice_set maps m x) j)
       (kept_at (slice_set kept m k) j)) [
         | true ↦ λ t.
             let ordered = h.long in
-            subst (λ (i : ℕ). IsKept (map_at (slice_set maps m x) i) (kept_at (slice_set kept m k) i))
+            subst (λ (i : ℕ). IsOrderOf (map_at (slice_set maps m x) i) (kept_at (slice_set kept m k) i))
             (sym (eqb-true j m t))
-            (subst (λ (y : MapState). IsKept y (kept_at (slice_set kept m k) m))
+            (subst (λ (y : MapState). IsOrderOf y (kept_at (slice_set kept m k) m))
             (sym (get_or-set_same maps m x _ inside))
-            (subst (λ (q : Kept). IsKept x q)
+            (subst (λ (q : PlaceOrder). IsOrderOf x q)
             (sym (get_or-set_same kept m k _ (omega arith))) now))
         | false ↦ λ t.
             let d = eqb-false j m t in
             let same = length-set maps m x in
-            subst (λ (y : MapState). IsKept y (kept_at (slice_set kept m k) j))
+            subst (λ (y : MapState). IsOrderOf y (kept_at (slice_set kept m k) j))
             (sym (get_or-set_other maps m j x _ d))
-            (subst (λ (q : Kept). IsKept (map_at maps j) q)
+            (subst (λ (q : PlaceOrder). IsOrderOf (map_at maps j) q)
             (sym (get_or-set_other kept m j k _ d)) (h.each j (omega arith)))
       ] refl;
 }
 
 -- a map is numbered
-pub AreKept-numbered : (maps : List MapState) (kept : List Kept) (m : ℕ) (k : Kept)
-    → m < length maps → IsKept (map_at maps m) k → AreKept maps kept
-    → AreKept maps (slice_set kept m k)
-AreKept-numbered maps kept m k inside now h =
-    subst (λ (l : List MapState). AreKept l (slice_set kept m k)) (set-get_or maps m _)
-    (AreKept-replaced maps kept m (map_at maps m) k inside now h)
+pub AreOrdersOf-numbered : (maps : List MapState) (kept : List PlaceOrder) (m : ℕ) (k : PlaceOrder)
+    → m < length maps → IsOrderOf (map_at maps m) k → AreOrdersOf maps kept
+    → AreOrdersOf maps (slice_set kept m k)
+AreOrdersOf-numbered maps kept m k inside now h =
+    subst (λ (l : List MapState). AreOrdersOf l (slice_set kept m k)) (set-get_or maps m _)
+    (AreOrdersOf-replaced maps kept m (map_at maps m) k inside now h)
 
 -- a map with another key, and its order
-pub AreKept-changed : (maps new : List MapState) (kept : List Kept) (m : ℕ) (k : Kept)
-    → new ≡ slice_set maps m (map_at new m) → m < length maps → IsKept (map_at new m) k
-    → AreKept maps kept → AreKept new (slice_set kept m k)
-AreKept-changed maps new kept m k is inside now h =
-    subst (λ (l : List MapState). AreKept l (slice_set kept m k)) (sym is)
-    (AreKept-replaced maps kept m (map_at new m) k inside now h)
+pub AreOrdersOf-changed : (maps new : List MapState) (kept : List PlaceOrder) (m : ℕ) (k : PlaceOrder)
+    → new ≡ slice_set maps m (map_at new m) → m < length maps → IsOrderOf (map_at new m) k
+    → AreOrdersOf maps kept → AreOrdersOf new (slice_set kept m k)
+AreOrdersOf-changed maps new kept m k is inside now h =
+    subst (λ (l : List MapState). AreOrdersOf l (slice_set kept m k)) (sym is)
+    (AreOrdersOf-replaced maps kept m (map_at new m) k inside now h)
 
-IsKept-same : (x y : MapState) (k : Kept) → IsKept x k → y.row ≡ x.row → y.places ≡ x.places
-    → IsKept y k
-IsKept-same x y k h row places = record {
+IsOrderOf-same : (x y : MapState) (k : PlaceOrder) → IsOrderOf x k → y.row ≡ x.row → y.places ≡ x.places
+    → IsOrderOf y k
+IsOrderOf-same x y k h row places = record {
   long = h.long ∙ ap (λ r. r.entries) (sym row);
   room = h.room ∙ ap (λ r. r.entries) (sym row);
   distinct = h.distinct;
@@ -87,17 +87,17 @@ IsKept-same x y k h row places = record {
 }
 
 -- a map whose keys have the same places
-pub AreKept-set : (maps new : List MapState) (kept : List Kept) (m : ℕ)
+pub AreOrdersOf-set : (maps new : List MapState) (kept : List PlaceOrder) (m : ℕ)
     → new ≡ slice_set maps m (map_at new m) → m < length maps
     → (map_at new m).row ≡ (map_at maps m).row → (map_at new m).places ≡ (map_at maps m).places
-    → AreKept maps kept → AreKept new kept
-AreKept-set maps new kept m is inside row places h =
-    subst (λ (ks : List Kept). AreKept new ks) (set-get_or kept m _)
-    (AreKept-changed maps new kept m (kept_at kept m) is inside
-    (IsKept-same (map_at maps m) (map_at new m) (kept_at kept m) (h.each m inside) row places) h)
+    → AreOrdersOf maps kept → AreOrdersOf new kept
+AreOrdersOf-set maps new kept m is inside row places h =
+    subst (λ (ks : List PlaceOrder). AreOrdersOf new ks) (set-get_or kept m _)
+    (AreOrdersOf-changed maps new kept m (kept_at kept m) is inside
+    (IsOrderOf-same (map_at maps m) (map_at new m) (kept_at kept m) (h.each m inside) row places) h)
 
 -- what is kept of a map, as it is found in the list of all
-pub kept_found : (kept : List Kept) (m : ℕ) (k d : Kept) → m < length kept
+pub kept_found : (kept : List PlaceOrder) (m : ℕ) (k d : PlaceOrder) → m < length kept
     → k ≡ slice_index_or kept m d → kept_at kept m ≡ k
 kept_found kept m k d inside is = get_or_default kept m _ d inside ∙ sym is
 
@@ -225,7 +225,7 @@ taken-same A (Given m) e new = absurd cc
 taken-same A (New m) e new = new m refl
 
 -- a place that has no serial, and of whose value nothing became, is not in the order
-out-start : (k : Kept) (p : ℕ) → AreDistinct k.order → p < length k.since
+out-start : (k : PlaceOrder) (p : ℕ) → AreDistinct k.order → p < length k.since
     → since_in k.since p ≡ Same → serial_in (serials_of k) p ≡ None → IsOut p k.order
 out-start k p d inside same none i e =
     let at = start-at k.first p i k.order d e in
@@ -235,12 +235,12 @@ out-start k p d inside same none i e =
     absurd cc
 
 -- a key came
-pub IsKept-given : (next later : ℕ) (x y : MapState) (k : Kept) (key : List ℕ) (p n : ℕ)
-    → HasSerials next x (serials_of k) → IsKept x k → y.row ≡ x.row → IsMap y
+pub IsOrderOf-given : (next later : ℕ) (x y : MapState) (k : PlaceOrder) (key : List ℕ) (p n : ℕ)
+    → HasSerials next x (serials_of k) → IsOrderOf x k → y.row ≡ x.row → IsMap y
     → get x.places key ≡ None → TakesPlace x.places key p y.places
     → HasSerials later y (serials_of (with_since k p (given_now n (since_in k.since p))))
-    → IsKept y (with_since k p (given_now n (since_in k.since p)))
-IsKept-given next later x y k key p n h kept row is absent taken after_it =
+    → IsOrderOf y (with_since k p (given_now n (since_in k.since p)))
+IsOrderOf-given next later x y k key p n h kept row is absent taken after_it =
     let there = get-taken x.places y.places key p taken in
     let out = out-values x.places p taken.free in
     let within = is.in_range key p there in
@@ -249,7 +249,7 @@ IsKept-given next later x y k key p n h kept row is absent taken after_it =
     let inside : p < length k.since = omega arith in
     let none : serial_in (serials_of k) p ≡ None =
     by (serial_in (serials_of k) p) refl (λ m e. let own = h.owned p m e in taken.free own.1 own.2) in
-    IsKept-touched x y k p (given_now n (since_in k.since p)) kept row inside
+    IsOrderOf-touched x y k p (given_now n (since_in k.since p)) kept row inside
     (sym (values-removed y.places key p is.apart there)
     ∙ ap (λ (P : Places). values (remove P key)) taken.added
     ∙ ap values (remove-added x.places key p absent) ∙ sym (none_without (values x.places) p out))
@@ -264,11 +264,11 @@ IsKept-given next later x y k key p n h kept row is absent taken after_it =
     by (Some m) e never = absurd (never m e)
 
 -- a key went
-pub IsKept-taken : (later : ℕ) (x y : MapState) (k : Kept) (key : List ℕ) (p : ℕ) → IsMap x
-    → IsKept x k → y.row ≡ x.row → get x.places key ≡ Some p → y.places ≡ remove x.places key
+pub IsOrderOf-taken : (later : ℕ) (x y : MapState) (k : PlaceOrder) (key : List ℕ) (p : ℕ) → IsMap x
+    → IsOrderOf x k → y.row ≡ x.row → get x.places key ≡ Some p → y.places ≡ remove x.places key
     → HasSerials later y (serials_of (with_since k p (taken_now (since_in k.since p))))
-    → IsKept y (with_since k p (taken_now (since_in k.since p)))
-IsKept-taken later x y k key p is kept row there places after_it =
+    → IsOrderOf y (with_since k p (taken_now (since_in k.since p)))
+IsOrderOf-taken later x y k key p is kept row there places after_it =
     let within = is.in_range key p there in
     let long = kept.long in
     let inside : p < length k.since = omega arith in
@@ -276,7 +276,7 @@ IsKept-taken later x y k key p is kept row there places after_it =
     ap values places ∙ values-removed x.places key p is.apart there in
     let out : IsOut p (values y.places) =
     subst (λ (ps : List ℕ). IsOut p ps) (sym now) (out_without p (values x.places)) in
-    IsKept-touched x y k p (taken_now (since_in k.since p)) kept row inside
+    IsOrderOf-touched x y k p (taken_now (since_in k.since p)) kept row inside
     (none_without (values y.places) p out ∙ now)
     (λ e. taken-same (IsOut p k.order × IsOut p (values y.places)) (since_in k.since p) e
     (λ n f. (kept.fresh p n f, out)))
@@ -286,7 +286,7 @@ IsKept-taken later x y k key p is kept row there places after_it =
 
 -- ---- the same of all maps
 
-serials_there : (next : ℕ) (maps : List MapState) (kept : List Kept) (m : ℕ) (s : Serials) (k : Kept)
+serials_there : (next : ℕ) (maps : List MapState) (kept : List PlaceOrder) (m : ℕ) (s : Serials) (k : PlaceOrder)
     → m < length maps → AreLive next maps (slice_set (serials_in kept) m s)
     → length kept ≡ length maps → s ≡ serials_of k → HasSerials next (map_at maps m) (serials_of k)
 serials_there next maps kept m s k inside live long is =
@@ -294,24 +294,24 @@ serials_there next maps kept m s k inside live long is =
     subst (λ (t : Serials). HasSerials next (map_at maps m) t)
     (get_or-set_same (serials_in kept) m s [] (omega arith) ∙ is) (live.each m inside)
 
-pub AreKept-given : (next : ℕ) (maps new : List MapState) (kept : List Kept) (m : ℕ)
-    (key : List ℕ) (p : ℕ) → AreLive next maps (serials_in kept) → AreKept maps kept
+pub AreOrdersOf-given : (next : ℕ) (maps new : List MapState) (kept : List PlaceOrder) (m : ℕ)
+    (key : List ℕ) (p : ℕ) → AreLive next maps (serials_in kept) → AreOrdersOf maps kept
     → m < length maps → new ≡ slice_set maps m (map_at new m)
     → (map_at new m).row ≡ (map_at maps m).row → IsMap (map_at new m)
     → get (map_at maps m).places key ≡ None
     → TakesPlace (map_at maps m).places key p (map_at new m).places
     → AreLive (suc next) new (slice_set (serials_in kept) m
     (slice_set (serials_at (serials_in kept) m) p (Some next)))
-    → AreKept new (slice_set kept m (with_since (kept_at kept m) p
+    → AreOrdersOf new (slice_set kept m (with_since (kept_at kept m) p
     (given_now next (since_in (kept_at kept m).since p))))
-AreKept-given next maps new kept m key p live h inside others row is absent taken now =
+AreOrdersOf-given next maps new kept m key p live h inside others row is absent taken now =
     let k = kept_at kept m in
     let count = ap length others ∙ length-set maps m (map_at new m) in
     let long = h.long in
     let here = serials_at-kept kept m in
-    AreKept-changed maps new kept m (with_since k p (given_now next (since_in k.since p))) others
+    AreOrdersOf-changed maps new kept m (with_since k p (given_now next (since_in k.since p))) others
     inside
-    (IsKept-given next (suc next) (map_at maps m) (map_at new m) k key p next
+    (IsOrderOf-given next (suc next) (map_at maps m) (map_at new m) k key p next
     (subst (λ (t : Serials). HasSerials next (map_at maps m) t) here (live.each m inside))
     (h.each m inside) row is absent taken
     (serials_there (suc next) new kept m
@@ -320,23 +320,23 @@ AreKept-given next maps new kept m key p live h inside others row is absent take
     (ap (λ (t : Serials). slice_set t p (Some next)) here ∙ sym (serials_of-given k p next))))
     h
 
-pub AreKept-taken : (next : ℕ) (maps new : List MapState) (kept : List Kept) (m : ℕ)
-    (key : List ℕ) (p : ℕ) → AreLive next maps (serials_in kept) → AreKept maps kept
+pub AreOrdersOf-taken : (next : ℕ) (maps new : List MapState) (kept : List PlaceOrder) (m : ℕ)
+    (key : List ℕ) (p : ℕ) → AreLive next maps (serials_in kept) → AreOrdersOf maps kept
     → m < length maps → new ≡ slice_set maps m (map_at new m)
     → (map_at new m).row ≡ (map_at maps m).row
     → get (map_at maps m).places key ≡ Some p
     → (map_at new m).places ≡ remove (map_at maps m).places key
     → AreLive next new (slice_set (serials_in kept) m
     (slice_set (serials_at (serials_in kept) m) p None))
-    → AreKept new (slice_set kept m (with_since (kept_at kept m) p
+    → AreOrdersOf new (slice_set kept m (with_since (kept_at kept m) p
     (taken_now (since_in (kept_at kept m).since p))))
-AreKept-taken next maps new kept m key p live h inside others row there places now =
+AreOrdersOf-taken next maps new kept m key p live h inside others row there places now =
     let k = kept_at kept m in
     let count = ap length others ∙ length-set maps m (map_at new m) in
     let long = h.long in
     let here = serials_at-kept kept m in
-    AreKept-changed maps new kept m (with_since k p (taken_now (since_in k.since p))) others inside
-    (IsKept-taken next (map_at maps m) (map_at new m) k key p (live.each m inside).is_map
+    AreOrdersOf-changed maps new kept m (with_since k p (taken_now (since_in k.since p))) others inside
+    (IsOrderOf-taken next (map_at maps m) (map_at new m) k key p (live.each m inside).is_map
     (h.each m inside) row there places
     (serials_there next new kept m (slice_set (serials_at (serials_in kept) m) p None)
     (with_since k p (taken_now (since_in k.since p))) (omega arith) now (omega arith)

@@ -1,12 +1,12 @@
--- Laws of places in chunks.
-use Rattle.std.proofs.Common.{◌≡◌, ℕ, zero, suc, ◌+◌, ◌-◌, ◌*◌, ◌/◌, ◌%◌, ◌<◌, ◌≤◌, List, [], ◌∷◌, ◌++◌, map, take, drop, length, refl, sym, ap, subst, ◌∙◌, arith, append_assoc}
-use Rattle.std.specs.Prelude.{min, slice_set, slice_index_or}
+-- Laws of places in lists, one list after another.
+use Rattle.std.proofs.Common.{◌≡◌, ◌≢◌, ℕ, zero, suc, ◌+◌, ◌-◌, ◌<◌, ◌≤◌, List, [], ◌∷◌, ◌++◌, take, drop, length, Some, refl, sym, ap, ◌∙◌, ◌⊎◌, inl, inr, arith, append_assoc}
+use Rattle.std.specs.Prelude.{slice_get, slice_set, slice_index_or}
 use Rattle.std.specs.List.{concat, insert, remove}
-use Rattle.std.proofs.lemmas.List.{append-nil, take-append-drop, get_or-append_right, length-append, length-drop, length-take}
+use Rattle.std.proofs.lemmas.List.{append-nil, get_or-append_right, length-append, take-set-le, take_all, take_more, take_more_set}
 use Rattle.std.proofs.Math.ListN.{get_or-append}
 use Rattle.std.proofs.lemmas.List.Edits.{insert-append_left, insert-append_right}
 use Rattle.std.proofs.lemmas.List.Folds.{concat-append}
-use Rattle.live_maps.specs.Ranks.{longest}
+use Rattle.live_maps.specs.Ranks.{count_to}
 
 abbrev pub Lists : Type 0
 Lists = List (List ℕ)
@@ -14,137 +14,84 @@ Lists = List (List ℕ)
 abbrev pub list_in : Lists → ℕ → List ℕ
 list_in css c = slice_index_or css c []
 
--- the lists have n places, each 1024 before the next has any
-abbrev pub AreLong : ℕ → Lists → Type 0
-AreLong n css = (c : ℕ) → c < length css → length (list_in css c) ≡ longest n c
+-- ---- how many places are before a list
 
-AreLong-rest : (n : ℕ) (cs : List ℕ) (css : Lists) → AreLong n (cs ∷ css) → AreLong (n - 1024) css
-AreLong-rest n cs css h c l = let e = h (suc c) (omega arith) in omega arith
-
--- the place at a rank
-pub at_rank : (n k : ℕ) (css : Lists) → AreLong n css → n < length css * 1024 → k < n
-    → slice_index_or (concat css) k 0 ≡ slice_index_or (list_in css (k / 1024)) (k % 1024) 0
-at_rank n k [] h l m = absurd (omega arith)
-at_rank n k (cs ∷ css) h l m =
-    let long = h 0 (omega arith) in
-    by (k / 1024) refl long (λ a b.
-    at_rank (n - 1024) (k - 1024) css (AreLong-rest n cs css h) (omega arith) (omega arith))
-  where
-    by : (q : ℕ) → k / 1024 ≡ q → length cs ≡ longest n 0
-        → (1024 ≤ k → k < n → slice_index_or (concat css) (k - 1024) 0
-        ≡ slice_index_or (list_in css ((k - 1024) / 1024)) ((k - 1024) % 1024) 0)
-        → slice_index_or (cs ++ concat css) k 0
-        ≡ slice_index_or (list_in (cs ∷ css) q) (k % 1024) 0
-    by zero e long rest =
-        let same : k ≡ k % 1024 = omega arith in
-        get_or-append cs (concat css) 0 k (omega arith)
-        ∙ ap (λ (i : ℕ). slice_index_or cs i 0) same
-    by (suc q) e long rest =
-        let i : (k - 1024) / 1024 ≡ q = omega arith in
-        let j : (k - 1024) % 1024 ≡ k % 1024 = omega arith in
-        get_or-append_right cs (concat css) 1024 k 0 (omega arith) (omega arith)
-        ∙ rest (omega arith) (omega arith)
-        ∙ ap (λ (c : ℕ). slice_index_or (list_in css c) ((k - 1024) % 1024) 0) i
-        ∙ ap (λ (i : ℕ). slice_index_or (list_in css q) i 0) j
-
--- there are n places
-pub length-concat : (n : ℕ) (css : Lists) → AreLong n css → n < length css * 1024
-    → length (concat css) ≡ n
-length-concat n [] h l = absurd (omega arith)
-length-concat n (cs ∷ []) h l =
-    let e = h 0 (omega arith) in
-    ap length (append-nil cs) ∙ omega arith
-length-concat n (cs ∷ ds ∷ css) h l =
-    let e = h 0 (omega arith) in
-    let r = length-concat (n - 1024) (ds ∷ css) (AreLong-rest n cs (ds ∷ css) h) (omega arith) in
-    let b = length-append cs (concat (ds ∷ css)) in
-    omega arith
-
--- one of the lists between those before and behind it
-pub around : (css : Lists) (c : ℕ) → c < length css
-    → concat css ≡ concat (take c css) ++ (list_in css c ++ concat (drop (suc c) css))
-around [] c l = absurd (omega arith)
-around (cs ∷ css) zero l = refl
-around (cs ∷ css) (suc c) l =
-    ap (λ (xs : List ℕ). cs ++ xs) (around css c (omega arith))
-    ∙ sym (append_assoc cs (concat (take c css)) (list_in css c ++ concat (drop (suc c) css)))
-
--- those before and those behind
-pub cut : (css : Lists) (c : ℕ) → concat (take c css) ++ concat (drop c css) ≡ concat css
-cut css c = sym (concat-append (take c css) (drop c css)) ∙ ap concat (take-append-drop c css)
-
--- what is before the c-th list
-pub length-before : (n c : ℕ) (css : Lists) → AreLong n css → c ≤ length css → c * 1024 ≤ n
-    → length (concat (take c css)) ≡ c * 1024
-length-before n zero css h l m = omega arith
-length-before n (suc c) [] h l m = absurd (omega arith)
-length-before n (suc c) (cs ∷ css) h l m =
-    let e = h 0 (omega arith) in
-    let r = length-before (n - 1024) c css (AreLong-rest n cs css h) (omega arith) (omega arith) in
+pub count-suc : (css : Lists) (c : ℕ) → c < length css
+    → count_to css (suc c) ≡ count_to css c + length (list_in css c)
+count-suc [] c l = absurd (omega arith)
+count-suc (cs ∷ css) zero l = let e = ap length (append-nil cs) in omega arith
+count-suc (cs ∷ css) (suc c) l =
+    let r = count-suc css c (omega arith) in
+    let a = length-append cs (concat (take (suc c) css)) in
     let b = length-append cs (concat (take c css)) in
     omega arith
 
--- a list replaced, with what is before it and what falls out of it
-pub replaced : (css : Lists) (c : ℕ) (ns ms : List ℕ) → c < length css
-    → concat (take (suc c) (slice_set css c ns)) ++ (ms ++ concat (drop (suc c) (slice_set css c ns)))
-    ≡ concat (take c css) ++ ((ns ++ ms) ++ concat (drop (suc c) css))
-replaced [] c ns ms l = absurd (omega arith)
-replaced (cs ∷ css) zero ns ms l =
-    ap (λ (xs : List ℕ). xs ++ (ms ++ concat css)) (append-nil ns)
-    ∙ sym (append_assoc ns ms (concat css))
-replaced (cs ∷ css) (suc c) ns ms l =
-    append_assoc cs (concat (take (suc c) (slice_set css c ns)))
-    (ms ++ concat (drop (suc c) (slice_set css c ns)))
-    ∙ ap (λ (xs : List ℕ). cs ++ xs) (replaced css c ns ms (omega arith))
-    ∙ sym (append_assoc cs (concat (take c css)) ((ns ++ ms) ++ concat (drop (suc c) css)))
+pub count-all : (css : Lists) → count_to css (length css) ≡ length (concat css)
+count-all css = ap (λ (xs : Lists). length (concat xs)) (take_all (length css) css (omega arith))
 
--- a place put into its list
-pub put_first : (n rank x : ℕ) (css : Lists) (ns ms : List ℕ) → AreLong n css → n < length css * 1024
-    → rank ≤ n → ns ++ ms ≡ insert (list_in css (rank / 1024)) (rank % 1024) x
-    → concat (take (rank / 1024 + 1) (slice_set css (rank / 1024) ns))
-    ++ (ms ++ concat (drop (rank / 1024 + 1) (slice_set css (rank / 1024) ns)))
-    ≡ insert (concat css) rank x
-put_first n rank x css ns ms h l m e =
-    let c : ℕ = rank / 1024 in
-    let i : ℕ = rank % 1024 in
-    let s : rank / 1024 + 1 ≡ suc c = omega arith in
-    let inside : c < length css = omega arith in
-    let long = h c inside in
-    let before = length-before n c css h (omega arith) (omega arith) in
-    let off : rank - c * 1024 ≡ i = omega arith in
-    ap (λ (j : ℕ). concat (take j (slice_set css c ns))
-    ++ (ms ++ concat (drop j (slice_set css c ns)))) s
-    ∙ replaced css c ns ms inside
-    ∙ ap (λ (xs : List ℕ). concat (take c css) ++ (xs ++ concat (drop (suc c) css))) e
-    ∙ ap (λ (xs : List ℕ). concat (take c css) ++ xs)
-    (sym (insert-append_left (list_in css c) (concat (drop (suc c) css)) i x (omega arith)))
-    ∙ ap (λ (j : ℕ). concat (take c css) ++ insert (list_in css c ++ concat (drop (suc c) css)) j x)
-    (sym off)
-    ∙ sym (insert-append_right (concat (take c css)) (list_in css c ++ concat (drop (suc c) css))
-    (c * 1024) rank x before (omega arith))
-    ∙ ap (λ (xs : List ℕ). insert xs rank x) (sym (around css c inside))
+pub count-most : (css : Lists) (c : ℕ) → count_to css c ≤ length (concat css)
+count-most css zero = omega arith
+count-most [] (suc c) = omega arith
+count-most (cs ∷ css) (suc c) =
+    let r = count-most css c in
+    let a = length-append cs (concat (take c css)) in
+    let b = length-append cs (concat css) in
+    omega arith
 
--- what fell out of the lists before put into the next one
-pub put_next : (c x : ℕ) (css : Lists) (ns ms : List ℕ) → c < length css
-    → ns ++ ms ≡ x ∷ list_in css c
-    → concat (take (c + 1) (slice_set css c ns))
-    ++ (ms ++ concat (drop (c + 1) (slice_set css c ns)))
-    ≡ concat (take c css) ++ (x ∷ concat (drop c css))
-put_next c x css ns ms l e =
-    let s : c + 1 ≡ suc c = omega arith in
-    ap (λ (j : ℕ). concat (take j (slice_set css c ns))
-    ++ (ms ++ concat (drop j (slice_set css c ns)))) s
-    ∙ replaced css c ns ms l
-    ∙ ap (λ (xs : List ℕ). concat (take c css) ++ (xs ++ concat (drop (suc c) css))) e
-    ∙ ap (λ (xs : List ℕ). concat (take c css) ++ (x ∷ xs)) (behind css c l)
-  where
-    behind : (css : Lists) (c : ℕ) → c < length css
-        → list_in css c ++ concat (drop (suc c) css) ≡ concat (drop c css)
-    behind [] c l = absurd (omega arith)
-    behind (cs ∷ css) zero l = refl
-    behind (cs ∷ css) (suc c) l = behind css c (omega arith)
+-- a list replaced changes nothing before it
+pub count-set : (css : Lists) (c k : ℕ) (ns : List ℕ) → k ≤ c
+    → count_to (slice_set css c ns) k ≡ count_to css k
+count-set css c k ns l = ap (λ (xs : Lists). length (concat xs)) (take-set-le k css c ns l)
 
--- ---- a place taken out
+-- ---- a place of a list
+
+pub at_index : (css : Lists) (c i : ℕ) → c < length css → i < length (list_in css c)
+    → slice_index_or (concat css) (count_to css c + i) 0 ≡ slice_index_or (list_in css c) i 0
+at_index [] c i l m = absurd (omega arith)
+at_index (cs ∷ css) zero i l m =
+    let e : 0 + i ≡ i = omega arith in
+    ap (λ (k : ℕ). slice_index_or (cs ++ concat css) k 0) e ∙ get_or-append cs (concat css) 0 i m
+at_index (cs ∷ css) (suc c) i l m =
+    let a = length-append cs (concat (take c css)) in
+    let k : ℕ = length (cs ++ concat (take c css)) + i in
+    let off : k - length cs ≡ count_to css c + i = omega arith in
+    get_or-append_right cs (concat css) (length cs) k 0 refl (omega arith)
+    ∙ ap (λ (j : ℕ). slice_index_or (concat css) j 0) off ∙ at_index css c i (omega arith) m
+
+got-append : (xs ys : List ℕ) (i x : ℕ) → slice_get (xs ++ ys) i ≡ Some x
+    → (slice_get xs i ≡ Some x) ⊎ ((j : ℕ) × (slice_get ys j ≡ Some x))
+got-append [] ys i x e = inr (i, e)
+got-append (z ∷ xs) ys zero x e = inl e
+got-append (z ∷ xs) ys (suc i) x e = got-append xs ys i x e
+
+-- what is in no list is nowhere
+pub nowhere : (css : Lists) (x : ℕ)
+    → ((c i : ℕ) → c < length css → slice_get (list_in css c) i ≢ Some x)
+    → (rank : ℕ) → slice_get (concat css) rank ≢ Some x
+nowhere [] x none rank e = absurd cc
+nowhere (cs ∷ css) x none rank e =
+    elim (got-append cs (concat css) rank x e) [
+      | inl f ↦ none 0 rank (omega arith) f
+      | inr f ↦ nowhere css x (λ c i l. none (suc c) i (omega arith)) f.0 f.1
+    ]
+
+-- ---- a place put in or taken out
+
+pub put_at : (css : Lists) (c i x : ℕ) → c < length css → i ≤ length (list_in css c)
+    → concat (slice_set css c (insert (list_in css c) i x))
+    ≡ insert (concat css) (count_to css c + i) x
+put_at [] c i x l m = absurd (omega arith)
+put_at (cs ∷ css) zero i x l m =
+    let e : i ≡ 0 + i = omega arith in
+    sym (insert-append_left cs (concat css) i x m)
+    ∙ ap (λ (k : ℕ). insert (cs ++ concat css) k x) e
+put_at (cs ∷ css) (suc c) i x l m =
+    let a = length-append cs (concat (take c css)) in
+    let k : ℕ = length (cs ++ concat (take c css)) + i in
+    let off : count_to css c + i ≡ k - length cs = omega arith in
+    ap (λ (xs : List ℕ). cs ++ xs) (put_at css c i x (omega arith) m)
+    ∙ ap (λ (j : ℕ). cs ++ insert (concat css) j x) off
+    ∙ sym (insert-append_right cs (concat css) (length cs) k x refl (omega arith))
 
 remove-append_left : (xs ys : List ℕ) (i : ℕ) → i < length xs
     → remove (xs ++ ys) i ≡ remove xs i ++ ys
@@ -161,41 +108,57 @@ remove-append_right (x ∷ xs) ys i =
     ap (remove (x ∷ xs ++ ys)) e
     ∙ ap (λ (zs : List ℕ). x ∷ zs) (remove-append_right xs ys i)
 
-set_around : (css : Lists) (c : ℕ) (ns : List ℕ) → c < length css
-    → concat (slice_set css c ns) ≡ concat (take c css) ++ (ns ++ concat (drop (suc c) css))
-set_around [] c ns l = absurd (omega arith)
-set_around (cs ∷ css) zero ns l = refl
-set_around (cs ∷ css) (suc c) ns l =
-    ap (λ (xs : List ℕ). cs ++ xs) (set_around css c ns (omega arith))
-    ∙ sym (append_assoc cs (concat (take c css)) (ns ++ concat (drop (suc c) css)))
+pub taken_at : (css : Lists) (c i : ℕ) → c < length css → i < length (list_in css c)
+    → concat (slice_set css c (remove (list_in css c) i))
+    ≡ remove (concat css) (count_to css c + i)
+taken_at [] c i l m = absurd (omega arith)
+taken_at (cs ∷ css) zero i l m =
+    let e : i ≡ 0 + i = omega arith in
+    sym (remove-append_left cs (concat css) i m) ∙ ap (remove (cs ++ concat css)) e
+taken_at (cs ∷ css) (suc c) i l m =
+    let a = length-append cs (concat (take c css)) in
+    let e : length cs + (count_to css c + i) ≡ length (cs ++ concat (take c css)) + i =
+    omega arith in
+    ap (λ (xs : List ℕ). cs ++ xs) (taken_at css c i (omega arith) m)
+    ∙ sym (remove-append_right cs (concat css) (count_to css c + i))
+    ∙ ap (remove (cs ++ concat css)) e
 
--- a place taken out of its list
-pub take_first : (n rank : ℕ) (css : Lists) (ns : List ℕ) → AreLong n css → n < length css * 1024
-    → rank < n → ns ≡ remove (list_in css (rank / 1024)) (rank % 1024)
-    → concat (slice_set css (rank / 1024) ns) ≡ remove (concat css) rank
-take_first n rank css ns h l m e =
-    let c : ℕ = rank / 1024 in
-    let i : ℕ = rank % 1024 in
-    let inside : c < length css = omega arith in
-    let long = h c inside in
-    let before = length-before n c css h (omega arith) (omega arith) in
-    let off : length (concat (take c css)) + i ≡ rank = omega arith in
-    set_around css c ns inside
-    ∙ ap (λ (xs : List ℕ). concat (take c css) ++ (xs ++ concat (drop (suc c) css))) e
-    ∙ ap (λ (xs : List ℕ). concat (take c css) ++ xs)
-    (sym (remove-append_left (list_in css c) (concat (drop (suc c) css)) i (omega arith)))
-    ∙ sym (remove-append_right (concat (take c css)) (list_in css c ++ concat (drop (suc c) css)) i)
-    ∙ ap (remove (concat (take c css) ++ (list_in css c ++ concat (drop (suc c) css)))) off
-    ∙ ap (λ (xs : List ℕ). remove xs rank) (sym (around css c inside))
+-- ---- lists in parts
 
--- the first of a list moved to the end of the one before
-pub moved_up : (css : Lists) (c x : ℕ) (rest : List ℕ) → suc c < length css
-    → list_in css (suc c) ≡ x ∷ rest
-    → concat (slice_set (slice_set css (suc c) rest) c (list_in css c ++ x ∷ [])) ≡ concat css
-moved_up [] c x rest l e = absurd (omega arith)
-moved_up (cs ∷ []) c x rest l e = absurd (omega arith)
-moved_up (cs ∷ ds ∷ css) zero x rest l e =
-    append_assoc cs (x ∷ []) (rest ++ concat css)
-    ∙ ap (λ (xs : List ℕ). cs ++ (xs ++ concat css)) (sym e)
-moved_up (cs ∷ ds ∷ css) (suc c) x rest l e =
-    ap (λ (xs : List ℕ). cs ++ xs) (moved_up (ds ∷ css) c x rest (omega arith) e)
+-- the second part of a list behind the first one
+pub halved : (css : Lists) (c : ℕ) (xs ys : List ℕ) → c < length css → xs ++ ys ≡ list_in css c
+    → concat (insert (slice_set css c xs) (suc c) ys) ≡ concat css
+halved [] c xs ys l e = absurd (omega arith)
+halved (cs ∷ css) zero xs ys l e =
+    sym (append_assoc xs ys (concat css)) ∙ ap (λ (zs : List ℕ). zs ++ concat css) e
+halved (cs ∷ css) (suc c) xs ys l e =
+    ap (λ (zs : List ℕ). cs ++ zs) (halved css c xs ys (omega arith) e)
+
+-- a last list without a place
+pub without_last : (css : Lists) (cs : List ℕ) → cs ≡ []
+    → concat (css ++ cs ∷ []) ≡ concat css
+without_last css cs e =
+    concat-append css (cs ∷ []) ∙ ap (λ (xs : List ℕ). concat css ++ (xs ++ [])) e
+    ∙ append-nil (concat css)
+
+-- one list more
+pub one_more : (css : Lists) (c : ℕ) → c < length css
+    → concat (take (c + 1) css) ≡ concat (take c css) ++ list_in css c
+one_more css c l =
+    ap concat (take_more css c [] l) ∙ concat-append (take c css) (list_in css c ∷ [])
+    ∙ ap (λ (xs : List ℕ). concat (take c css) ++ xs) (append-nil (list_in css c))
+
+-- one list more, which is replaced
+pub one_more_set : (css : Lists) (c : ℕ) (ns : List ℕ) → c < length css
+    → concat (take (c + 1) (slice_set css c ns)) ≡ concat (take c css) ++ ns
+one_more_set css c ns l =
+    ap concat (take_more_set css c ns l) ∙ concat-append (take c css) (ns ∷ [])
+    ∙ ap (λ (xs : List ℕ). concat (take c css) ++ xs) (append-nil ns)
+
+-- some more elements of a list
+pub take_part : (n m : ℕ) (xs : List ℕ) → take (n + m) xs ≡ take n xs ++ take m (drop n xs)
+take_part zero m xs = let e : 0 + m ≡ m = omega arith in ap (λ (k : ℕ). take k xs) e
+take_part (suc n) m [] = take_all (suc n + m) [] (omega arith) ∙ sym (take_all m [] (omega arith))
+take_part (suc n) m (x ∷ xs) =
+    let e : suc n + m ≡ suc (n + m) = omega arith in
+    ap (λ (k : ℕ). take k (x ∷ xs)) e ∙ ap (λ (ys : List ℕ). x ∷ ys) (take_part n m xs)

@@ -1,14 +1,15 @@
 -- Laws of orders of keys that are brought up to date.
 use Rattle.std.specs.Prelude.{◌≢◌, T, nat_lt, slice_get, slice_set, slice_index_or}
-use Rattle.std.proofs.Common.{◌≡◌, ℕ, zero, suc, ◌+◌, ◌-◌, ◌<◌, ◌≤◌, List, [], ◌∷◌, ◌++◌, length, Some, None, Bool, true, false, cond, refl, sym, ap, subst, ◌∙◌, arith}
+use Rattle.std.proofs.Common.{◌≡◌, ℕ, zero, suc, ◌+◌, ◌<◌, ◌≤◌, List, [], ◌∷◌, ◌++◌, length, Some, None, Bool, true, false, cond, refl, sym, ap, subst, ◌∙◌, inl, inr, arith}
 use Rattle.std.specs.List.{filter, insert, range_with_len}
 use Rattle.std.specs.Ordering.{is_lt, ordering_reverse}
 use Rattle.std.specs.declared.cmp.Ordering.{Ordering}
 use Rattle.std.specs.declared.cmp.Ordering.TheVariants.{Less, Equal, Greater}
 use Rattle.std.specs.Cmp.Lexicographic.{nat_list_cmp_total}
 use Rattle.std.specs.FinMap.{get, entries, entries_sorted, values}
+use Rattle.std.proofs.lemmas.Bool.{cases_lt}
 use Rattle.std.proofs.lemmas.Bool.Decides.{nat_tests}
-use Rattle.std.proofs.lemmas.List.{get_or-set_same, get_or-set_other, get_or_push, length-append, length-set}
+use Rattle.std.proofs.lemmas.List.{get_or-set_same, get_or-set_other, get_or_past, get_or_push, length-append}
 use Rattle.std.proofs.lemmas.List.FromFn.{length-range_with_len, get_or-range_with_len}
 use Rattle.std.proofs.lemmas.Option.{slice_get-get_or, slice_get_within, get_or_from_slice_get}
 use Rattle.isa_model.specs.Machine.MapContents.{key_order}
@@ -17,12 +18,11 @@ use Rattle.maps.proofs.InsertLaws.{below-below, pair_in, rising, length-inserted
 use Rattle.maps.specs.Maps.{MapState, IsMap}
 use Rattle.live_maps.specs.declared.place_serials.Since.{Since}
 use Rattle.live_maps.specs.declared.place_serials.Since.TheVariants.{Same, Gone, Given, New}
-use Rattle.live_maps.specs.Kept.{AllSame, AreFresh, AreGone, Covers, HaveCome, IsBefore, IsRising, NotBefore, after, is_same, is_same_at, looked, since_in}
-use Rattle.live_maps.specs.Numbering.{AreDistinct, place_in}
-use Rattle.live_maps.proofs.NumberingLaws.{key_at, value_index, values-distinct, values-few, values-within}
-use Rattle.live_maps.proofs.KeptLaws.{since_inside}
-use Rattle.live_maps.proofs.OrderLaws.{out-values}
-use Rattle.live_maps.proofs.PlaceLists.{IsOut, distinct-filter, distinct-once, either_equal, filter-agree, filter-all, filter-without, in-filter, inserted, length-filter_less, none_without, out_still, out_without, pairs-filter, without}
+use Rattle.live_maps.specs.PlaceOrders.{AllSame, AreGone, AreNoted, HaveCome, IsBefore, IsRising, NotBefore, after, is_same, is_same_at, looked, since_in}
+use Rattle.live_maps.specs.Numbering.{place_in}
+use Rattle.live_maps.proofs.NumberingLaws.{key_at, value_index, values-distinct, values-few}
+use Rattle.live_maps.proofs.PlaceOrderLaws.{since_inside}
+use Rattle.live_maps.proofs.PlaceLists.{IsOut, either_equal, filter-agree, filter-all, in-filter, inserted, length-filter_less, out_still, out_without, pairs-filter, without}
 
 -- ---- where something became of a value
 
@@ -296,7 +296,7 @@ out-taken places i p since order at before =
 
 -- at the end, what is left is what nothing became of
 pub out-all : (noted : List ℕ) (room : ℕ) (since : List Since) (order first : List ℕ) (i : ℕ)
-    → Covers noted room since → length (looked noted room (length since)) ≤ i
+    → AreNoted noted room since → length (looked noted room (length since)) ≤ i
     → AreOut (looked noted room (length since)) i since order
     → filter (is_same_at since) order ≡ filter (is_same_at since) first
     → order ≡ filter (is_same_at since) first
@@ -326,7 +326,7 @@ has_come (New n) same gone = (n, refl)
 -- ---- what is noted
 
 covers_all : (noted : List ℕ) (room : ℕ) (since : List Since) → room ≤ length noted
-    → Covers noted room since
+    → AreNoted noted room since
 covers_all noted room since past p other = (
   p,
   ap (λ (xs : List ℕ). slice_get xs p) (looked-all noted room (length since) past)
@@ -347,11 +347,11 @@ either_less (suc a) (suc b) A less most =
 
 -- a place that is noted
 pub covers-push : (noted : List ℕ) (room : ℕ) (since : List Since) (p : ℕ) (s : Since)
-    → length noted < room → Covers noted room since
-    → Covers (noted ++ p ∷ []) room (slice_set since p s)
+    → length noted < room → AreNoted noted room since
+    → AreNoted (noted ++ p ∷ []) room (slice_set since p s)
 covers-push noted room since p s l covers =
     let more = length-append noted (p ∷ []) in
-    either_less (length (noted ++ p ∷ [])) room (Covers (noted ++ p ∷ []) room (slice_set since p s))
+    either_less (length (noted ++ p ∷ [])) room (AreNoted (noted ++ p ∷ []) room (slice_set since p s))
     (λ still q other.
     let all = looked-noted (noted ++ p ∷ []) room (length (slice_set since p s)) still in
     either_equal q p ((i : ℕ) × (slice_get (looked (noted ++ p ∷ []) room
@@ -371,5 +371,26 @@ covers-push noted room since p s l covers =
 
 -- one that could not be noted
 pub covers-full : (noted : List ℕ) (room : ℕ) (since : List Since) → room ≤ length noted
-    → Covers noted room since
+    → AreNoted noted room since
 covers-full noted room since past = covers_all noted room since past
+
+-- ---- nothing has become of the values of the first places
+
+abbrev pub AreSame : ℕ → List Since → Type 0
+AreSame n since = (p : ℕ) → p < n → since_in since p ≡ Same
+
+pub same_next : (n : ℕ) (since : List Since) → n < length since → AreSame n since
+    → AreSame (n + 1) (slice_set since n Same)
+same_next n since l before p m =
+    either_equal p n (since_in (slice_set since n Same) p ≡ Same)
+    (λ same.
+    subst (λ (i : ℕ). since_in (slice_set since n Same) i ≡ Same) (sym same)
+    (get_or-set_same since n Same Same l))
+    (λ other. get_or-set_other since n p Same Same other ∙ before p (omega arith))
+
+pub same_all : (n : ℕ) (since : List Since) → length since ≤ n → AreSame n since → AllSame since
+same_all n since l before p =
+    elim (cases_lt p (length since)) [
+      | inl s ↦ before p (omega arith)
+      | inr s ↦ get_or_past since p Same s
+    ]

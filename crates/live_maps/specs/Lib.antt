@@ -1,4 +1,4 @@
-pub mod Kept
 pub mod Live
 pub mod Numbering
+pub mod PlaceOrders
 pub mod Ranks

@@ -1,6 +1,6 @@
 -- The numbering at the start of a run: values have the serials 0, 1, .., map by map, and in each by
 -- the bytes of their keys.
-use Rattle.std.proofs.Common.{◌≡◌, ℕ, ◌+◌, ◌^◌, ◌<◌, ◌≤◌, List, Option, map, take, length, Some}
+use Rattle.std.proofs.Common.{◌≡◌, ℕ, ◌+◌, ◌^◌, ◌<◌, ◌≤◌, List, take, length, Some}
 use Rattle.std.specs.Prelude.{slice_index_or}
 use Rattle.std.specs.FinMap.{values}
 use Rattle.isa_model.specs.Running.Runs.{count_map_values}

@@ -1,46 +1,63 @@
--- Places in an order, in chunks.
-use Rattle.std.specs.Prelude.{◌≡◌, ℕ, ◌+◌, ◌-◌, ◌*◌, ◌/◌, ◌<◌, ◌≤◌, ◌^◌, List, ◌++◌, length, map, min, slice_index_or, Option}
-use Rattle.std.specs.List.{concat, insert}
-use Rattle.std.specs.Option.{option_to_list}
-use Rattle.std.specs.declared.collections.VecDeque.{VecDeque}
-use Rattle.std.specs.VecDeque.{deque_len, deque_capacity}
+-- Places in an order, in chunks, one after another.
+use Rattle.std.specs.Prelude.{◌≡◌, ℕ, ◌+◌, ◌/◌, ◌<◌, ◌≤◌, ◌^◌, List, [], length, map, min, take, slice_index_or, vec_capacity}
+use Rattle.std.specs.List.{concat}
+use Rattle.std.specs.declared.alloc.Global.{Global}
+use Rattle.std.specs.declared.vec.Vec.{Vec}
+use Rattle.live_maps.specs.declared.chunks.Chunks.{Chunks}
 
 -- places in an order, and how many there is room for
 pub record Ranked : Type 0 where
   pub places : List ℕ
   pub room : ℕ
 
--- how many of n places the c-th chunk has, each 1024 before the next has any
-abbrev pub longest : ℕ → ℕ → ℕ
-longest n c = min (n - c * 1024) 1024
+-- how many places the first c lists have
+abbrev pub count_to : List (List ℕ) → ℕ → ℕ
+count_to lists c = length (concat (take c lists))
 
-module _ {Z : Type 0} where
-  -- the places of each chunk
-  abbrev pub chunk_lists : List (VecDeque ℕ Z) → List (List ℕ)
-  chunk_lists chunks = map (λ q. q.items) chunks
+-- at which ranks the first n lists begin
+abbrev pub Begin : ℕ → List (List ℕ) → List ℕ → Type 0
+Begin n lists starts = (c : ℕ) → c < n → slice_index_or starts c 0 ≡ count_to lists c
 
-  abbrev pub all_places : List (VecDeque ℕ Z) → List ℕ
-  all_places chunks = concat (chunk_lists chunks)
+-- the places of each chunk
+abbrev pub lists_of : List (Vec ℕ Global) → List (List ℕ)
+lists_of chunks = map (λ q. q.items) chunks
 
-  -- the c-th of the chunks that n places are in, with room for as many as it needs of `room` places
-  pub record IsChunk (n room c : ℕ) (q : VecDeque ℕ Z) : Type 0 where
-    pub items : length q.items ≡ longest n c
-    pub len : deque_len q ≡ longest n c
-    pub capacity : longest room c ≤ deque_capacity q
+abbrev pub all_places : List (Vec ℕ Global) → List ℕ
+all_places chunks = concat (lists_of chunks)
 
-  -- the chunks of n places, with room for `room`
-  pub record AreChunks (n room : ℕ) (chunks : List (VecDeque ℕ Z)) : Type 0 where
-    pub few : n ≤ room
-    pub small : room < 2 ^ 32
-    pub count : length chunks ≡ room / 1024 + 1
-    pub each : (c : ℕ) (d : VecDeque ℕ Z) → c < length chunks
-        → IsChunk n room c (slice_index_or chunks c d)
+-- a chunk, where there is room for `room` places in all
+pub record IsChunk (room : ℕ) (q : Vec ℕ Global) : Type 0 where
+  pub most : length q.items ≤ 1024
+  pub capacity : min room 1024 ≤ vec_capacity q
 
-  -- a chunk with a place more, of which the last has gone if there was no room for it
-  pub record PutsInto (old : VecDeque ℕ Z) (i place : ℕ) (last : Option ℕ) (new : VecDeque ℕ Z)
-      : Type 0 where
-    pub items : new.items ++ option_to_list last ≡ insert old.items i place
-    pub len : deque_len new + length (option_to_list last) ≡ deque_len old + 1
-    pub most : deque_len new ≤ 1024
-    pub full : length (option_to_list last) ≡ deque_len old / 1024
-    pub capacity : deque_capacity old ≤ deque_capacity new
+-- the places are no more than there is room for, and it is known where each chunk begins
+pub record AreChunks (k : Chunks) : Type 0 where
+  pub few : length (all_places k.chunks.items) ≤ k.room
+  pub small : k.room < 2 ^ 32
+  pub listed : k.room ≤ vec_capacity k.list
+  pub count : length k.chunks.items ≡ k.room / 400 + 1
+  pub long : length k.starts.items ≡ length k.chunks.items
+  pub each : (c : ℕ) (d : Vec ℕ Global) → c < length k.chunks.items
+      → IsChunk k.room (slice_index_or k.chunks.items c d)
+  pub begin : Begin (length k.chunks.items) (lists_of k.chunks.items) k.starts.items
+
+-- the place at a rank is in the c-th chunk
+pub record IsIn (rank c : ℕ) (chunks : List (Vec ℕ Global)) : Type 0 where
+  pub inside : c < length chunks
+  pub low : count_to (lists_of chunks) c ≤ rank
+  pub high : rank < count_to (lists_of chunks) (c + 1)
+
+-- a place can be put at a rank into the c-th chunk
+pub record IsSpot (rank c : ℕ) (chunks : List (Vec ℕ Global)) : Type 0 where
+  pub inside : c < length chunks
+  pub low : count_to (lists_of chunks) c ≤ rank
+  pub high : rank ≤ count_to (lists_of chunks) (c + 1)
+
+-- the c-th chunk has less places than it may have
+abbrev pub IsShort : ℕ → List (Vec ℕ Global) → Type 0
+IsShort c chunks = length (slice_index_or (lists_of chunks) c []) < 1024
+
+-- the same places in chunks
+abbrev pub SamePlaces : Chunks → Chunks → Type 0
+SamePlaces old new =
+    (all_places new.chunks.items ≡ all_places old.chunks.items) × (new.room ≡ old.room)

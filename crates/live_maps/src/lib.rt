@@ -3,6 +3,8 @@
 #![tactic(auto)]
 
 mod asked;
+mod chunks;
+mod hints;
 pub mod live;
 mod numbering;
 mod place_serials;

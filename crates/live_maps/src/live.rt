@@ -37,7 +37,7 @@ impl Model for LiveMaps {
     ghost use Rattle.std.specs.Prelude.{vec_capacity};
     ghost use Rattle.maps.specs.Maps.{rows_of};
     ghost use Rattle.live_maps.specs.Live.{Live, live_contents};
-    ghost use Rattle.live_maps.specs.Kept.{AreLiveMaps, serials_in};
+    ghost use Rattle.live_maps.specs.PlaceOrders.{AreLiveMaps, serials_in};
 
     ghost Value = { Live };
 

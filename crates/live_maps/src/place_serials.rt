@@ -6,10 +6,10 @@ ghost use Rattle.std.specs.FinMap.{values};
 ghost use Rattle.maps.specs.Maps.{map_at};
 ghost use Rattle.live_maps.specs.Live.{serial_in, has_serial};
 ghost use Rattle.live_maps.specs.Numbering.{AreDistinct};
-ghost use Rattle.live_maps.specs.Kept.{AllSame, AreWithin, IsKept, IsLater, given_now, is_given, serials_of, since_in, taken_now, with_since};
+ghost use Rattle.live_maps.specs.PlaceOrders.{AllSame, ArePlacesBelow, IsLater, IsOrderOf, given_now, is_given, serials_of, since_in, taken_now, with_since};
 
 use crate::ranks::Ranks;
-use crate::reordering::{put_in, since_at, take_out};
+use crate::reordering::{list_places, reorder, since_at};
 use map_indexes::rooms::exact;
 use maps::Maps;
 use std::alloc::{AllocError, Global};
@@ -109,9 +109,9 @@ pub struct PlaceSerials {
 
 impl Model for PlaceSerials {
     ghost use Rattle.std.specs.Prelude.{◌≡◌, ◌+◌, ◌/◌, ◌≤◌, ◌^◌, length, vec_capacity};
-    ghost use Rattle.live_maps.specs.Kept.{Covers, Kept};
+    ghost use Rattle.live_maps.specs.PlaceOrders.{AreNoted, PlaceOrder};
 
-    ghost Value = { Kept };
+    ghost Value = { PlaceOrder };
 
     ghost view = { λ t. record {
       order = t.ranks.places;
@@ -121,7 +121,7 @@ impl Model for PlaceSerials {
     } };
 
     // there is room for the places and no more, and for some more serials that are given
-    ghost invariant = { λ t. (Covers t.noted.items (vec_capacity t.noted) t.since.items)
+    ghost invariant = { λ t. (AreNoted t.noted.items (vec_capacity t.noted) t.since.items)
         × (t.first ≤ 2 ^ 32)
         × (vec_capacity t.since ≡ length t.since.items)
         × (vec_capacity t.noted ≡ length t.since.items)
@@ -141,13 +141,8 @@ fn ranks_of(
     ensures room { IfOk result (λ r. r.room ≡ (map_at maps.now map).row.entries) }
     ensures capacity { vec_capacity list.new ≡ vec_capacity list.old }
 {
-    maps.say_fits();
-    maps.list_places(map, list);
     let mut ranks = Ranks::new(alloc, maps.row(map).entries)?;
-    for place in list.as_slice() {
-        let last = ranks.len();
-        ranks.insert(last, *place);
-    }
+    list_places(maps, map, &mut ranks, list);
     Ok(ranks)
 }
 
@@ -199,7 +194,7 @@ impl PlaceSerials {
     // The place that has a serial of the last numbering, if it has it still.
     fn numbered(&self, serial: u64) -> Option<usize>
         requires distinct { AreDistinct self.now.order }
-        requires inside { AreWithin (length self.now.since) self.now.order }
+        requires inside { ArePlacesBelow (length self.now.since) self.now.order }
         ensures found { IfSome result (λ p. serial_in (serials_of self.now) p ≡ Some serial) }
         ensures none { IfNone result (IsLater serial self.now) }
     {
@@ -234,7 +229,7 @@ impl PlaceSerials {
     /// The place that has a serial, if there is one, where no two places have it.
     pub fn find(&self, serial: u64) -> Option<usize>
         requires distinct { AreDistinct self.now.order }
-        requires inside { AreWithin (length self.now.since) self.now.order }
+        requires inside { ArePlacesBelow (length self.now.since) self.now.order }
         requires once { (p q : ℕ) → serial_in (serials_of self.now) p ≡ Some serial
             → serial_in (serials_of self.now) q ≡ Some serial → p ≡ q }
         ensures { result ≡ position (has_serial serial) (serials_of self.now) }
@@ -299,7 +294,7 @@ impl PlaceSerials {
     pub fn number(&mut self, maps: &Maps, map: usize, first: u64) -> u64
         requires map { map < length maps.now }
         requires few { first ≤ 2 ^ 32 }
-        requires kept { IsKept (map_at maps.now map) self.old }
+        requires kept { IsOrderOf (map_at maps.now map) self.old }
         ensures count { result ≡ length (values (map_at maps.now map).places) }
         ensures order { self.new.order ≡ values (map_at maps.now map).places }
         ensures room { self.new.room ≡ self.old.room }
@@ -307,13 +302,12 @@ impl PlaceSerials {
         ensures long { length self.new.since ≡ length self.old.since }
         ensures same { AllSame self.new.since }
     {
-        take_out(&mut self.ranks, self.since.as_slice(), &self.noted);
-        put_in(
+        reorder(
             maps,
             map,
             &mut self.ranks,
             self.since.as_mut_slice(),
-            &self.noted,
+            &mut self.noted,
         );
         self.noted.clear();
         self.given.clear();

@@ -4,7 +4,7 @@ ghost use Rattle.std.specs.Prelude.{◌≡◌, ◌<◌, ◌≤◌, ℕ, List, le
 ghost use Rattle.std.specs.List.{filter};
 ghost use Rattle.std.specs.FinMap.{get, values};
 ghost use Rattle.maps.specs.Maps.{map_at};
-ghost use Rattle.live_maps.specs.Kept.{AllSame, AreFresh, AreGone, Covers, HaveCome, IsBefore, IsRising, NotBefore, is_same_at, looked, places_without, since_in};
+ghost use Rattle.live_maps.specs.PlaceOrders.{AllSame, AreFresh, AreGone, AreNoted, HaveCome, IsBefore, IsRising, NotBefore, is_same_at, looked, places_without, since_in};
 ghost use Rattle.live_maps.specs.Numbering.{AreDistinct};
 
 use crate::place_serials::Since;
@@ -55,11 +55,25 @@ fn take_place(ranks: &mut Ranks, place: usize)
     }
 }
 
-/// Takes the places out of an order that had a value at the last numbering which they lost.
-pub fn take_out(ranks: &mut Ranks, since: &[Since], noted: &Vec<usize>)
+/// Has the places of all keys in an order, by a list that has room for them.
+pub fn list_places(maps: &Maps, map: usize, ranks: &mut Ranks, list: &mut Vec<usize>)
+    requires map { map < length maps.now }
+    requires room { ranks.old.room ≡ (map_at maps.now map).row.entries }
+    requires list { (map_at maps.now map).row.entries ≤ vec_capacity list.old }
+    ensures places { ranks.new.places ≡ values (map_at maps.now map).places }
+    ensures room { ranks.new.room ≡ ranks.old.room }
+    ensures list { vec_capacity list.new ≡ vec_capacity list.old }
+{
+    maps.say_fits();
+    maps.list_places(map, list);
+    ranks.refill(list.as_slice());
+}
+
+// Takes the places out of an order that had a value at the last numbering which they lost.
+fn take_out(ranks: &mut Ranks, since: &[Since], noted: &Vec<usize>)
     requires distinct { AreDistinct ranks.old.places }
     requires fresh { AreFresh since.now ranks.old.places }
-    requires covers { Covers noted.now.items (vec_capacity noted.now) since.now }
+    requires covers { AreNoted noted.now.items (vec_capacity noted.now) since.now }
     ensures places { ranks.new.places ≡ filter (is_same_at since.now) ranks.old.places }
     ensures room { ranks.new.room ≡ ranks.old.room }
 {
@@ -114,19 +128,19 @@ fn put_place(maps: &Maps, map: usize, ranks: &mut Ranks, place: usize, since: &m
     maps.say_fits();
     let rank = rank_for(maps, map, ranks, place);
     since[place] = Since::Same;
-    ranks.insert(rank, place);
+    ranks.insert(rank, place as u32);
 }
 
-/// Puts the places of the keys that have come into the order of the others. Then nothing has become
-/// of any value since.
-pub fn put_in(maps: &Maps, map: usize, ranks: &mut Ranks, since: &mut [Since], noted: &Vec<usize>)
+// Puts the places of the keys that have come into the order of the others. Then nothing has become
+// of any value since.
+fn put_in(maps: &Maps, map: usize, ranks: &mut Ranks, since: &mut [Since], noted: &Vec<usize>)
     requires map { map < length maps.now }
     requires order { ranks.old.places
         ≡ filter (is_same_at since.old) (values (map_at maps.now map).places) }
     requires gone { AreGone since.old (map_at maps.now map).places }
     requires came { HaveCome since.old (map_at maps.now map).places }
     requires room { ranks.old.room ≡ (map_at maps.now map).row.entries }
-    requires covers { Covers noted.now.items (vec_capacity noted.now) since.old }
+    requires covers { AreNoted noted.now.items (vec_capacity noted.now) since.old }
     ensures places { ranks.new.places ≡ values (map_at maps.now map).places }
     ensures room { ranks.new.room ≡ ranks.old.room }
     ensures same { AllSame since.new }
@@ -138,5 +152,54 @@ pub fn put_in(maps: &Maps, map: usize, ranks: &mut Ranks, since: &mut [Since], n
             Since::Gone => since[place] = Since::Same,
             _ => put_place(maps, map, ranks, place, since),
         }
+    }
+}
+
+// Lists the places of all keys anew. Then nothing has become of any value since.
+fn list_anew(maps: &Maps, map: usize, ranks: &mut Ranks, since: &mut [Since], list: &mut Vec<usize>)
+    requires map { map < length maps.now }
+    requires room { ranks.old.room ≡ (map_at maps.now map).row.entries }
+    requires list { (map_at maps.now map).row.entries ≤ vec_capacity list.old }
+    ensures places { ranks.new.places ≡ values (map_at maps.now map).places }
+    ensures room { ranks.new.room ≡ ranks.old.room }
+    ensures same { AllSame since.new }
+    ensures long { length since.new ≡ length since.old }
+    ensures list { vec_capacity list.new ≡ vec_capacity list.old }
+{
+    list_places(maps, map, ranks, list);
+    for place in 0..since.len() {
+        since[place] = Since::Same;
+    }
+}
+
+/// Brings the order of a map's keys up to date. Then nothing has become of any value since.
+pub fn reorder(
+    maps: &Maps,
+    map: usize,
+    ranks: &mut Ranks,
+    since: &mut [Since],
+    noted: &mut Vec<usize>,
+)
+    requires map { map < length maps.now }
+    requires distinct { AreDistinct ranks.old.places }
+    requires order { filter (is_same_at since.old) ranks.old.places
+        ≡ filter (is_same_at since.old) (values (map_at maps.now map).places) }
+    requires fresh { AreFresh since.old ranks.old.places }
+    requires gone { AreGone since.old (map_at maps.now map).places }
+    requires came { HaveCome since.old (map_at maps.now map).places }
+    requires room { ranks.old.room ≡ (map_at maps.now map).row.entries }
+    requires covers { AreNoted noted.old.items (vec_capacity noted.old) since.old }
+    requires list { (map_at maps.now map).row.entries ≤ vec_capacity noted.old }
+    ensures places { ranks.new.places ≡ values (map_at maps.now map).places }
+    ensures room { ranks.new.room ≡ ranks.old.room }
+    ensures same { AllSame since.new }
+    ensures long { length since.new ≡ length since.old }
+    ensures list { vec_capacity noted.new ≡ vec_capacity noted.old }
+{
+    if noted.len() > since.len() / 2 {
+        list_anew(maps, map, ranks, since, noted);
+    } else {
+        take_out(ranks, since, noted);
+        put_in(maps, map, ranks, since, noted);
     }
 }

@@ -2,7 +2,7 @@
 
 ghost use Rattle.std.specs.Prelude.{◌≡◌, ◌<◌, ℕ, length, IfOk, Some, None, slice_set, vec_len, vec_capacity};
 ghost use Rattle.std.specs.List.{position};
-ghost use Rattle.live_maps.specs.Kept.{AreFresh, AreKept, AreWithin, given_now, kept_at, serials_in, since_in, taken_now, with_since};
+ghost use Rattle.live_maps.specs.PlaceOrders.{AreFresh, AreOrdersOf, ArePlacesBelow, given_now, kept_at, serials_in, since_in, taken_now, with_since};
 ghost use Rattle.live_maps.specs.Live.{serial_in, serials_at, has_serial};
 ghost use Rattle.live_maps.specs.Numbering.{AreDistinct};
 
@@ -13,7 +13,7 @@ use std::alloc::{AllocError, Global};
 /// The serials of all maps' values, in each map from 0 on.
 pub fn serials_for(alloc: Global, maps: &Maps) -> Result<Vec<PlaceSerials>, AllocError>
     ensures room { IfOk result (λ all. vec_capacity all ≡ length maps.now) }
-    ensures kept { IfOk result (λ all. AreKept maps.now all.items) }
+    ensures kept { IfOk result (λ all. AreOrdersOf maps.now all.items) }
 {
     let mut all = Vec::with_capacity(alloc, maps.count())?;
     for m in 0..maps.count() {
@@ -36,7 +36,7 @@ pub fn serial_at(all: &Vec<PlaceSerials>, index: usize, place: usize) -> Option<
 /// or there is no map with this index.
 pub fn find_serial(all: &Vec<PlaceSerials>, index: usize, serial: u64) -> Option<usize>
     requires distinct { index < vec_len all.now → AreDistinct (kept_at all.now.items index).order }
-    requires within { index < vec_len all.now → AreWithin
+    requires within { index < vec_len all.now → ArePlacesBelow
         (length (kept_at all.now.items index).since) (kept_at all.now.items index).order }
     requires once { (p q : ℕ)
         → serial_in (serials_at (serials_in all.now.items) index) p ≡ Some serial

@@ -2,24 +2,24 @@ use Rattle.std.proofs.Common.{◌≡◌, ◌∙◌, ap, subst, ℕ, length, arit
 use Rattle.std.specs.Prelude.{slice_set}
 use Rattle.std.specs.FinMap.{values}
 use Rattle.maps.specs.Maps.{IsMap, map_at}
-use Rattle.live_maps.specs.Kept.{IsKept, Kept, kept_at, serials_in, serials_of}
+use Rattle.live_maps.specs.PlaceOrders.{IsOrderOf, PlaceOrder, kept_at, serials_in, serials_of}
 use Rattle.live_maps.specs.Numbering.{NumbersAll, count_before}
-use Rattle.live_maps.proofs.KeptLaws.{IsKept-numbered, NumbersAll-kept, length-serials_in, length-serials_of, serials_at-kept, serials_in-set}
+use Rattle.live_maps.proofs.PlaceOrderLaws.{IsOrderOf-numbered, NumbersAll-kept, length-serials_in, length-serials_of, serials_at-kept, serials_in-set}
 use Rattle.live_maps.proofs.NumberingLaws.{numbers-next, count_before-suc, count_before-all, values-few}
-use Rattle.live_maps.proofs.OrderLaws.{AreKept-numbered, kept_found}
+use Rattle.live_maps.proofs.OrderLaws.{AreOrdersOf-numbered, kept_found}
 use Rattle.live_maps.proofs.numbering.number_all.Goals as goal
 use Rattle.live_maps.proofs.numbering.number_all.Goals.{After-index_mut}
 
 -- what is kept of the map that is next
 here : (c : After-index_mut)
-    → IsKept (map_at c.args.maps.now c.loop-m.m) c.index_mut.result.now
+    → IsOrderOf (map_at c.args.maps.now c.loop-m.m) c.index_mut.result.now
 here c =
     let m = c.loop-m.m in
     let kept = c.loop-m.invariant.kept in
     let long = kept.long in
     let count = c.count-m-end.ensures.count in
     let test = c.loop-m-test.true in
-    subst (λ (k : Kept). IsKept (map_at c.args.maps.now m) k)
+    subst (λ (k : PlaceOrder). IsOrderOf (map_at c.args.maps.now m) k)
     (kept_found c.loop-m.all.items m c.index_mut.result.now _ (omega arith)
     c.index_mut.ensures.value)
     (kept.each m (omega arith))
@@ -54,7 +54,7 @@ loop-m-preserved c =
     let x = map_at maps m in
     let i = c.loop-m.invariant in
     let items = c.loop-m.all.items in
-    let k : Kept = c.number-next.new.self in
+    let k : PlaceOrder = c.number-next.new.self in
     let done = c.number-next.ensures in
     let is : IsMap x = c.count-m-end.ensures.maps m _ (omega arith) in
     let row = is.is_row.few_entries in
@@ -72,8 +72,8 @@ loop-m-preserved c =
     record {
       room = i.room;
       kept =
-          AreKept-numbered maps items m k (omega arith)
-          (IsKept-numbered x k is done.order long (done.room ∙ before.room) done.same) i.kept;
+          AreOrdersOf-numbered maps items m k (omega arith)
+          (IsOrderOf-numbered x k is done.order long (done.room ∙ before.room) done.same) i.kept;
       numbers =
           numbers-next maps (serials_in items) (serials_in (slice_set items m k)) m (serials_of k)
           (omega arith) (serials_in-set items m k) i.numbers

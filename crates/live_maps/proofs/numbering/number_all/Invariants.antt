@@ -4,14 +4,14 @@ use Rattle.std.specs.FinMap.{values}
 use Rattle.isa_model.specs.Code.Limits.{max_map_entries}
 use Rattle.maps.specs.Maps.{map_at}
 use Rattle.live_maps.specs.Live.{serials_at}
-use Rattle.live_maps.specs.Kept.{AreKept, serials_in}
+use Rattle.live_maps.specs.PlaceOrders.{AreOrdersOf, serials_in}
 use Rattle.live_maps.specs.Numbering.{NumbersAll, count_before}
 use Rattle.live_maps.proofs.numbering.number_all.Given as goal
 
 abbrev pub invariant-loop-m : goal.invariant-loop-m
 invariant-loop-m l = record {
   room : vec_capacity l.all ≡ vec_capacity l.initial.all;
-  kept : AreKept l.maps l.all.items;
+  kept : AreOrdersOf l.maps l.all.items;
   numbers : (k : ℕ) → k < l.m → NumbersAll (count_before l.maps k) (values (map_at l.maps k).places)
       (serials_at (serials_in l.all.items) k);
   next : l.next ≡ count_before l.maps l.m;

@@ -4,7 +4,7 @@ use Rattle.std.specs.List.{filter}
 use Rattle.std.specs.FinMap.{values}
 use Rattle.maps.specs.Maps.{map_at}
 use Rattle.live_maps.specs.declared.place_serials.Since.{Since}
-use Rattle.live_maps.specs.Kept.{AllSame, AreGone, HaveCome, after, is_same_at, looked}
+use Rattle.live_maps.specs.PlaceOrders.{AllSame, AreGone, HaveCome, after, is_same_at, looked}
 use Rattle.live_maps.specs.Ranks.{Ranked}
 use Rattle.live_maps.proofs.OrderLaws.{out-values}
 use Rattle.live_maps.proofs.ReorderLaws.{AreGone-set, HaveCome-set, IsLeft, all_same, has_come, left-next, left-none, left-set, still_same}

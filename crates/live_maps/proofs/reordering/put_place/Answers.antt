@@ -4,7 +4,7 @@ use Rattle.std.specs.List.{filter, insert}
 use Rattle.std.specs.FinMap.{values}
 use Rattle.maps.specs.Maps.{IsMap, map_at}
 use Rattle.live_maps.specs.declared.place_serials.Since.TheVariants.{Same}
-use Rattle.live_maps.specs.Kept.{IsRising, is_same_at}
+use Rattle.live_maps.specs.PlaceOrders.{IsRising, is_same_at}
 use Rattle.live_maps.proofs.ReorderLaws.{put_one, rising-filter, rising-values, room_for_one}
 use Rattle.live_maps.proofs.reordering.put_place.Goals as goal
 use Rattle.live_maps.proofs.reordering.put_place.Goals.{After-rank_for-rank}

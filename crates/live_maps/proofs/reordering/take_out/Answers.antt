@@ -1,7 +1,7 @@
 use Rattle.std.proofs.Common.{◌≡◌, ◌+◌, ◌∙◌, ℕ, List, true, false, length, sym, ap, subst, arith}
 use Rattle.std.specs.Prelude.{vec_capacity}
 use Rattle.std.specs.List.{filter}
-use Rattle.live_maps.specs.Kept.{AreFresh, is_same, is_same_at, looked, since_in}
+use Rattle.live_maps.specs.PlaceOrders.{AreFresh, is_same, is_same_at, looked, since_in}
 use Rattle.live_maps.specs.Numbering.{AreDistinct}
 use Rattle.live_maps.specs.Ranks.{Ranked}
 use Rattle.live_maps.proofs.PlaceLists.{distinct-filter, filter-without, out_still}

@@ -1,5 +1,5 @@
-use Rattle.std.proofs.Common.{length, sym, arith}
-use Rattle.live_maps.proofs.KeptLaws.{given_all, places_of}
+use Rattle.std.proofs.Common.{arith}
+use Rattle.live_maps.proofs.PlaceOrderLaws.{given_all, places_of}
 use Rattle.live_maps.proofs.serials.give_serial.Goals as goal
 
 pub give-requires : goal.give-requires

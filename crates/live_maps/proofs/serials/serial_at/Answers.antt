@@ -1,5 +1,5 @@
 use Rattle.std.proofs.Common.{arith}
-use Rattle.live_maps.proofs.KeptLaws.{places_of}
+use Rattle.live_maps.proofs.PlaceOrderLaws.{places_of}
 use Rattle.live_maps.proofs.serials.serial_at.Goals as goal
 
 pub at-requires-clause-inside : goal.at-requires-clause-inside

@@ -1,7 +1,7 @@
 use Rattle.std.proofs.Common.{◌<◌, ◌∙◌, List, length, sym, subst, arith}
 use Rattle.maps.specs.Maps.{IsMap, map_at}
-use Rattle.live_maps.specs.Kept.{IsKept, Kept, kept_at}
-use Rattle.live_maps.proofs.KeptLaws.{IsKept-numbered, kept-push}
+use Rattle.live_maps.specs.PlaceOrders.{IsOrderOf, PlaceOrder, kept_at}
+use Rattle.live_maps.proofs.PlaceOrderLaws.{IsOrderOf-numbered, kept-push}
 use Rattle.live_maps.proofs.serials.serials_for.Goals as goal
 
 pub loop-m-preserved : goal.loop-m-preserved
@@ -15,18 +15,18 @@ loop-m-preserved c =
     let inside : m < length maps = omega arith in
     let is : IsMap (map_at maps m) = c.count-m-end.ensures.maps m _ inside in
     let made = c.in_ok-new.ensures in
-    let k : Kept = c.in_ok-new.field-0 in
+    let k : PlaceOrder = c.in_ok-new.field-0 in
     let vector = c.loop-m.all.ok.0 in
     let len = inv.len in
     let pushed = c.push_reserved.ensures in
     let more = pushed.len in
-    let one : IsKept (map_at maps m) k =
-    IsKept-numbered (map_at maps m) k is made.order made.long made.room made.same in
+    let one : IsOrderOf (map_at maps m) k =
+    IsOrderOf-numbered (map_at maps m) k is made.order made.long made.room made.same in
     record {
       len = omega arith;
       room = pushed.capacity ∙ inv.room;
       kept = λ j l.
-          subst (λ (xs : List Kept). IsKept (map_at maps j) (kept_at xs j)) (sym pushed.items)
+          subst (λ (xs : List PlaceOrder). IsOrderOf (map_at maps j) (kept_at xs j)) (sym pushed.items)
           (kept-push maps old m k (omega arith) inv.kept one j l);
     }
 

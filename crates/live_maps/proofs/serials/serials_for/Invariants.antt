@@ -1,12 +1,12 @@
 use Rattle.std.proofs.Common.{◌≡◌, ◌<◌, ℕ, length}
 use Rattle.std.specs.Prelude.{vec_len, vec_capacity}
 use Rattle.maps.specs.Maps.{map_at}
-use Rattle.live_maps.specs.Kept.{IsKept, kept_at}
+use Rattle.live_maps.specs.PlaceOrders.{IsOrderOf, kept_at}
 use Rattle.live_maps.proofs.serials.serials_for.Given as goal
 
 abbrev pub invariant-loop-m : goal.invariant-loop-m
 invariant-loop-m l = record {
   len : vec_len l.all ≡ l.m;
   room : vec_capacity l.all ≡ length l.maps;
-  kept : (k : ℕ) → k < l.m → IsKept (map_at l.maps k) (kept_at l.all.items k);
+  kept : (k : ℕ) → k < l.m → IsOrderOf (map_at l.maps k) (kept_at l.all.items k);
 }

@@ -1,5 +1,5 @@
-use Rattle.std.proofs.Common.{length, sym, arith}
-use Rattle.live_maps.proofs.KeptLaws.{taken_all, places_of}
+use Rattle.std.proofs.Common.{arith}
+use Rattle.live_maps.proofs.PlaceOrderLaws.{taken_all, places_of}
 use Rattle.live_maps.proofs.serials.take_away.Goals as goal
 
 pub take-requires : goal.take-requires

@@ -4,7 +4,7 @@ use Rattle.isa_model.specs.Machine.States.{KeyValues, key_values_of}
 use Rattle.isa_model.specs.Machine.MachineStates.{FitRows}
 use Rattle.maps.proofs.MapLaws.{FitRows-IsMap}
 use Rattle.maps.specs.Maps.{rows_of}
-use Rattle.live_maps.specs.Kept.{serials_in}
+use Rattle.live_maps.specs.PlaceOrders.{serials_in}
 use Rattle.live_maps.specs.Live.{Live}
 use Rattle.live_maps.proofs.ContentLaws.{key_values_of-live_contents}
 use Rattle.live_maps.proofs.live.LiveMaps.count.Goals as goal

@@ -1,15 +1,15 @@
-use Rattle.std.proofs.Common.{◌≡◌, ◌∙◌, refl, sym, ap, subst, List, ℕ, length, Some, None, false, arith}
+use Rattle.std.proofs.Common.{◌≡◌, ◌∙◌, refl, sym, ap, subst, List, ℕ, length, Some, None, arith}
 use Rattle.std.specs.Prelude.{IsSomeAnd, slice_get, slice_set, vec_capacity, ◌==◌, if◌then◌else◌}
-use Rattle.std.specs.FinMap.{get, values}
+use Rattle.std.specs.FinMap.{get}
 use Rattle.isa_model.specs.declared.map_defs.MapDef.{MapDef}
 use Rattle.isa_model.specs.Machine.MapContents.{delete_answer}
 use Rattle.maps.specs.Maps.{MapState, Deleted, map_at}
 use Rattle.live_maps.specs.Live.{Live, Serials, AreLive, content_at, serials_at, without}
-use Rattle.live_maps.specs.Kept.{AreKept, AreLiveMaps, Kept, kept_at, serials_in, since_in, taken_now, with_since}
+use Rattle.live_maps.specs.PlaceOrders.{AreLiveMaps, AreOrdersOf, PlaceOrder, kept_at, serials_in, since_in, taken_now, with_since}
 use Rattle.live_maps.proofs.ContentLaws.{live_of}
 use Rattle.live_maps.proofs.LiveLaws.{live-removed, live-same, deleted_there, delete_answer-live}
 use Rattle.live_maps.proofs.LookUpLaws.{lookup-present}
-use Rattle.live_maps.proofs.OrderLaws.{AreKept-taken}
+use Rattle.live_maps.proofs.OrderLaws.{AreOrdersOf-taken}
 use Rattle.live_maps.proofs.OneChanged.{OneChanged, row_known, one_changed, row_seen, still_kept}
 use Rattle.live_maps.proofs.live.LiveMaps.delete.Goals as goal
 use Rattle.live_maps.proofs.live.LiveMaps.delete.Goals.{In-Some, In_default, Else-answer-eq0}
@@ -154,7 +154,7 @@ take_away-requires-clause-fresh c =
 -- what is kept of the maps without the key
 kept_taken : (c : In-Some) → OneChanged (Size c.args.key.now) c.self.inside.maps
     c.delete-answer.new.maps c.args.map
-    → AreKept c.delete-answer.new.maps (slice_set c.self.inside.serials.items c.args.map
+    → AreOrdersOf c.delete-answer.new.maps (slice_set c.self.inside.serials.items c.args.map
     (with_since (kept_at c.self.inside.serials.items c.args.map) c.in-Some.place
     (taken_now (since_in (kept_at c.self.inside.serials.items c.args.map).since c.in-Some.place))))
 kept_taken c d =
@@ -162,7 +162,7 @@ kept_taken c d =
     let m = c.args.map in
     let del = deleted c.delete-answer.result c.if-answer-eq0.true c.args.key.now (map_at i.maps m)
     (map_at c.delete-answer.new.maps m) c.delete-answer.ensures.deleted in
-    AreKept-taken i.next i.maps c.delete-answer.new.maps i.serials.items m c.args.key.now
+    AreOrdersOf-taken i.next i.maps c.delete-answer.new.maps i.serials.items m c.args.key.now
     c.in-Some.place c.self.invariant.2 c.self.invariant.3 d.inside c.delete-answer.ensures.others
     del.row (had c) (del.deletes.removes refl) (lives c d).0
 
@@ -179,7 +179,7 @@ invariant_of-self c =
     c.self.invariant c.delete-answer.ensures.others
     (subst (λ (a : List Serials). AreLive i.next new a) (sym c.take_away.ensures.taken)
     (lives w.In-Some d).0)
-    (subst (λ (a : List Kept). AreKept new a) (sym c.take_away.ensures.kept)
+    (subst (λ (a : List PlaceOrder). AreOrdersOf new a) (sym c.take_away.ensures.kept)
     (kept_taken w.In-Some d)))
 
 pub invariant_of-self-in_default : goal.invariant_of-self-in_default

@@ -3,7 +3,7 @@ use Rattle.std.specs.Prelude.{IsSomeAnd, slice_get}
 use Rattle.isa_model.specs.declared.map_defs.MapDef.{MapDef}
 use Rattle.isa_model.specs.declared.map_defs.MapType.TheVariants.{Array}
 use Rattle.isa_model.specs.Machine.Steps.{one_serial}
-use Rattle.live_maps.specs.Kept.{serials_in}
+use Rattle.live_maps.specs.PlaceOrders.{serials_in}
 use Rattle.live_maps.specs.Live.{Live, content_at}
 use Rattle.live_maps.proofs.ContentLaws.{rows_of-known}
 use Rattle.live_maps.proofs.LookUpLaws.{only-present}

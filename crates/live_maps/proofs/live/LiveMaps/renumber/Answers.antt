@@ -2,7 +2,7 @@ use Rattle.std.proofs.Common.{◌≡◌, ◌∙◌, ℕ, List, map, sym, ap, sub
 use Rattle.isa_model.specs.Machine.States.{KeyValues, key_values_of}
 use Rattle.isa_model.specs.Running.Runs.{numbered_maps, count_map_values}
 use Rattle.maps.specs.Maps.{rows_of, contents_of}
-use Rattle.live_maps.specs.Kept.{serials_in}
+use Rattle.live_maps.specs.PlaceOrders.{serials_in}
 use Rattle.live_maps.specs.Live.{Live, AreLive}
 use Rattle.live_maps.proofs.ContentLaws.{live_of, key_values_of-live_contents}
 use Rattle.live_maps.proofs.NumberingLaws.{AreLive-numbered, numbered-all}

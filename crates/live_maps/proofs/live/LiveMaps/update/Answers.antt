@@ -7,10 +7,10 @@ use Rattle.map_indexes.specs.PlaceKeys.{TakesPlace}
 use Rattle.maps.proofs.ContentLaws.{get-taken}
 use Rattle.maps.specs.Maps.{MapState, Updated, map_at}
 use Rattle.live_maps.specs.Live.{Live, Serials, AreLive, place_if_new, content_at, serials_at, with_bytes}
-use Rattle.live_maps.specs.Kept.{AreKept, AreLiveMaps, Kept, given_now, kept_at, serials_in, since_in, with_since}
+use Rattle.live_maps.specs.PlaceOrders.{AreLiveMaps, AreOrdersOf, PlaceOrder, given_now, kept_at, serials_in, since_in, with_since}
 use Rattle.live_maps.proofs.ContentLaws.{live_of}
 use Rattle.live_maps.proofs.LiveLaws.{live-updated, live-added, live-same, not_zero, updated_there, place_if_new-Some, place_if_new-None, update_answer-live}
-use Rattle.live_maps.proofs.OrderLaws.{AreKept-given, AreKept-set}
+use Rattle.live_maps.proofs.OrderLaws.{AreOrdersOf-given, AreOrdersOf-set}
 use Rattle.live_maps.proofs.OneChanged.{OneChanged, row_known, one_changed, row_seen, still_kept}
 use Rattle.live_maps.proofs.live.LiveMaps.update.Goals as goal
 use Rattle.live_maps.proofs.live.LiveMaps.update.Goals.{In-Some, In_default, Else-answer-eq0}
@@ -216,7 +216,7 @@ give_serial-requires-clause-place c =
 -- what is kept of the maps with the new key
 kept_given : (c : In-Some) → OneChanged (Sizes c.args.key.now c.args.value.now)
     c.self.inside.maps c.update-answer.new.maps c.args.map
-    → AreKept c.update-answer.new.maps (slice_set c.self.inside.serials.items c.args.map
+    → AreOrdersOf c.update-answer.new.maps (slice_set c.self.inside.serials.items c.args.map
     (with_since (kept_at c.self.inside.serials.items c.args.map) c.in-Some.place
     (given_now c.self.inside.next
     (since_in (kept_at c.self.inside.serials.items c.args.map).since c.in-Some.place))))
@@ -232,7 +232,7 @@ kept_given c d =
     sym (get-taken (map_at i.maps m).places (map_at c.update-answer.new.maps m).places
     c.args.key.now w.place (w.taken none)) ∙ two.1 in
     let same : w.place ≡ c.in-Some.place = cc in
-    AreKept-given i.next i.maps c.update-answer.new.maps i.serials.items m c.args.key.now
+    AreOrdersOf-given i.next i.maps c.update-answer.new.maps i.serials.items m c.args.key.now
     c.in-Some.place c.self.invariant.2 c.self.invariant.3 d.inside c.update-answer.ensures.others
     u.row d.is none
     (subst (λ (p : ℕ). TakesPlace (map_at i.maps m).places c.args.key.now p
@@ -251,7 +251,7 @@ invariant_of-self c =
     later m c.self.invariant c.update-answer.ensures.others
     (subst (λ (a : List Serials). AreLive (suc i.next) new a) (sym c.give_serial.ensures.given)
     (added w.In-Some d).0)
-    (subst (λ (a : List Kept). AreKept new a) (sym c.give_serial.ensures.kept)
+    (subst (λ (a : List PlaceOrder). AreOrdersOf new a) (sym c.give_serial.ensures.kept)
     (kept_given w.In-Some d)) in
     subst (λ (n : ℕ). AreLiveMaps n (i.next + 1) new later) (sym c.give_serial.ensures.room)
     (subst (λ (n : ℕ). AreLiveMaps (vec_capacity i.serials) n new later) s kept)
@@ -269,7 +269,7 @@ invariant_of-self-in_default c =
     let p = had w.In_default in
     still_kept (vec_capacity i.serials) i.next i.next i.maps new i.serials.items i.serials.items m
     c.self.invariant others (written w.In_default d).0
-    (AreKept-set i.maps new i.serials.items m others d.inside u.row
+    (AreOrdersOf-set i.maps new i.serials.items m others d.inside u.row
     ((u.updates.writes refl).kept p.0 p.1) c.self.invariant.3)
 
 pub invariant_of-self-else-answer-eq0 : goal.invariant_of-self-else-answer-eq0

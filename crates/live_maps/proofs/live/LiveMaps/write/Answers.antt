@@ -1,12 +1,12 @@
 use Rattle.std.proofs.Common.{◌≡◌, ◌+◌, ◌≤◌, ◌∙◌, sym, ap, subst, length, List, ℕ, Option, arith}
 use Rattle.std.specs.Prelude.{IsSomeAnd, vec_capacity}
 use Rattle.maps.specs.Maps.{IsMap, map_at}
-use Rattle.live_maps.specs.Kept.{serials_in}
+use Rattle.live_maps.specs.PlaceOrders.{serials_in}
 use Rattle.live_maps.specs.Live.{Live, AreLive, content_at, serials_at, value_bytes, with_value}
 use Rattle.live_maps.proofs.ContentLaws.{live_of, length-changed_maps}
 use Rattle.live_maps.proofs.LiveLaws.{live-written}
 use Rattle.live_maps.proofs.LookUpLaws.{serials-once, serial_place-none, position-serial}
-use Rattle.live_maps.proofs.OrderLaws.{AreKept-set}
+use Rattle.live_maps.proofs.OrderLaws.{AreOrdersOf-set}
 use Rattle.live_maps.proofs.OneChanged.{Found, found_at, still_kept}
 use Rattle.live_maps.proofs.live.LiveMaps.write.Goals as goal
 use Rattle.live_maps.proofs.live.LiveMaps.write.Goals.{After-say_fits, In-Some}
@@ -63,7 +63,7 @@ invariant_of-self c =
     let w = c.write_value.ensures.written in
     still_kept (vec_capacity i.serials) i.next i.next i.maps new i.serials.items i.serials.items m
     c.self.invariant others (written at.After-say_fits f).0
-    (AreKept-set i.maps new i.serials.items m others f.inside w.row w.places c.self.invariant.3)
+    (AreOrdersOf-set i.maps new i.serials.items m others f.inside w.row w.places c.self.invariant.3)
 
 pub returns-in-Some : goal.returns-in-Some
 returns-in-Some c =

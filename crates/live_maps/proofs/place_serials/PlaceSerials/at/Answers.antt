@@ -2,16 +2,16 @@ use Rattle.std.proofs.Common.{◌≡◌, ℕ, List, Some, None, refl, sym, ap, s
 use Rattle.std.proofs.lemmas.Option.{slice_get_within}
 use Rattle.live_maps.specs.declared.place_serials.Since.{Since}
 use Rattle.live_maps.specs.declared.place_serials.Since.TheVariants.{Same, Gone, Given, New}
-use Rattle.live_maps.specs.Kept.{Kept, since_in, start_serial}
+use Rattle.live_maps.specs.PlaceOrders.{PlaceOrder, since_in, start_serial}
 use Rattle.live_maps.specs.Numbering.{AreDistinct}
-use Rattle.live_maps.proofs.KeptLaws.{serial_seen, start-at, start-out}
+use Rattle.live_maps.proofs.PlaceOrderLaws.{serial_seen, start-at, start-out}
 use Rattle.live_maps.proofs.place_serials.PlaceSerials.at.Goals as goal
 
 -- what became of the place, as contracts see it
-seen : (now k : Kept) (s : Since) (p : ℕ) (xs : List Since) → k ≡ now → xs ≡ k.since
+seen : (now k : PlaceOrder) (s : Since) (p : ℕ) (xs : List Since) → k ≡ now → xs ≡ k.since
     → s ≡ since_in xs p → s ≡ since_in now.since p
 seen now k s p xs view same e =
-    e ∙ ap (λ (l : List Since). since_in l p) same ∙ ap (λ (j : Kept). since_in j.since p) view
+    e ∙ ap (λ (l : List Since). since_in l p) same ∙ ap (λ (j : PlaceOrder). since_in j.since p) view
 
 pub overflow_add-result : goal.overflow_add-result
 overflow_add-result c =
@@ -27,12 +27,12 @@ overflow_add-result c =
 pub returns-in-Some : goal.returns-in-Some
 returns-in-Some c =
     let i = c.self.inside in
-    let distinct = subst (λ (k : Kept). AreDistinct k.order) (sym c.self.view_is)
+    let distinct = subst (λ (k : PlaceOrder). AreDistinct k.order) (sym c.self.view_is)
     c.requires.distinct in
     serial_seen c.args.self.now c.args.place Same _ c.requires.inside
     (seen c.args.self.now _ Same c.args.place _ c.self.view_is c.as_slice.ensures.value
     c.in-Same.ensures)
-    (ap (λ (k : Kept). start_serial k.first k.order c.args.place) (sym c.self.view_is)
+    (ap (λ (k : PlaceOrder). start_serial k.first k.order c.args.place) (sym c.self.view_is)
     ∙ start-at i.first c.args.place c.in-Some.rank i.ranks.places distinct
     c.in-Some.ensures.found)
 
@@ -42,7 +42,7 @@ returns-in-None c =
     serial_seen c.args.self.now c.args.place Same None c.requires.inside
     (seen c.args.self.now _ Same c.args.place _ c.self.view_is c.as_slice.ensures.value
     c.in-Same.ensures)
-    (ap (λ (k : Kept). start_serial k.first k.order c.args.place) (sym c.self.view_is)
+    (ap (λ (k : PlaceOrder). start_serial k.first k.order c.args.place) (sym c.self.view_is)
     ∙ start-out i.first c.args.place i.ranks.places c.in-None.ensures.none)
 
 pub returns-in-Gone : goal.returns-in-Gone

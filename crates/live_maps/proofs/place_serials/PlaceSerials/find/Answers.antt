@@ -1,8 +1,8 @@
 use Rattle.std.proofs.Common.{◌∙◌, List, sym, ap}
 use Rattle.std.specs.List.{position}
 use Rattle.live_maps.specs.declared.place_serials.Since.{Since}
-use Rattle.live_maps.specs.Kept.{Kept, is_given, serials_of}
-use Rattle.live_maps.proofs.KeptLaws.{position-later}
+use Rattle.live_maps.specs.PlaceOrders.{PlaceOrder, is_given, serials_of}
+use Rattle.live_maps.proofs.PlaceOrderLaws.{position-later}
 use Rattle.live_maps.proofs.LookUpLaws.{position-once}
 use Rattle.live_maps.proofs.place_serials.PlaceSerials.find.Goals as goal
 
@@ -20,5 +20,5 @@ pub returns-in-None-noted_place : goal.returns-in-None-noted_place
 returns-in-None-noted_place c =
     c.place_given.ensures
     ∙ ap (λ (l : List Since). position (is_given c.args.serial) l) c.as_slice.ensures.value
-    ∙ ap (λ (k : Kept). position (is_given c.args.serial) k.since) c.self.view_is
+    ∙ ap (λ (k : PlaceOrder). position (is_given c.args.serial) k.since) c.self.view_is
     ∙ position-later c.args.self.now c.args.serial c.in-None.ensures.none

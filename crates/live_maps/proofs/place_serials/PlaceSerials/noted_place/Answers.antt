@@ -1,16 +1,16 @@
 use Rattle.std.proofs.Common.{◌≡◌, ◌∙◌, ℕ, List, Bool, Some, sym, ap, true}
 use Rattle.live_maps.specs.declared.place_serials.Since.{Since}
-use Rattle.live_maps.specs.Kept.{Kept, is_given, serials_of, since_in}
+use Rattle.live_maps.specs.PlaceOrders.{PlaceOrder, is_given, serials_of, since_in}
 use Rattle.live_maps.specs.Live.{serial_in}
-use Rattle.live_maps.proofs.KeptLaws.{serial-given}
+use Rattle.live_maps.proofs.PlaceOrderLaws.{serial-given}
 use Rattle.live_maps.proofs.place_serials.PlaceSerials.noted_place.Goals as goal
 
-given_at : (now k : Kept) (p n : ℕ) (xs : List Since) (s : Since) (b : Bool) → k ≡ now
+given_at : (now k : PlaceOrder) (p n : ℕ) (xs : List Since) (s : Since) (b : Bool) → k ≡ now
     → xs ≡ k.since → s ≡ since_in xs p → b ≡ is_given n s → b ≡ true
     → serial_in (serials_of now) p ≡ Some n
 given_at now k p n xs s b view same e f t =
     serial-given now p n
-    (ap (λ (j : Kept). is_given n (since_in j.since p)) (sym view)
+    (ap (λ (j : PlaceOrder). is_given n (since_in j.since p)) (sym view)
     ∙ ap (λ (l : List Since). is_given n (since_in l p)) (sym same) ∙ ap (is_given n) (sym e)
     ∙ sym f ∙ t)
 

@@ -1,9 +1,9 @@
-use Rattle.std.proofs.Common.{◌≡◌, ◌+◌, ◌/◌, ◌≤◌, ◌<◌, ◌^◌, ◌++◌, ◌∷◌, [], ◌∙◌, ℕ, List, length, sym, ap, subst, arith}
+use Rattle.std.proofs.Common.{◌≡◌, ◌+◌, ◌/◌, ◌≤◌, ◌^◌, ◌++◌, ◌∷◌, [], ℕ, List, length, sym, subst, arith}
 use Rattle.std.specs.Prelude.{slice_set, vec_capacity}
 use Rattle.std.proofs.lemmas.List.{length-set}
 use Rattle.live_maps.specs.declared.place_serials.Since.{Since}
 use Rattle.live_maps.specs.declared.place_serials.PlaceSerials.TheInside.{Inside}
-use Rattle.live_maps.specs.Kept.{Covers}
+use Rattle.live_maps.specs.PlaceOrders.{AreNoted}
 use Rattle.live_maps.proofs.ReorderLaws.{covers-push, covers-full}
 use Rattle.live_maps.proofs.place_serials.PlaceSerials.set.Goals as goal
 use Rattle.live_maps.proofs.place_serials.PlaceSerials.set.Goals.{then-len-capacity, else-len-capacity}
@@ -11,7 +11,7 @@ use Rattle.live_maps.proofs.place_serials.PlaceSerials.set.Goals.{then-len-capac
 -- what holds once something became of a place
 abbrev Holds : Inside → ℕ → Since → Type 0
 Holds i p s =
-    (Covers i.noted.items (vec_capacity i.noted) (slice_set i.since.items p s))
+    (AreNoted i.noted.items (vec_capacity i.noted) (slice_set i.since.items p s))
     × (i.first ≤ 2 ^ 32)
     × (vec_capacity i.since ≡ length (slice_set i.since.items p s))
     × (vec_capacity i.noted ≡ length (slice_set i.since.items p s))
@@ -38,9 +38,9 @@ invariant_of-self c =
           let pushed = w.push_reserved.ensures in
           let same = pushed.capacity in
           subst (λ (j : Inside). Holds j p s) (sym w.self-inside-is) (
-            subst (λ (xs : List ℕ). Covers xs (vec_capacity w.push_reserved.new.self)
+            subst (λ (xs : List ℕ). AreNoted xs (vec_capacity w.push_reserved.new.self)
                 (slice_set i.since.items p s)) (sym pushed.items)
-                (subst (λ (n : ℕ). Covers (i.noted.items ++ p ∷ []) n
+                (subst (λ (n : ℕ). AreNoted (i.noted.items ++ p ∷ []) n
                 (slice_set i.since.items p s)) (sym pushed.capacity)
                 (covers-push i.noted.items (vec_capacity i.noted) i.since.items p s (omega arith)
                 inv.0)),
