@@ -158,8 +158,19 @@ def emptied(text: str, first: int, last: int) -> str:
     return "\n".join(lines)
 
 
+def messages(said: list[str]) -> list[str]:
+    """What a check printed, each message whole: a line that begins with two blanks goes on with the one before."""
+    found: list[str] = []
+    for it in said:
+        if it.startswith("  ") and found:
+            found[-1] += " " + it.strip()
+        else:
+            found.append(it)
+    return found
+
+
 def refusal(crate: str, name: str, said: list[str], texts: dict[str, str]) -> str | None:
-    """The line that says which goal of a function is not proved, or None."""
+    """The message that says which goal of a function is not proved, or None."""
     ends = rf"fn {crate}::((?:\S*::)?{re.escape(name)}): (not proved|no proof)"
     line = next(filter(None, (re.match(ends, it) for it in said)), None)
     if line is None:
@@ -167,7 +178,7 @@ def refusal(crate: str, name: str, said: list[str], texts: dict[str, str]) -> st
     if "did not prove" in line.string:
         return line.string
     own = f"proofs/{line[1].replace('::', '/')}/"
-    for it in said:
+    for it in messages(said):
         at = re.match(r"(?:note: )?(?:\./)?([\w/+-]+\.(?:antt|rt)):(\d+):\d+: (.*)", it)
         if at and at[1].startswith(own) and at[3].startswith("error") and not BY_NAME.search(at[3]):
             return it

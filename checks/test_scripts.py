@@ -274,6 +274,7 @@ class Edits(Tree):
             ([goal, fails], goal),
             ([note, fails], note),
             ([by_name, fails], None),
+            ([goal.replace("the goal does not follow", "record `Next` (nearest: .in-Ok)"), "  has no field `in-Err`", fails], None),
             ([beside, fails], None),
             ([told], told),
             ([goal, "fn low::Count::next: depends on a hole in `x`"], None),
