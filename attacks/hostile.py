@@ -6,7 +6,7 @@ usage: python3 attacks/hostile.py [PROGRAM [--few] [FAMILY ..]]
 PROGRAM is an optimized xdpvm (the default: crates/xdpvm/out/xdpvm). Each family is a few images up to the limits of an
 image: 4,096 slots, 8 call frames, 64 stack slots in each call frame, 16 maps. For each image it
 prints the processor seconds and the peak megabytes of `verify`, which searches a second time if it
-refuses, and its verdict. A run that takes longer than LIMIT seconds (the default: 60) or more than
+refuses for another reason than V19, and its verdict. A run that takes longer than LIMIT seconds (the default: 60) or more than
 ROOM megabytes (4000) is ended. The exit status is 1 if an image took over 10 seconds or 300
 megabytes. With --few, as in the gate, only those images are made that take the most time or memory
 of their kinds, and each may take 30 seconds, since a machine may be slow or busy.

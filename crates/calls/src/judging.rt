@@ -20,7 +20,7 @@ use control_flow::FlowError;
 use explorer::{Refusal, Verified, verify};
 use image::{Image, ImageError};
 use isa_model::MAX_EXPLORED;
-use listeners::{NoBound, verify_within};
+use listeners::{NoBound, Rejected, verify_within};
 use messages::{image_text, program_text};
 use std::alloc::Global;
 
@@ -74,21 +74,26 @@ pub fn verified_of(alloc: Global, image: &[u8]) -> Result<Verified, NotAccepted>
 fn write_refusal(
     alloc: Global,
     program: &Image,
-    refusal: Refusal,
-    slot: usize,
+    rejected: Rejected,
     why: &mut [u8],
     out: &mut Verdict,
 ) -> u32
-    ensures refused { result ≡ REFUSED → IsRefused program.now refusal slot
+    requires { IsRefused program.now rejected.refusal rejected.slot }
+    ensures refused { result ≡ REFUSED
         → FillsProgramRefusal program.now why.old why.new out.new }
     ensures why_kept { result ≢ REFUSED → why.new ≡ why.old }
     ensures memory { result ≡ MEMORY → out.new ≡ out.old }
     ensures status { (result ≡ REFUSED) ⊎ (result ≡ MEMORY) }
 {
+    let Rejected {
+        refusal,
+        slot,
+        path,
+    } = rejected;
     if is_memory(refusal) {
         return MEMORY;
     }
-    let Some(text) = program_text(alloc, program, refusal, slot, !why.is_empty()) else {
+    let Some(text) = program_text(alloc, program, refusal, slot, path, !why.is_empty()) else {
         return MEMORY;
     };
     *out = Verdict {
@@ -129,9 +134,7 @@ fn judge(alloc: Global, program: Image, limit: u32, why: &mut [u8], out: &mut Ve
             OK
         }
         Err(NoBound::Limit) => UNDECIDED,
-        Err(NoBound::Refused(refusal, slot)) => write_refusal(
-            alloc, &copy, refusal, slot, why, out,
-        ),
+        Err(NoBound::Refused(rejected)) => write_refusal(alloc, &copy, rejected, why, out),
     }
 }
 

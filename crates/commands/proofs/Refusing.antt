@@ -1,14 +1,16 @@
 -- What is said of a program that is refused.
-use Rattle.std.proofs.Common.{◌≡◌, ℕ, List, Option, subst, inl, inr}
+use Rattle.std.proofs.Common.{◌≡◌, ℕ, List, Option, subst, sym, inl, inr}
 use Rattle.isa_model.specs.declared.instructions.Insn.{Insn}
 use Rattle.isa_model.specs.{Program, fetch}
 use Rattle.walks.specs.declared.refusals.Refusal.{Refusal}
 use Rattle.walks.specs.Refused.{IsRefused}
 use Rattle.messages.specs.declared.rejections.Rejection.TheVariants as rejection
 use Rattle.commands.specs.declared.outcomes.TaskOutcome.{TaskOutcome}
-use Rattle.commands.specs.declared.outcomes.TaskOutcome.TheVariants.{Refused}
+use Rattle.commands.specs.declared.outcomes.TaskOutcome.TheVariants.{Done, WrongWords, Refused, Faulted, CannotRead, CannotWrite, CannotReplace, NoMemory}
 use Rattle.messages.specs.Lines.{verdict_line}
 use Rattle.commands.specs.Saying.{Says}
+use Rattle.commands.specs.Statuses.{IsWriteFailure}
+use Rattle.commands.specs.Known.{IfRefusal}
 use Rattle.commands.specs.Judging.{SaysRefused}
 use Rattle.commands.specs.Judging.{RefusesProgram}
 
@@ -28,3 +30,25 @@ program_refused p refusal slot insn old new r o is at e (inr said) =
           (λ (i : Option Insn). Says old new (verdict_line refusal slot)
           (Refused (rejection.Program refusal slot i)) r) at said.1,
     ))
+
+failure_refuses_none : (name : List ℕ) (r : TaskOutcome) (fact : Refusal → ℕ → Type 0)
+    → IsWriteFailure name r → IfRefusal r fact
+failure_refuses_none name Done fact h = absurd h
+failure_refuses_none name (WrongWords said) fact h = absurd h
+failure_refuses_none name (Refused refused) fact h = absurd h
+failure_refuses_none name (Faulted fault form) fact h = absurd h
+failure_refuses_none name (CannotRead path kind) fact h = absurd h
+failure_refuses_none name (CannotWrite path cause) fact h = tt
+failure_refuses_none name (CannotReplace path conflict) fact h = absurd h
+failure_refuses_none name NoMemory fact h = absurd h
+
+-- what holds of the refusal that was to be told, holds of the one with which the task ended
+pub refusal_told : (refusal : Refusal) (slot : ℕ) (insn : Option Insn)
+    (old new : Option (List ℕ)) (r : TaskOutcome) (fact : Refusal → ℕ → Type 0)
+    → fact refusal slot → SaysRefused refusal slot insn old new r → IfRefusal r fact
+refusal_told refusal slot insn old new r fact is (inl lacks) =
+    subst (λ (o : TaskOutcome). IfRefusal o fact) (sym lacks.0) tt
+refusal_told refusal slot insn old new r fact is (inr (other, inl (appends, same))) =
+    subst (λ (o : TaskOutcome). IfRefusal o fact) (sym same) is
+refusal_told refusal slot insn old new r fact is (inr (other, inr (begins, fails))) =
+    failure_refuses_none _ r fact fails

@@ -15,6 +15,7 @@ use Rattle.isa_model.specs.declared.instructions.Insn.{Insn}
 use Rattle.isa_model.specs.{Program}
 use Rattle.explanations.specs.declared.entries.EntryReason.{EntryReason}
 use Rattle.explanations.specs.Entries.{IsEntryReason}
+use Rattle.walks.specs.declared.refusals.Refusal.{Refusal}
 use Rattle.messages.specs.declared.rejections.Rejection.TheVariants as rejection
 use Rattle.messages.specs.Messages.{code_line}
 use Rattle.messages.specs.Reasons.{IsReason}
@@ -64,6 +65,11 @@ abbrev pub Tells : Program → TaskOutcome → Option (String Global) → Type 0
 Tells p (Refused (rejection.Program refusal slot insn)) why =
     IfSome why (λ text. IsReason p refusal slot (string_bytes text))
 Tells p outcome why = why ≡ None
+
+-- the fact holds of the refusal of a program and its slot, if the task ended with one
+abbrev pub IfRefusal : TaskOutcome → (Refusal → ℕ → Type 0) → Type 0
+IfRefusal (Refused (rejection.Program refusal slot insn)) fact = fact refusal slot
+IfRefusal outcome fact = Unit {0}
 
 abbrev pub IsKnownOfProgram : Program → Ending → Type 0
 IsKnownOfProgram p ending = Tells p ending.outcome ending.why

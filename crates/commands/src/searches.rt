@@ -8,8 +8,9 @@ ghost use Rattle.walks.specs.Counts.{HasNumber};
 ghost use Rattle.walks.specs.Refused.{IsRefused};
 
 use super::screens::Screen;
-use explorer::{Halt, Kept, Listener, Refusal, Verified, verify_with};
+use explorer::{Kept, Listener, Refusal, Verified};
 use image::Image;
+use listeners::{Rejected, Unverified, verify_followed};
 use stack_state::State;
 use std::alloc::Global;
 use std::convert::Infallible;
@@ -86,26 +87,27 @@ impl<R: Files + Clock> Listener for Counter<'_, R> {
 }
 
 /// Verifies a program as `verify` does. If that takes over a second and standard error is a
-/// terminal, the terminal shows how many instructions are explored, and is cleared at the end.
+/// terminal, the terminal shows how many instructions are explored, and is cleared at the end. A
+/// refusal comes with the path there, if the search came to its limit.
 pub fn verify_watched<R: Files + Clock>(
     rt: &R,
     alloc: Global,
     image: Image,
-) -> Result<Verified, (Refusal, usize)>
+) -> Result<Verified, Rejected>
     ensures program { IfOk result (λ verified. verified.program ≡ image) }
     ensures verified { IfOk result IsVerified }
-    ensures refused { IfErr result (λ r. IsRefused image r.0 r.1) }
+    ensures refused { IfErr result (λ r. IsRefused image r.refusal r.slot) }
     ensures number { IfOk result (λ verified. HasNumber image start verified.bound) }
-    ensures accepts { IfErr result (λ r. AcceptsAll image r.0) }
+    ensures accepts { IfErr result (λ r. AcceptsAll image r.refusal) }
     ensures bounds { IfOk result (λ verified. BoundsAll image verified.bound) }
 {
     let mut counter = Counter {
         explored: 0,
         screen: Screen::new(rt, alloc),
     };
-    match verify_with(alloc, image, &mut counter) {
+    match verify_followed(alloc, image, &mut counter) {
         Ok(verified) => Ok(verified),
-        Err(Halt::Refused(refusal, slot)) => Err((refusal, slot)),
-        Err(Halt::Stopped(never)) => match never {},
+        Err(Unverified::Rejected(rejected)) => Err(rejected),
+        Err(Unverified::Stopped(never)) => match never {},
     }
 }

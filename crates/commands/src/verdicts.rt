@@ -11,7 +11,8 @@ ghost use Rattle.bounds.specs.Bounds.{IsVerified};
 ghost use Rattle.stack_state.specs.Starts.{start};
 ghost use Rattle.walks.specs.Accepting.{BoundsAll};
 ghost use Rattle.walks.specs.Counts.{HasNumber};
-ghost use Rattle.commands.specs.Known.{IsKnownOfProgram};
+ghost use Rattle.walks.specs.Refused.{IsRefused};
+ghost use Rattle.commands.specs.Known.{IfRefusal, IsKnownOfProgram};
 
 use super::endings::Ending;
 use super::outcomes::{STANDARD_OUTPUT, TaskOutcome};
@@ -21,6 +22,7 @@ use control_flow::FlowError;
 use exact_io::write_bytes;
 use image::Image;
 use isa_model::Insn;
+use listeners::{Rejected, SearchPath};
 use messages::{Rejection, reason, verdict_line};
 use std::alloc::{AllocError, Global};
 use std::io::Write;
@@ -116,14 +118,21 @@ pub fn say_unwritten<'a, W: Write>(
 }
 
 // How a task that judged this program ended. If the program was refused, this looks for what is
-// known of the refusal; if memory runs out, nothing is.
-fn program_ending<'a>(alloc: Global, image: &Image, outcome: TaskOutcome<'a>) -> Ending<'a>
+// known of the refusal, by the path there if the search came to its limit; if memory runs out,
+// nothing is.
+fn program_ending<'a>(
+    alloc: Global,
+    image: &Image,
+    path: Option<SearchPath>,
+    outcome: TaskOutcome<'a>,
+) -> Ending<'a>
+    requires refused { IfRefusal outcome.entry (IsRefused image.now) }
     ensures outcome { result.outcome ≡ outcome.entry }
     ensures known { IsKnownOfProgram image.now result }
 {
     let why = match outcome {
         TaskOutcome::Refused(Rejection::Program(refusal, slot, _)) => {
-            reason(alloc, image, refusal, slot)
+            reason(alloc, image, refusal, slot, path)
         }
         _ => None,
     };
@@ -155,10 +164,16 @@ pub fn judge<'a, R: Files + Clock, W: Write>(
     };
     match verify_watched(rt, alloc, image) {
         Ok(verified) => Ok(verified),
-        Err((refusal, slot)) => {
+        Err(
+            Rejected {
+                refusal,
+                slot,
+                path,
+            },
+        ) => {
             let insn = copy.at(slot).copied();
             let outcome = say_refused(alloc, refusal, slot, insn, out);
-            Err(program_ending(alloc, &copy, outcome))
+            Err(program_ending(alloc, &copy, path, outcome))
         }
     }
 }

@@ -8,12 +8,12 @@ use Rattle.walks.specs.declared.explained.Jump.{Jump}
 use Rattle.walks.specs.declared.explained.Explanation.{Explanation}
 use Rattle.walks.specs.declared.refusals.Refusal.{Refusal}
 use Rattle.walks.specs.declared.refusals.Refusal.TheVariants.{Flow, Step, Repeats, TooLong, Memory}
-use Rattle.walks.specs.Forgetting.{Precision, Exact}
+use Rattle.walks.specs.Forgetting.{Precision, Exact, Coarse}
 use Rattle.walks.specs.Walks.{StepsTo}
 use Rattle.walks.specs.Refused.{StopsAt, StopsIn, IsRefused, precision_of}
 use Rattle.walks.specs.Explained.{IsLed, IsTurnBefore, ComesThrough, Explains}
 use Rattle.walks.specs.Explained.ComesThrough.{AtStart, AfterOne}
-use Rattle.explorer.specs.Listening.{ComesTo, IsToStop, IsOutsideSearch, EndsIn, EndsAsPrecise}
+use Rattle.explorer.specs.Listening.{ComesTo, IsToStop, IsOutsideSearch, EndsIn, EndsAsPrecise, HasRetraced}
 use Rattle.listeners.specs.declared.turns.Turns.{Turns}
 use Rattle.listeners.specs.Turns.{AreOn}
 use Rattle.listeners.specs.Followed.{HasFollowed, IsWalk, slots_along}
@@ -238,6 +238,27 @@ explains_by p tale refusal e at slot x is here found refused ends shown =
     (subst (λ r. EndsAsPrecise p tales r at) is ends) in
     explains p (tales (precision_of e)) e slot x (stops_at p e slot found why)
     (stops_in p (tales (precision_of e)) e slot found stopped) (shown (precision_of e) p)
+
+-- the path of a search that came to its limit was followed once more, to the slot
+pub explains_long : (p : Program) (tale : Precision → Program → List State → State → Type 0)
+    (e : Refusal) (at slot : ℕ) (x : Explanation) → e ≡ TooLong → at ≡ slot → IsRefused p e slot
+    → HasRetraced (tale Coarse p) at
+    → ((how : Precision) (r : Program) (before : List State) (s : State)
+    → tale how r (s ∷ before) s → s.slot ≡ slot
+    → (x.state ≡ s) × IsLed how r s x.way.items × IsTurnBefore how r s x.earlier
+    × ComesThrough how r s x.slots.items)
+    → Explains p e slot x
+explains_long p tale e at slot x long here refused h shown =
+    let ends : EndsAsPrecise p (λ how. tale how p) TooLong slot = record {
+      state = h.state;
+      before = h.before;
+      slot_is = h.slot_is ∙ here;
+      stops = tt;
+      told = h.told;
+    } in
+    explains_by p tale e e slot slot x refl refl
+    (λ (outside : IsOutsideSearch e). subst IsOutsideSearch long outside) refused
+    (subst (λ r. EndsAsPrecise p (λ how. tale how p) r slot) (sym long) ends) shown
 
 -- ---- a search that begins anew
 

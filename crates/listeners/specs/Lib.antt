@@ -1,4 +1,5 @@
 pub mod Followed
 pub mod Limited
 pub mod Listed
+pub mod Rejections
 pub mod Turns

@@ -6,5 +6,5 @@ use Rattle.listeners.specs.declared.limited.NoBound.TheVariants.{Refused, Limit}
 
 -- the fact holds of the refusal and its slot, unless the limit was reached first
 abbrev pub IfRefuses : NoBound → (Refusal → ℕ → Type 0) → Type 0
-IfRefuses (Refused e slot) fact = fact e slot
+IfRefuses (Refused r) fact = fact r.refusal r.slot
 IfRefuses Limit fact = Unit {0}

@@ -12,9 +12,10 @@ ghost use Rattle.explorer.specs.declared.moves.Halt.TheVariants.{Refused};
 ghost use Rattle.explorer.specs.Listening.{IsOutsideSearch};
 ghost use Rattle.listeners.specs.Followed.{HasFollowed};
 
+use crate::rejections::SearchPath;
 use crate::turns::Turns;
 use arrayvec::ArrayVec;
-use explorer::{Halt, Listener, search_with};
+use explorer::{Halt, Listener, retrace, search_with};
 use image::Image;
 use stack_state::State;
 use std::alloc::{AllocError, Global};
@@ -214,13 +215,9 @@ fn refusal_in(ended: Result<u32, Halt<AllocError>>) -> Option<(Refusal, usize)>
     }
 }
 
-/// Returns what is known where a program gets this refusal, at this slot: a second search looks for
-/// it.
-///
-/// None: the refusal is one of control flow, memory ran out, or this is not what the program is
-/// refused for.
+/// Returns what is known where a program gets this refusal, at this slot, by a search for it.
 #[inline(never)]
-pub fn explain(
+fn searched_for(
     alloc: Global,
     image: &Image,
     refusal: Refusal,
@@ -245,5 +242,65 @@ pub fn explain(
             follower.explanation(alloc, slot, limit)
         }
         _ => None,
+    }
+}
+
+/// Returns whether the refusal is that of a search that came to its limit.
+fn is_too_long(refusal: Refusal) -> bool
+    ensures { IsTrue result → refusal ≡ Refusal.TooLong }
+{
+    matches!(refusal, Refusal::TooLong)
+}
+
+/// Returns what is known where a search came to its limit, at this slot, by the path of that
+/// search. None: memory ran out, or it is not the path there.
+#[inline(never)]
+fn followed_again(
+    alloc: Global,
+    image: &Image,
+    refusal: Refusal,
+    slot: usize,
+    path: SearchPath,
+) -> Option<Box<Explanation>>
+    requires refused { IsRefused image.now refusal slot }
+    ensures explains { IfSome result (λ x. Explains image.now refusal slot x.value) }
+{
+    if !is_too_long(refusal) {
+        return None;
+    }
+    let Ok(mut kept) = Follower::new(alloc, image, slot) else {
+        return None;
+    };
+    let follower = &mut *kept;
+    match retrace(alloc, image, &path.courses, follower) {
+        Some(end) if end == slot => follower.explanation(alloc, slot, path.limit),
+        _ => None,
+    }
+}
+
+/// Returns what is known where a program gets this refusal, at this slot: the path of the search
+/// that refused it is followed once more, or a second search looks for it.
+///
+/// None: the refusal is one of control flow, memory ran out, or this is not what the program is
+/// refused for.
+pub fn explain(
+    alloc: Global,
+    image: &Image,
+    refusal: Refusal,
+    slot: usize,
+    path: Option<SearchPath>,
+) -> Option<Box<Explanation>>
+    requires refused { IfSome path (λ _. IsRefused image.now refusal slot) }
+    ensures explains { IfSome result (λ x. Explains image.now refusal slot x.value) }
+    ensures refused { IfSome result (λ _. IsRefused image.now refusal slot) }
+    ensures accepts { IfSome result (λ _. AcceptsAll image.now refusal) }
+{
+    image.recall();
+    let Some(path) = path else {
+        return searched_for(alloc, image, refusal, slot);
+    };
+    match followed_again(alloc, image, refusal, slot, path) {
+        Some(found) => Some(found),
+        None => searched_for(alloc, image, refusal, slot),
     }
 }

@@ -10,21 +10,52 @@ ghost use Rattle.stack_state.specs.Starts.{start};
 ghost use Rattle.listeners.specs.Limited.{IfRefuses};
 ghost use Rattle.listeners.specs.declared.limited.NoBound.TheVariants as NoBound;
 
+use crate::rejections::{Rejected, Unverified, verify_followed};
 use bounds::Verified;
-use explorer::{Halt, Kept, Listener, verify, verify_with};
+use explorer::{Kept, Listener};
 use image::Image;
 use isa_model::MAX_EXPLORED;
 use stack_state::State;
 use std::alloc::Global;
-use walks::Refusal;
+use std::convert::Infallible;
 
 /// Says why a search up to a limit has no bound.
-#[derive(Clone, Copy)]
+#[derive(Drop)]
 pub enum NoBound {
-    /// The program gets this refusal, at this slot.
-    Refused(Refusal, usize),
+    /// The program is refused.
+    Refused(Rejected),
     /// More instructions than the limit would have to be explored.
     Limit,
+}
+
+/// Stops no search.
+#[derive(Clone, Copy, Drop)]
+struct Unlimited;
+
+impl Listener for Unlimited {
+    type Stop = Infallible;
+
+    ghost follows = { λ _ _ _ _ _. Unit {0} };
+
+    #[inline(always)]
+    fn arrives(&mut self, _state: &State) -> Result<(), Infallible> {
+        Ok(())
+    }
+
+    #[inline(always)]
+    fn covered(&mut self, _index: usize, _number: u32) -> Result<(), Infallible> {
+        Ok(())
+    }
+
+    #[inline(always)]
+    fn finished(&mut self, _number: u32) -> Result<(), Infallible> {
+        Ok(())
+    }
+
+    #[inline(always)]
+    fn begins_anew(&mut self) -> Result<(), Infallible> {
+        Ok(())
+    }
 }
 
 /// The limit is reached.
@@ -74,7 +105,8 @@ impl Listener for Countdown {
 
 /// Verifies a program as `verify` does, but explores no more instructions than the limit, in all.
 /// If the limit suffices, the result has each clause of `verify`'s. With a limit of `MAX_EXPLORED`
-/// or more the result is that of `verify`.
+/// or more the result is that of `verify`. A refusal comes with its path, as that of
+/// [`verify_followed`].
 pub fn verify_within(alloc: Global, image: Image, limit: u32) -> Result<Verified, NoBound>
     ensures program { IfOk result (λ verified. verified.program ≡ image) }
     ensures verified { IfOk result IsVerified }
@@ -85,15 +117,16 @@ pub fn verify_within(alloc: Global, image: Image, limit: u32) -> Result<Verified
     ensures whole { max_explored ≤ limit → result ≢ Err NoBound.Limit }
 {
     if limit >= MAX_EXPLORED {
-        return match verify(alloc, image) {
+        return match verify_followed(alloc, image, &mut Unlimited) {
             Ok(verified) => Ok(verified),
-            Err((refusal, slot)) => Err(NoBound::Refused(refusal, slot)),
+            Err(Unverified::Rejected(rejected)) => Err(NoBound::Refused(rejected)),
+            Err(Unverified::Stopped(never)) => match never {},
         };
     }
     let mut countdown = Countdown { left: limit };
-    match verify_with(alloc, image, &mut countdown) {
+    match verify_followed(alloc, image, &mut countdown) {
         Ok(verified) => Ok(verified),
-        Err(Halt::Refused(refusal, slot)) => Err(NoBound::Refused(refusal, slot)),
-        Err(Halt::Stopped(_)) => Err(NoBound::Limit),
+        Err(Unverified::Rejected(rejected)) => Err(NoBound::Refused(rejected)),
+        Err(Unverified::Stopped(_)) => Err(NoBound::Limit),
     }
 }

@@ -2,12 +2,13 @@
 
 ghost use Rattle.std.specs.Prelude.{IfSome};
 ghost use Rattle.std.specs.String.{string_bytes};
+ghost use Rattle.walks.specs.Refused.{IsRefused};
 ghost use Rattle.messages.specs.Reasons.{IsReason};
 
 use explanations::{flow_line, lines_of};
 use image::Image;
 use isa_model::MAX_SLOTS;
-use listeners::explain;
+use listeners::{SearchPath, explain};
 use std::alloc::Global;
 use walks::Refusal;
 
@@ -16,7 +17,17 @@ use walks::Refusal;
 /// end, with how often it was taken and what differs from turn to turn, the low half of an answer
 /// that has to name an action, the last jumps on the path there, and whether states were no longer
 /// compared. If control flow is refused: where a jump leads, and what helps. None: memory ran out.
-pub fn reason(alloc: Global, image: &Image, refusal: Refusal, slot: usize) -> Option<String>
+///
+/// Of a search that came to its limit the path is followed once more; without it, a second search
+/// looks for the way there.
+pub fn reason(
+    alloc: Global,
+    image: &Image,
+    refusal: Refusal,
+    slot: usize,
+    path: Option<SearchPath>,
+) -> Option<String>
+    requires refused { IfSome path (λ _. IsRefused image.now refusal slot) }
     ensures { IfSome result (λ text. IsReason image.now refusal slot (string_bytes text)) }
 {
     if slot >= usize::from(MAX_SLOTS) {
@@ -26,6 +37,6 @@ pub fn reason(alloc: Global, image: &Image, refusal: Refusal, slot: usize) -> Op
     if let Refusal::Flow(error) = refusal {
         return flow_line(alloc, image, error, slot, insn).ok();
     }
-    let found = explain(alloc, image, refusal, slot)?;
+    let found = explain(alloc, image, refusal, slot, path)?;
     lines_of(alloc, image, insn, refusal, &found).ok()
 }

@@ -2,6 +2,7 @@
 
 ghost use Rattle.std.specs.Prelude.{◌≡◌, ◌++◌, false, None, IfSome};
 ghost use Rattle.std.specs.String.{string_bytes};
+ghost use Rattle.walks.specs.Refused.{IsRefused};
 ghost use Rattle.messages.specs.Messages.{rejection_text};
 ghost use Rattle.messages.specs.Reasons.{IsReason};
 ghost use Rattle.messages.specs.Texts.{image_text, source_text, program_front, IsProgramText};
@@ -11,6 +12,7 @@ use crate::reasons::reason;
 use crate::rejections::Rejection;
 use assembler::AsmError;
 use image::{Image, ImageError};
+use listeners::SearchPath;
 use std::alloc::Global;
 use walks::Refusal;
 
@@ -64,32 +66,37 @@ fn known_of(
     image: &Image,
     refusal: Refusal,
     slot: usize,
+    path: Option<SearchPath>,
     asked: bool,
 ) -> Option<String>
+    requires refused { IfSome path (λ _. IsRefused image.now refusal slot) }
     ensures known { IfSome result (λ text. IsReason image.now refusal slot (string_bytes text)) }
     ensures unasked { asked ≡ false → result ≡ None }
 {
     if asked {
-        reason(alloc, image, refusal, slot)
+        reason(alloc, image, refusal, slot, path)
     } else {
         None
     }
 }
 
 /// The message why a program is refused, at which slot and instruction, and if asked for, what is
-/// known there. None: memory ran out.
+/// known there: by the path of the search that refused it, or by a second search. None: memory ran
+/// out.
 pub fn program_text(
     alloc: Global,
     image: &Image,
     refusal: Refusal,
     slot: usize,
+    path: Option<SearchPath>,
     asked: bool,
 ) -> Option<Vec<u8>>
+    requires refused { IfSome path (λ _. IsRefused image.now refusal slot) }
     ensures text { IfSome result (λ text. IsProgramText image.now refusal slot text.items) }
     ensures unasked { asked ≡ false → IfSome result
         (λ text. text.items ≡ program_front image.now refusal slot) }
 {
-    let known = known_of(alloc, image, refusal, slot, asked);
+    let known = known_of(alloc, image, refusal, slot, path, asked);
     let mut text = program_front(alloc, image, refusal, slot)?;
     let Some(known) = known else {
         return Some(text);

@@ -73,7 +73,7 @@ pub fn tell<W: Write>(
 ) -> io::Result<()> {
     let rejection = Rejection::Program(refusal, slot, image.at(slot).copied());
     rejection.say(err)?;
-    if let Some(known) = reason(alloc, image, refusal, slot) {
+    if let Some(known) = reason(alloc, image, refusal, slot, None) {
         write_bytes(err, known.as_bytes())?;
     }
     rejection.say_code(err)

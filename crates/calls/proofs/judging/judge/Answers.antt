@@ -42,12 +42,14 @@ returns-in-Err-Limit-clause-alone c = λ zero. absurd (omega (arith, zero))
 
 -- the copy that the text is made of is the program
 
+pub write_refusal-requires : goal.write_refusal-requires
+write_refusal-requires c =
+    let stop = c.in-Err-Refused in
+    subst (λ (p : Program). IsRefused p stop.rejected.refusal stop.rejected.slot)
+    (sym c.in-Ok.ensures) (rw stop.field-0-is at stop.ensures.refused)
+
 pub returns-clause-refused : goal.returns-clause-refused
 returns-clause-refused c = λ two.
-    let stop = c.in-Err-Refused in
     let call = c.write_refusal in
-    let refused = rw stop.field-0-is at stop.ensures.refused in
     subst (λ (p : Program). FillsProgramRefusal p c.args.why.now call.new.why call.new.out)
-    c.in-Ok.ensures
-    (call.ensures.refused two
-    (subst (λ (p : Program). IsRefused p stop.refusal stop.slot) (sym c.in-Ok.ensures) refused))
+    c.in-Ok.ensures (call.ensures.refused two)

@@ -1,5 +1,5 @@
 use Rattle.stack_state.specs.Starts.{start}
 use Rattle.commands.proofs.searches.verify_watched.Goals as goal
 
-pub verify_with-requires : goal.verify_with-requires
-verify_with-requires g c = record { untold = λ how. (start, tt) }
+pub verify_followed-requires : goal.verify_followed-requires
+verify_followed-requires g c = record { untold = λ how. (start, tt) }

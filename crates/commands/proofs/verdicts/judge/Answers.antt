@@ -1,7 +1,19 @@
-use Rattle.std.proofs.Common.{◌∙◌, ap, rules}
+use Rattle.std.proofs.Common.{◌∙◌, ap, rules, subst, sym}
 use Rattle.isa_model.specs.{Program, fetch}
-use Rattle.commands.proofs.Refusing.{program_refused}
+use Rattle.walks.specs.Refused.{IsRefused}
+use Rattle.commands.proofs.Refusing.{program_refused, refusal_told}
 use Rattle.commands.proofs.verdicts.judge.Goals as goal
+
+-- the copy is the program
+pub program_ending-requires : goal.program_ending-requires
+program_ending-requires g c = record {
+  refused =
+      refusal_told c.in-Err.refusal c.in-Err.slot c.copied-insn.result _ _ c.say_refused-outcome.result
+      (IsRefused c.in-Ok.copy.now)
+      (subst (λ (p : Program). IsRefused p c.in-Err.refusal c.in-Err.slot) (sym c.in-Ok.ensures)
+      c.in-Err.ensures.refused)
+      c.say_refused-outcome.ensures;
+}
 
 pub returns-clause-refused : goal.returns-clause-refused
 returns-clause-refused g c =

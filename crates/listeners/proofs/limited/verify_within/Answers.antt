@@ -2,11 +2,14 @@ use Rattle.std.proofs.Common.{arith, subst}
 use Rattle.stack_state.specs.Starts.{start}
 use Rattle.walks.specs.Refused.{IsRefused}
 use Rattle.walks.specs.Accepting.{AcceptsAll}
-use Rattle.explorer.specs.Listening.{IfRefused}
+use Rattle.listeners.specs.Rejections.{IfRejected}
 use Rattle.listeners.proofs.limited.verify_within.Goals as goal
 
-pub verify_with-requires : goal.verify_with-requires
-verify_with-requires c = record { untold = λ how. (start, tt) }
+pub verify_followed-requires : goal.verify_followed-requires
+verify_followed-requires c = record { untold = λ how. (start, tt) }
+
+pub verify_followed-requires-2 : goal.verify_followed-requires-2
+verify_followed-requires-2 c = record { untold = λ how. (start, tt) }
 
 pub returns-in-Ok : goal.returns-in-Ok
 returns-in-Ok c = record {
@@ -19,40 +22,45 @@ returns-in-Ok c = record {
   whole = λ most is. absurd (cc is);
 }
 
-pub returns-in-Err : goal.returns-in-Err
-returns-in-Err c = record {
+pub returns-in-Err-Rejected : goal.returns-in-Err-Rejected
+returns-in-Err-Rejected c = let p = c.args.image in record {
   program = tt;
   verified = tt;
-  refused = c.in-Err.ensures.refused;
+  refused = subst (λ h. IfRejected h (IsRefused p)) c.in-Err-Rejected.field-0-is
+      c.in-Err-Rejected.ensures.refused;
   number = tt;
-  accepts = c.in-Err.ensures.accepts;
+  accepts = subst (λ h. IfRejected h (λ e _. AcceptsAll p e)) c.in-Err-Rejected.field-0-is
+      c.in-Err-Rejected.ensures.accepts;
   bounds = tt;
   whole = λ most is. absurd (cc is);
 }
 
-pub returns-in-Ok-verify_with : goal.returns-in-Ok-verify_with
-returns-in-Ok-verify_with c = record {
-  program = c.in-Ok-verify_with.ensures.program;
-  verified = c.in-Ok-verify_with.ensures.verified;
+pub returns-in-Ok-verify_followed : goal.returns-in-Ok-verify_followed
+returns-in-Ok-verify_followed c = record {
+  program = c.in-Ok-verify_followed.ensures.program;
+  verified = c.in-Ok-verify_followed.ensures.verified;
   refused = tt;
-  number = c.in-Ok-verify_with.ensures.number;
+  number = c.in-Ok-verify_followed.ensures.number;
   accepts = tt;
-  bounds = c.in-Ok-verify_with.ensures.bounds;
+  bounds = c.in-Ok-verify_followed.ensures.bounds;
   whole = λ most is. absurd (cc is);
 }
 
-pub returns-in-Err-Refused : goal.returns-in-Err-Refused
-returns-in-Err-Refused c = let p = c.args.image in record {
-  program = tt;
-  verified = tt;
-  refused = subst (λ h. IfRefused h (IsRefused p)) c.in-Err-Refused.field-0-is
-      c.in-Err-Refused.ensures.refused;
-  number = tt;
-  accepts = subst (λ h. IfRefused h (λ e _. AcceptsAll p e)) c.in-Err-Refused.field-0-is
-      c.in-Err-Refused.ensures.accepts;
-  bounds = tt;
-  whole = λ most is. absurd (cc is);
-}
+pub returns-in-Err-Rejected-verify_followed : goal.returns-in-Err-Rejected-verify_followed
+returns-in-Err-Rejected-verify_followed c =
+    let p = c.args.image in
+    let stop = c.in-Err-Rejected-verify_followed in
+    record {
+      program = tt;
+      verified = tt;
+      refused = subst (λ h. IfRejected h (IsRefused p)) stop.field-0-is stop.ensures.refused;
+      number = tt;
+      accepts =
+          subst (λ h. IfRejected h (λ e _. AcceptsAll p e)) stop.field-0-is stop.ensures.accepts;
+      bounds = tt;
+      whole = λ most is. absurd (cc is);
+    }
 
-pub returns-in-Err-Stopped-clause-whole : goal.returns-in-Err-Stopped-clause-whole
-returns-in-Err-Stopped-clause-whole c = λ most. absurd (omega arith)
+pub returns-in-Err-Stopped-verify_followed-clause-whole :
+    goal.returns-in-Err-Stopped-verify_followed-clause-whole
+returns-in-Err-Stopped-verify_followed-clause-whole c = λ most. absurd (omega arith)
