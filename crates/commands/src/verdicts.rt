@@ -126,7 +126,7 @@ fn program_ending<'a>(
     path: Option<SearchPath>,
     outcome: TaskOutcome<'a>,
 ) -> Ending<'a>
-    requires refused { IfRefusal outcome.entry (IsRefused image.now) }
+    requires refused { IfRefusal outcome (IsRefused image.now) }
     ensures outcome { result.outcome ≡ outcome.entry }
     ensures known { IsKnownOfProgram image.now result }
 {

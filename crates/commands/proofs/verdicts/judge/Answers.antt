@@ -8,9 +8,9 @@ use Rattle.commands.proofs.verdicts.judge.Goals as goal
 pub program_ending-requires : goal.program_ending-requires
 program_ending-requires g c = record {
   refused =
-      refusal_told c.in-Err.refusal c.in-Err.slot c.copied-insn.result _ _ c.say_refused-outcome.result
-      (IsRefused c.in-Ok.copy.now)
-      (subst (λ (p : Program). IsRefused p c.in-Err.refusal c.in-Err.slot) (sym c.in-Ok.ensures)
+      refusal_told c.in-Err.field-0.refusal c.in-Err.field-0.slot c.copied-insn.result _ _ c.say_refused-outcome.result
+      (IsRefused c.in-Ok.copy)
+      (subst (λ (p : Program). IsRefused p c.in-Err.field-0.refusal c.in-Err.field-0.slot) (sym c.in-Ok.ensures)
       c.in-Err.ensures.refused)
       c.say_refused-outcome.ensures;
 }
@@ -19,7 +19,7 @@ pub returns-clause-refused : goal.returns-clause-refused
 returns-clause-refused g c =
     program_refused _ _ _ _ _ _ _ _ c.in-Err.ensures.refused
     (c.copied-insn.ensures
-    ∙ (c.at.ensures ∙ ap (λ (p : Program). fetch p c.in-Err.slot) c.in-Ok.ensures))
+    ∙ (c.at.ensures ∙ ap (λ (p : Program). fetch p c.in-Err.field-0.slot) c.in-Ok.ensures))
     c.program_ending.ensures.outcome c.say_refused-outcome.ensures
 
 pub returns-in-Ok-verify_watched-clause-program : goal.returns-in-Ok-verify_watched-clause-program
