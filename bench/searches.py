@@ -4,9 +4,9 @@
 usage: python3 bench/searches.py [--clang NAME ..] [--library ARCHIVE] [--survey PROGRAM] [--times N]
 
 bench/searches has two filters in C: records of a type, a length and a value, of which some are groups of such records, and the
-labels of a DNS name, byte by byte. Each is compiled with several numbers of turns by each clang (the default: clang-14 and clang-19)
-at -O1, -O2 and -Os, for the instruction sets v2 and v3, so twelve builds a row. A row has, from the least build to the greatest,
-the instructions that our search explored and its microseconds by the library, then those of Linux for the builds that it
+labels of a DNS name, byte by byte. Each is compiled with several numbers of turns by each clang (the default: clang-14 and
+clang-19) at -O1, -O2 and -Os, for the instruction sets v2 and v3, so twelve builds a row. A row has, from the least build to the
+greatest, the instructions that our search explored and its microseconds by the library, then those of Linux for the builds that it
 accepts, and the greatest ratio of times among these. Times are measured as bench/linux.py does.
 
 The exit status is 0; 1 with a message; and 77 where bpf(2) cannot be used.
@@ -17,11 +17,13 @@ import tempfile
 from dataclasses import dataclass
 from pathlib import Path
 
-sys.path.insert(0, str(Path(__file__).resolve().parent.parent / "checks"))
+TOP = Path(__file__).resolve().parent.parent
+sys.path[:0] = [str(TOP / "checks"), str(TOP / "tools")]
 import linux
-from common import TOP, command_line
+from common import command_line
+from kernel_calls import NoKernel
 
-FOLDER = Path(TOP) / "bench/searches"
+FOLDER = TOP / "bench/searches"
 SIZES = {
     "records": [(f"{outer} by {inner}", [f"-DOUTER={outer}", f"-DINNER={inner}"]) for outer, inner in ((4, 4), (8, 6), (16, 8))],
     "name": [(f"{count} bytes", [f"-DBYTES={count}"]) for count in (32, 64, 255)],
@@ -81,8 +83,8 @@ def row(name: str, size: str, builds: list[Build]) -> str:
 def main() -> int:
     words = command_line()
     words.add_argument("--clang", nargs="+", default=["clang-14", "clang-19"], metavar="NAME")
-    words.add_argument("--library", type=Path, default=Path(TOP) / "crates/xdpvm_c/out/libxdpvm_c.a", metavar="ARCHIVE")
-    words.add_argument("--survey", type=Path, default=Path(TOP) / "crates/xdpvm_survey/out/xdpvm_survey", metavar="PROGRAM")
+    words.add_argument("--library", type=Path, default=TOP / "crates/xdpvm_c/out/libxdpvm_c.a", metavar="ARCHIVE")
+    words.add_argument("--survey", type=Path, default=TOP / "crates/xdpvm_survey/out/xdpvm_survey", metavar="PROGRAM")
     words.add_argument("--times", type=int, default=5, metavar="N")
     given = words.parse_args()
     with tempfile.TemporaryDirectory() as folder:
@@ -93,11 +95,15 @@ def main() -> int:
                     images = images_of(name, defined, given.clang, Path(folder))
                     counts = linux.explored(given.survey, images)
                     builds = [
-                        Build(counts.get(str(it)), linux.ours(library, it.read_bytes(), given.times), linux.linux(it.read_bytes(), 1))
+                        Build(
+                            counts.get(str(it)),
+                            linux.ours(library, it.read_bytes(), given.times),
+                            linux.linux(it.read_bytes(), 1),
+                        )
                         for it in images
                     ]
                     print(row(name, size, builds), flush=True)
-        except linux.NoKernel as why:
+        except NoKernel as why:
             print(f"searches.py: not tried, since the kernel cannot be asked here: {why}")
             return linux.CANNOT
     return 0

@@ -68,6 +68,7 @@ FORMS = (
 EXCEPTIONS = (
     ("isa_model/specs/Worked/", "", "examples that were worked out by hand have the numbers themselves"),
     ("captures/src/forms.rt", "number_at(order, head, 20)", "the bits of a link type"),
+    ("live_maps/src/hints.rt", "number % 65_536", "what fits 16 bits"),
     ("captures/src/links.rt", "if high <", "the upper half of an address family, which is zero"),
     ("captures/specs/Links.antt", "(big_number 4 bytes)", "the upper half of an address family, which is zero"),
     ("captures/", "nterfaces", "the interfaces of a section"),
