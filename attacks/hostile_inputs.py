@@ -8,8 +8,10 @@ PROGRAM is an optimized xdpvm (the default: crates/xdpvm/out/xdpvm). The familie
 tables of `recheck`, maps whose keys have one hash (`chains`, and `worst_keys` with the limits that the gate holds), frames by
 `trace` on a full map (`traced`, with such limits, too), a small image with a large table and a long log, by the xdpvm_survey that
 `rt run` leaves in crates/xdpvm_survey (`outputs`, with such limits of time and memory), captures by
-`xdpvm_filter convert`, and texts by tools/frames.py. For each input it prints the size, the processor seconds, the peak megabytes
-and the last line. A run that takes longer than LIMIT seconds (the default: 120) is ended. The exit status is 1 if one took longer
+`xdpvm_filter convert`, and texts by tools/frames.py. A walk through the maps of the library is in examples/embed/walk.c, inputs
+without an end and earlier surveys are in endless.py, and the machine's stack is in stack.py. For each input it prints the size,
+the processor seconds, the peak megabytes and the last line. A run that takes longer than LIMIT seconds (the default: 120) is ended.
+The exit status is 1 if one took longer
 or more memory than its own limits say, ended by a signal or, without a limit having passed, by a status that is not one of the
 program's.
 """
@@ -302,7 +304,7 @@ if r8 < 76000 goto comes"""
 # At most so many seconds for both frames, by a proved build.
 TRACED = 0.5
 # So many full maps, of each of which each frame adds the least key or deletes it again, and at most so many seconds for all.
-MAPS, CHANGES, CHANGED = 16, 1000, 6.0
+MAPS, CHANGES, CHANGED = 16, 1000, 4.0
 FILL = """f{at}: r7 = {keys}
 fill{at}: r1 = r7; r1 = be32 r1; *(u32 *)(r10 - 4) = r1
 r1 = map_by_idx({at}); r2 = r10; r2 += -4; r3 = r10; r3 += -16; r4 = 0; call 2
