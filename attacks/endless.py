@@ -35,7 +35,7 @@ SECONDS = 1
 LONGEST = 60
 # A text of 100 MB takes less than a second of a quiet core, and up to two where all cores share their caches with other work.
 BUSY = 2
-TRIES = 3
+TRIES = 8
 # A text that is read as a whole: its bytes, and at most so many seconds.
 LONG = 100_000_000
 WHOLE = 4

