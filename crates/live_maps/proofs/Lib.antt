@@ -11,3 +11,4 @@ pub mod PlaceOrderLaws
 pub mod RanksLaws
 pub mod ReorderLaws
 pub mod SerialLaws
+pub mod Settling

@@ -9,13 +9,6 @@ use Rattle.live_maps.specs.PlaceOrders.{AreLiveMaps, AreOrdersOf, PlaceOrder, se
 use Rattle.live_maps.proofs.ContentLaws.{live_of, rows_of-known, rows_of-some, length-changed_maps}
 use Rattle.live_maps.proofs.LookUpLaws.{serial_place-inside, serial_place-some}
 
--- one map, whose row has the property P, before and after a change
-pub record OneChanged (P : MapDef → Type 0) (maps new : List MapState) (m : ℕ) : Type 0 where
-  pub inside : m < length maps
-  pub row : P (map_at maps m).row
-  pub count : length new ≡ length maps
-  pub is : IsMap (map_at new m)
-
 -- there is the map that a call names, and its row is as the call needs it
 pub row_known : (P : MapDef → Type 0) (next : ℕ) (maps : List MapState) (all : List Serials)
     (now : Live) → live_of maps all next ≡ now
@@ -23,16 +16,6 @@ pub row_known : (P : MapDef → Type 0) (next : ℕ) (maps : List MapState) (all
 row_known P next maps all now view m holds =
     rows_of-known P maps m
     (subst (λ (l : Live). IsSomeAnd (slice_get l.rows m) P) (sym view) holds)
-
-pub one_changed : (P : MapDef → Type 0) (next : ℕ) (maps : List MapState) (all : List Serials)
-    (now : Live) → live_of maps all next ≡ now
-    → (m : ℕ) → IsSomeAnd (slice_get now.rows m) P → (new : List MapState)
-    → new ≡ slice_set maps m (map_at new m) → All IsMap new → OneChanged P maps new m
-one_changed P next maps all now view m holds new others are =
-    let known = row_known P next maps all now view m holds in
-    let count = length-changed_maps maps new m (map_at new m) others in
-    let inside = known.0 in
-    record { inside = known.0; row = known.1; count = count; is = are m _ (omega arith) }
 
 -- what holds of the maps and of one map's row holds of them as contracts see them
 pub row_seen : (Q : Live → MapDef → Type 0) (next : ℕ) (maps : List MapState) (all : List Serials)
@@ -65,7 +48,8 @@ found_at next maps all now view m n p size h found fits =
     record { inside = inside; place = r.0; fits = omega arith }
 
 -- where one map has changed, the maps are kept as before, with what is kept of them
-pub still_kept : (serials_room next later : ℕ) (maps new : List MapState) (kept given : List PlaceOrder)
+pub still_kept : (serials_room next later : ℕ) (maps new : List MapState)
+    (kept given : List PlaceOrder)
     (m : ℕ) → AreLiveMaps serials_room next maps kept → new ≡ slice_set maps m (map_at new m)
     → AreLive later new (serials_in given) → AreOrdersOf new given
     → AreLiveMaps serials_room later new given
@@ -73,3 +57,58 @@ still_kept serials_room next later maps new kept given m h others live are =
     let few = h.0 in
     let count = length-changed_maps maps new m (map_at new m) others in
     (omega arith, h.1 ∙ sym count, live, are)
+
+-- ---- one map, whose row has the property P, before and after a change
+
+-- what is known of the maps, of what is kept of them, and of what contracts see
+pub record OneChanged (P : MapDef → Type 0) (room next : ℕ) (maps new : List MapState)
+    (kept : List PlaceOrder) (now : Live) (m : ℕ) : Type 0 where
+  pub view : live_of maps (serials_in kept) next ≡ now
+  pub before : AreLiveMaps room next maps kept
+  pub named : IsSomeAnd (slice_get now.rows m) P
+  pub others : new ≡ slice_set maps m (map_at new m)
+  pub are : All IsMap new
+
+-- what is kept of the maps, and what contracts see of them
+pub record Settled (room next : ℕ) (maps : List MapState) (kept : List PlaceOrder)
+    (now : Live) : Type 0 where
+  pub lives : AreLiveMaps room next maps kept
+  pub seen : live_of maps (serials_in kept) next ≡ now
+
+module _ {P : MapDef → Type 0} {room next : ℕ} {maps new : List MapState} {kept : List PlaceOrder}
+    {now : Live} {m : ℕ} (d : OneChanged P room next maps new kept now m) where
+  known : (m < length maps) × P (map_at maps m).row
+  known = row_known P next maps (serials_in kept) now d.view m d.named
+
+  pub changed-inside : m < length maps
+  changed-inside = known.0
+
+  pub changed-row : P (map_at maps m).row
+  changed-row = known.1
+
+  pub changed-count : length new ≡ length maps
+  changed-count = length-changed_maps maps new m (map_at new m) d.others
+
+  pub changed-is : IsMap (map_at new m)
+  changed-is =
+      let inside = changed-inside in
+      let count = changed-count in
+      d.are m _ (omega arith)
+
+  -- the list of what is kept is as long
+  pub changed-kept : (n : ℕ) → length kept ≡ n → m < n
+  changed-kept n long =
+      let inside = changed-inside in
+      let same = d.before.3.long in
+      omega arith
+
+  pub changed-seen : (Q : Live → MapDef → Type 0)
+      → Q (live_of maps (serials_in kept) next) (map_at maps m).row
+      → IsSomeAnd (slice_get now.rows m) (Q now)
+  changed-seen Q h = row_seen Q next maps (serials_in kept) now d.view m changed-inside h
+
+  -- if it has not changed
+  pub changed-same : new ≡ maps → Settled room next new kept now
+  changed-same same =
+      subst (λ (l : List MapState). Settled room next l kept now) (sym same)
+      (record { lives = d.before; seen = d.view })

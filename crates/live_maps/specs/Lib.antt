@@ -1,3 +1,4 @@
+pub mod Giving
 pub mod Live
 pub mod Numbering
 pub mod PlaceOrders

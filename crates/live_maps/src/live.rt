@@ -11,12 +11,12 @@ ghost use Rattle.isa_model.specs.Machine.MapContents.{at_key, update_answer, del
 ghost use Rattle.isa_model.specs.Machine.Steps.{one_serial};
 ghost use Rattle.isa_model.specs.Running.Runs.{numbered_maps, count_map_values};
 ghost use Rattle.maps.specs.Maps.{rows_of, contents_of, map_at};
-ghost use Rattle.live_maps.specs.Live.{serials_at, place_if_new, content_at, value_bytes, with_value, with_bytes, without};
+ghost use Rattle.live_maps.specs.Live.{place_if_new, content_at, value_bytes, with_value, with_bytes, without};
 
 use crate::asked;
 use crate::numbering::number_all;
 use crate::place_serials::PlaceSerials;
-use crate::serials::{find_serial, give_serial, serial_at, serials_for, take_away};
+use crate::serials::{find_serial, give_next, serial_at, serials_for, take_from};
 use isa_model::MapDef;
 use maps::Maps;
 use std::alloc::{AllocError, Global};
@@ -60,6 +60,13 @@ fn new_place(maps: &Maps, index: usize, key: &[u8], before: Option<usize>) -> Op
         Some(_) => None,
         None => maps.find(index, key),
     }
+}
+
+// The place, if the answer says that something was done.
+fn place_done(answer: u64, place: Option<usize>) -> Option<usize>
+    ensures { result ≡ (if answer == 0 then place else None) }
+{
+    if answer == 0 { place } else { None }
 }
 
 impl LiveMaps {
@@ -148,12 +155,8 @@ impl LiveMaps {
         let found = self.maps.find(map, key);
         let answer = asked::update(&mut self.maps, map, key, value, flags);
         self.maps.say_fits();
-        if answer == 0 {
-            if let Some(place) = new_place(&self.maps, map, key, found) {
-                give_serial(&mut self.serials, map, place, self.next);
-                self.next += 1;
-            }
-        }
+        let place = new_place(&self.maps, map, key, found);
+        self.next = give_next(&mut self.serials, map, place, self.next);
         answer
     }
 
@@ -169,11 +172,7 @@ impl LiveMaps {
         let found = self.maps.find(map, key);
         let answer = asked::delete(&mut self.maps, map, key);
         self.maps.say_fits();
-        if answer == 0 {
-            if let Some(place) = found {
-                take_away(&mut self.serials, map, place);
-            }
-        }
+        take_from(&mut self.serials, map, place_done(answer, found));
         answer
     }
 

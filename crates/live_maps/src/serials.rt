@@ -1,8 +1,9 @@
 //! The serials of all maps' values, by map and place.
 
-ghost use Rattle.std.specs.Prelude.{◌≡◌, ◌<◌, ℕ, length, IfOk, Some, None, slice_set, vec_len, vec_capacity};
+ghost use Rattle.std.specs.Prelude.{◌≡◌, ◌<◌, ◌^◌, ℕ, length, IfOk, IfSome, Some, None, slice_set, vec_len, vec_capacity};
 ghost use Rattle.std.specs.List.{position};
 ghost use Rattle.live_maps.specs.PlaceOrders.{AreFresh, AreOrdersOf, ArePlacesBelow, given_now, kept_at, serials_in, since_in, taken_now, with_since};
+ghost use Rattle.live_maps.specs.Giving.{Gives, Takes};
 ghost use Rattle.live_maps.specs.Live.{serial_in, serials_at, has_serial};
 ghost use Rattle.live_maps.specs.Numbering.{AreDistinct};
 
@@ -51,8 +52,8 @@ pub fn find_serial(all: &Vec<PlaceSerials>, index: usize, serial: u64) -> Option
     }
 }
 
-/// Gives a place of a map a serial.
-pub fn give_serial(all: &mut Vec<PlaceSerials>, index: usize, place: usize, serial: u64)
+// Gives a place of a map a serial.
+fn give_serial(all: &mut Vec<PlaceSerials>, index: usize, place: usize, serial: u64)
     requires index { index < vec_len all.old }
     requires place { place < length (serials_at (serials_in all.old.items) index) }
     ensures given { serials_in all.new.items ≡ slice_set (serials_in all.old.items) index
@@ -65,8 +66,27 @@ pub fn give_serial(all: &mut Vec<PlaceSerials>, index: usize, place: usize, seri
     all[index].give(place, serial);
 }
 
-/// Takes the serial of a place of a map away.
-pub fn take_away(all: &mut Vec<PlaceSerials>, index: usize, place: usize)
+/// Gives a place of a map the next serial, if there is such a place. Returns the serial that is
+/// next then.
+pub fn give_next(all: &mut Vec<PlaceSerials>, index: usize, place: Option<usize>, next: u64) -> u64
+    requires index { index < vec_len all.old }
+    requires place { IfSome place
+        (λ p. p < length (serials_at (serials_in all.old.items) index)) }
+    requires next { next < 2 ^ 63 }
+    ensures given { Gives index place next result all.old.items all.new.items }
+    ensures room { vec_capacity all.new ≡ vec_capacity all.old }
+{
+    match place {
+        Some(place) => {
+            give_serial(all, index, place, next);
+            next + 1
+        }
+        None => next,
+    }
+}
+
+// Takes the serial of a place of a map away.
+fn take_away(all: &mut Vec<PlaceSerials>, index: usize, place: usize)
     requires index { index < vec_len all.old }
     requires place { place < length (serials_at (serials_in all.old.items) index) }
     requires fresh { AreFresh (kept_at all.old.items index).since
@@ -79,4 +99,20 @@ pub fn take_away(all: &mut Vec<PlaceSerials>, index: usize, place: usize)
     ensures room { vec_capacity all.new ≡ vec_capacity all.old }
 {
     all[index].take(place);
+}
+
+/// Takes the serial of a place of a map away, if there is such a place.
+pub fn take_from(all: &mut Vec<PlaceSerials>, index: usize, place: Option<usize>)
+    requires index { index < vec_len all.old }
+    requires place { IfSome place
+        (λ p. p < length (serials_at (serials_in all.old.items) index)) }
+    requires fresh { AreFresh (kept_at all.old.items index).since
+        (kept_at all.old.items index).order }
+    ensures taken { Takes index place all.old.items all.new.items }
+    ensures room { vec_capacity all.new ≡ vec_capacity all.old }
+{
+    match place {
+        Some(place) => take_away(all, index, place),
+        None => {}
+    }
 }
