@@ -8,7 +8,6 @@ mod Loading
 mod Refusing
 mod Served
 mod SettledBytes
-mod ShownNames
 mod Silence
 mod Sizes
 pub mod StatusesLaws

@@ -1,4 +1,3 @@
-pub mod Causes
 pub mod Commands
 pub mod Executing
 pub mod Files
@@ -6,7 +5,6 @@ pub mod Flushing
 pub mod InvalidRuns
 pub mod Judging
 pub mod Known
-pub mod Names
 pub mod Proving
 pub mod Saying
 pub mod Statuses

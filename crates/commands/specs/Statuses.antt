@@ -6,8 +6,7 @@ use Rattle.words.specs.declared.tasks.WordsError.{WordsError}
 use Rattle.words.specs.declared.tasks.WordsError.TheVariants.{Wrong, NotUnicode, Memory}
 use Rattle.commands.specs.declared.outcomes.TaskOutcome.{TaskOutcome}
 use Rattle.commands.specs.declared.outcomes.TaskOutcome.TheVariants.{Done, WrongWords, Refused, Faulted, CannotRead, CannotWrite, CannotReplace, NoMemory}
-use Rattle.commands.specs.Causes.{line_after, conflict_line, unread_text}
-use Rattle.commands.specs.Names.{shown_name}
+use Rattle.messages.specs.Causes.{unread_text, unwritten_text, conflict_text}
 use Rattle.messages.specs.Faults.{fault_lines}
 use Rattle.messages.specs.Messages.{rejection_text}
 
@@ -58,10 +57,8 @@ message_of (WrongWords text) = text.now ++ usage
 message_of (Refused rejection) = rejection_text rejection
 message_of (Faulted fault form) = fault_lines fault form
 message_of (CannotRead path kind) = unread_text path.now kind
-message_of (CannotWrite path cause) =
-    codes "cannot write " ++ (shown_name path.now ++ line_after cause)
-message_of (CannotReplace path conflict) =
-    codes "cannot write " ++ (shown_name path.now ++ conflict_line conflict)
+message_of (CannotWrite path cause) = unwritten_text path.now cause
+message_of (CannotReplace path conflict) = conflict_text path.now conflict
 message_of NoMemory = codes "out of memory\n"
 
 -- ---- what a task's outcome is

@@ -8,10 +8,10 @@ ghost use Rattle.commands.specs.Saying.{AppendsPart};
 ghost use Rattle.commands.specs.Known.{ShowsKept, outcome_text, told_of};
 ghost use Rattle.commands.specs.Flushing.{Flushes};
 
-use super::outcomes::{STANDARD_OUTPUT, TaskOutcome};
+use super::outcomes::TaskOutcome;
 use assembler::{AsmError, shown};
 use exact_io::{PromptWriter, write_bytes};
-use messages::Rejection;
+use messages::{Rejection, STANDARD_OUTPUT};
 use std::alloc::Global;
 use std::io;
 use std::io::Write;

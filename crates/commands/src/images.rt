@@ -15,7 +15,7 @@ ghost use Rattle.commands.specs.Saying.{Says};
 ghost use Rattle.assembler.specs.Assembling as spells;
 
 use super::endings::Ending;
-use super::outcomes::{STANDARD_OUTPUT, TaskOutcome};
+use super::outcomes::TaskOutcome;
 use super::outputs::create_file;
 use super::reading::{read_start, read_text};
 use super::texts::KeptText;
@@ -24,7 +24,7 @@ use assembler::{AsmError, AsmErrorKind, assemble};
 use disassembler::disassemble;
 use image::{Image, ImageError};
 use isa_model::{MAX_MAPS, MAX_SLOTS};
-use messages::{Rejection, file_form_of, image_line, text_line};
+use messages::{Rejection, STANDARD_OUTPUT, file_form_of, image_line, text_line};
 use std::alloc::{AllocError, Global};
 use std::io::{ErrorKind, Write};
 use std::rt::Files;

@@ -4,7 +4,6 @@
 #![tactic(auto)]
 
 mod buffering;
-mod causes;
 mod codes;
 mod endings;
 mod executing;
@@ -12,7 +11,6 @@ mod files;
 mod fronts;
 mod images;
 mod invalid;
-mod names;
 mod outcomes;
 mod outputs;
 mod proving;
@@ -35,7 +33,7 @@ pub use executing::{execute, execute_given};
 pub use files::{begin_frames, open_frames};
 pub use fronts::Watched;
 pub use images::load_image;
-pub use outcomes::{STANDARD_OUTPUT, TaskOutcome};
+pub use outcomes::TaskOutcome;
 pub use outputs::{create_output, keep_apart, open_standard_output};
 pub use requests::serve;
 pub use tables::load_shown;

@@ -8,17 +8,14 @@ ghost use Rattle.commands.specs.Statuses.{status_of, is_silent, is_unsaid, messa
 ghost use Rattle.commands.specs.Saying.{AppendsPart};
 ghost use Rattle.commands.specs.Judging.{IsStoreFailure};
 
-use super::causes::{Conflict, conflict_line, line_after, say_unread};
-use super::names::write_named;
 use exact_io::write_bytes;
 use isa_model::Fault;
-use messages::{FileForm, Rejection, say_fault};
+use messages::{
+    Conflict, FileForm, Rejection, say_conflict, say_failed_write, say_fault, say_unread,
+};
 use std::io;
 use std::io::{ErrorKind, Write};
 use words::{NOT_UNICODE, WordsError};
-
-/// Names standard output in messages.
-pub const STANDARD_OUTPUT: &str = "standard output";
 
 const USAGE: &str = "usage: xdpvm asm|dis|verify|run|trace|prove|recheck\n";
 
@@ -133,12 +130,8 @@ impl<'a> TaskOutcome<'a> {
                 write_bytes(err, USAGE.as_bytes())
             }
             TaskOutcome::CannotRead(path, kind) => say_unread(err, path, kind),
-            TaskOutcome::CannotWrite(name, cause) => {
-                write_named(err, "cannot write ", name, line_after(cause))
-            }
-            TaskOutcome::CannotReplace(path, conflict) => {
-                write_named(err, "cannot write ", path, conflict_line(conflict))
-            }
+            TaskOutcome::CannotWrite(name, cause) => say_failed_write(err, name, cause),
+            TaskOutcome::CannotReplace(path, conflict) => say_conflict(err, path, conflict),
             TaskOutcome::NoMemory => write_bytes(err, b"out of memory\n"),
         }
     }

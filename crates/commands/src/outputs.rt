@@ -3,10 +3,10 @@
 ghost use Rattle.std.specs.Prelude.{IfErr, codes};
 ghost use Rattle.commands.specs.Statuses.{IsMakeFailure};
 
-use super::causes::Conflict;
-use super::outcomes::{STANDARD_OUTPUT, TaskOutcome};
+use super::outcomes::TaskOutcome;
 use super::same::{is_output_pipe, is_same_file};
 use exact_io::PromptWriter;
+use messages::{Conflict, STANDARD_OUTPUT};
 use std::alloc::Global;
 use std::fs;
 use std::fs::OpenOptions;

@@ -5,14 +5,14 @@ ghost use Rattle.commands.specs.Streams.{EndsTask, RunsAccepted, Traces};
 
 use super::endings::Ending;
 use super::invalid::lines_of_invalid;
-use super::outcomes::{STANDARD_OUTPUT, TaskOutcome};
+use super::outcomes::TaskOutcome;
 use super::stopped::{at_end, lines_of_stops};
 use bounds::Verified;
 use exact_io::PromptWriter;
 use frames::Source;
 use host::{HostError, Ran, Tally, run_checked, run_noting_invalid, tally_in};
 use image::Image;
-use messages::FileForm;
+use messages::{FileForm, STANDARD_OUTPUT};
 use std::alloc::Global;
 use std::io::Write;
 use words::StepLimit;

@@ -15,7 +15,7 @@ ghost use Rattle.walks.specs.Refused.{IsRefused};
 ghost use Rattle.commands.specs.Known.{IfRefusal, IsKnownOfProgram};
 
 use super::endings::Ending;
-use super::outcomes::{STANDARD_OUTPUT, TaskOutcome};
+use super::outcomes::TaskOutcome;
 use super::searches::verify_watched;
 use bounds::Verified;
 use control_flow::FlowError;
@@ -23,7 +23,7 @@ use exact_io::write_bytes;
 use image::Image;
 use isa_model::Insn;
 use listeners::{Rejected, SearchPath};
-use messages::{Rejection, reason, verdict_line};
+use messages::{Rejection, STANDARD_OUTPUT, reason, verdict_line};
 use std::alloc::{AllocError, Global};
 use std::io::Write;
 use std::rt::{Clock, Files};

@@ -8,12 +8,13 @@ ghost use Rattle.filtering.specs.Delivering.{Delivers, Filters, StoresMaps, name
 
 use super::ready::{Ready, run_ready};
 use super::sending::SentOutput;
-use commands::{STANDARD_OUTPUT, TaskOutcome};
+use commands::TaskOutcome;
 use exact_io::PromptWriter;
 use frames::Source;
 use host::{Counted, HostError, NoReport};
 use map_texts::write_maps;
 use maps::Maps;
+use messages::STANDARD_OUTPUT;
 use std::alloc::Global;
 use std::io::{ErrorKind, Write};
 

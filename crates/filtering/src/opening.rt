@@ -8,12 +8,12 @@ ghost use Rattle.filtering.specs.Opening.{IsOpenFailure, IsOutputConflict, IsTol
 
 use captures::{CaptureKind, FramesOf, OpenFailure, Reasons};
 use commands::{
-    STANDARD_OUTPUT, TaskOutcome, Watched, begin_frames, create_output, keep_apart, open_frames,
+    TaskOutcome, Watched, begin_frames, create_output, keep_apart, open_frames,
     open_standard_output,
 };
 use exact_io::PromptWriter;
 use frames::{Ahead, Source};
-use messages::FileForm;
+use messages::{FileForm, STANDARD_OUTPUT};
 use std::alloc::Global;
 use std::io::{ErrorKind, Write};
 use std::rt::{Clock, Files};

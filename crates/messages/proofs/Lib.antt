@@ -1,3 +1,4 @@
 pub mod MessagesLaws
 pub mod ReasonLaws
+mod ShownNames
 pub mod Written

@@ -1,7 +1,9 @@
+pub mod Causes
 pub mod Entries
 pub mod Faults
 pub mod Forms
 pub mod Lines
 pub mod Messages
+pub mod Names
 pub mod Reasons
 pub mod Texts

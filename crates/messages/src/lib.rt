@@ -1,18 +1,21 @@
-//! What is said of a refused text, image, program or proof table, and of a frame stream's fault:
-//! for the command line a line on standard output, and a sentence with its position and a hint on
-//! standard error; for a caller's buffer the same as one message.
+//! What is said of a refused text, image, program or proof table, a frame stream's fault, and a
+//! file that failed: for the command line a line on standard output, and a sentence with its position
+//! and a hint on standard error; for a caller's buffer the same as one message.
 #![tactic(auto)]
 
+mod causes;
 mod entries;
 mod faults;
 mod forms;
 mod lines;
+mod names;
 mod reasons;
 mod rejections;
 mod table_texts;
 mod texts;
 mod whole_texts;
 
+pub use causes::{Conflict, STANDARD_OUTPUT, say_conflict, say_failed_write, say_unread};
 pub use entries::entry_of;
 pub use faults::say_fault;
 pub use forms::{FileForm, file_form_of};

@@ -3,9 +3,8 @@
 ghost use Rattle.std.specs.Prelude.{◌≡◌, ◌≤◌};
 ghost use Rattle.survey_commands.specs.Failures.{IsUnread, IsUnwritten, failure_status, words_text};
 
-use commands::{STANDARD_OUTPUT, TaskOutcome};
 use exact_io::write_bytes;
-use messages::write_texts;
+use messages::{STANDARD_OUTPUT, say_failed_write, say_unread, write_texts};
 use std::alloc::{AllocError, Global};
 use std::io::{ErrorKind, Write};
 use survey_rows::shown;
@@ -14,6 +13,9 @@ use words::{NOT_UNICODE, WordsError};
 const USAGE: &str =
     "usage: xdpvm_survey IMAGE|FOLDER .. | log IMAGE | dis IMAGE | hits IMAGE FRAMES | steps IMAGE \
      FRAMES --frame K\n";
+
+/// The status where a file or an output failed.
+const FILE_FAILED: u8 = 4;
 
 /// Says why the program ends early.
 #[derive(Drop)]
@@ -126,16 +128,21 @@ impl SurveyError {
                 1
             }
             SurveyError::Unread(path, kind) => {
-                TaskOutcome::CannotRead(path.as_str(), kind).tell(err)
+                let _ = say_unread(err, path.as_str(), kind);
+                FILE_FAILED
             }
             SurveyError::Unwritten(name, kind) => {
-                TaskOutcome::CannotWrite(name.as_str(), Some(kind)).tell(err)
+                let _ = say_failed_write(err, name.as_str(), Some(kind));
+                FILE_FAILED
             }
             SurveyError::File(line) => {
                 let _ = write_bytes(err, line.as_bytes());
-                4
+                FILE_FAILED
             }
-            SurveyError::Memory => TaskOutcome::NoMemory.tell(err),
+            SurveyError::Memory => {
+                let _ = write_bytes(err, b"out of memory\n");
+                5
+            }
         }
     }
 }

@@ -8,8 +8,8 @@ use crate::folders::{FolderFailure, NamedPath, add_folder, add_images, images};
 use crate::progress::SurveyProgress;
 use crate::tables::{TablesWanted, put_table};
 use crate::writing::{Sheet, sheet_of, write_head, write_row, write_waiting};
-use commands::TaskOutcome;
 use exact_io::write_bytes;
+use messages::say_unread;
 use std::alloc::{AllocError, Global};
 use std::io::{ErrorKind, Write};
 use std::rt::{Clock, Files};
@@ -22,7 +22,7 @@ fn judged_unread<W: Write>(path: &str, kind: ErrorKind, err: &mut W) -> Judgemen
     if let ErrorKind::OutOfMemory = kind {
         return Judgement::NoMemory;
     }
-    let _ = TaskOutcome::CannotRead(path, kind).tell(err);
+    let _ = say_unread(err, path, kind);
     Judgement::Unreadable
 }
 

@@ -1,8 +1,5 @@
-use Rattle.std.proofs.Common.{◌++◌, ℕ, List, codes, ap}
-use Rattle.commands.specs.Causes.{line_after, conflict_line}
-use Rattle.commands.specs.Names.{shown_name}
 use Rattle.commands.specs.Statuses.{usage}
-use Rattle.messages.proofs.Written.{ok_text, err_text, err_behind}
+use Rattle.messages.proofs.Written.{err_text, err_behind}
 use Rattle.commands.proofs.outcomes.TaskOutcome.say.Goals as goal
 
 pub returns-in_ok-write_bytes-in-WrongWords-clause-err : goal.returns-in_ok-write_bytes-in-WrongWords-clause-err
@@ -20,22 +17,10 @@ pub returns-in-CannotRead-clause-err : goal.returns-in-CannotRead-clause-err
 returns-in-CannotRead-clause-err g c = rw c.in-CannotRead.is c.say_unread.ensures.err
 
 pub returns-in-CannotWrite-clause-ok : goal.returns-in-CannotWrite-clause-ok
-returns-in-CannotWrite-clause-ok g c =
-    rw c.in-CannotWrite.is
-    (ok_text _ _ _ _
-    (codes "cannot write "
-    ++ (shown_name c.in-CannotWrite.name.now ++ line_after c.in-CannotWrite.cause))
-    (ap (λ (l : List ℕ). codes "cannot write " ++ (shown_name c.in-CannotWrite.name.now ++ l))
-    c.line_after.ensures) c.write_named.ensures.ok)
+returns-in-CannotWrite-clause-ok g c = rw c.in-CannotWrite.is c.say_failed_write.ensures.ok
 
 pub returns-in-CannotWrite-clause-err : goal.returns-in-CannotWrite-clause-err
-returns-in-CannotWrite-clause-err g c =
-    rw c.in-CannotWrite.is
-    (err_text _ _ _ _
-    (codes "cannot write "
-    ++ (shown_name c.in-CannotWrite.name.now ++ line_after c.in-CannotWrite.cause))
-    (ap (λ (l : List ℕ). codes "cannot write " ++ (shown_name c.in-CannotWrite.name.now ++ l))
-    c.line_after.ensures) c.write_named.ensures.err)
+returns-in-CannotWrite-clause-err g c = rw c.in-CannotWrite.is c.say_failed_write.ensures.err
 
 pub returns-in-Refused-clause-ok : goal.returns-in-Refused-clause-ok
 returns-in-Refused-clause-ok g c = rw c.in-Refused.is c.say.ensures.ok
@@ -50,19 +35,7 @@ pub returns-in-Faulted-clause-err : goal.returns-in-Faulted-clause-err
 returns-in-Faulted-clause-err g c = rw c.in-Faulted.is c.say_fault.ensures.err
 
 pub returns-in-CannotReplace-clause-ok : goal.returns-in-CannotReplace-clause-ok
-returns-in-CannotReplace-clause-ok g c =
-    rw c.in-CannotReplace.is
-    (ok_text _ _ _ _
-    (codes "cannot write "
-    ++ (shown_name c.in-CannotReplace.path.now ++ conflict_line c.in-CannotReplace.conflict))
-    (ap (λ (l : List ℕ). codes "cannot write " ++ (shown_name c.in-CannotReplace.path.now ++ l))
-    c.conflict_line.ensures) c.write_named-in-CannotReplace.ensures.ok)
+returns-in-CannotReplace-clause-ok g c = rw c.in-CannotReplace.is c.say_conflict.ensures.ok
 
 pub returns-in-CannotReplace-clause-err : goal.returns-in-CannotReplace-clause-err
-returns-in-CannotReplace-clause-err g c =
-    rw c.in-CannotReplace.is
-    (err_text _ _ _ _
-    (codes "cannot write "
-    ++ (shown_name c.in-CannotReplace.path.now ++ conflict_line c.in-CannotReplace.conflict))
-    (ap (λ (l : List ℕ). codes "cannot write " ++ (shown_name c.in-CannotReplace.path.now ++ l))
-    c.conflict_line.ensures) c.write_named-in-CannotReplace.ensures.err)
+returns-in-CannotReplace-clause-err g c = rw c.in-CannotReplace.is c.say_conflict.ensures.err

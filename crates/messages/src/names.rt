@@ -4,7 +4,7 @@ ghost use Rattle.std.specs.Prelude.{◌≡◌, ◌++◌, ◌<◌, drop, length, 
 ghost use Rattle.std.specs.Io.KnownBytes.{Appends};
 ghost use Rattle.std.specs.List.{list_all};
 ghost use Rattle.exact_io.specs.Transfers.{AppendsBeginning};
-ghost use Rattle.commands.specs.Names.{is_control, is_upper_control, hex_digit, escaped, shown_byte, shown_from, is_plain, shown_name, dash_line};
+ghost use Rattle.messages.specs.Names.{is_control, is_upper_control, hex_digit, escaped, shown_byte, shown_from, is_plain, shown_name, dash_line};
 
 use exact_io::write_bytes;
 use std::io;

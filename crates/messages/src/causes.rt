@@ -1,17 +1,20 @@
-//! Why a file or an output failed, as text.
+//! Why a file or an output failed: what is said of it on standard error.
 
 ghost use Rattle.std.specs.Prelude.{◌≡◌, OnOk, OnErr};
 ghost use Rattle.std.specs.Io.KnownBytes.{Appends};
 ghost use Rattle.exact_io.specs.Transfers.{AppendsBeginning};
-ghost use Rattle.commands.specs.Causes.{cause_line, line_after, conflict_line, unread_text};
+ghost use Rattle.messages.specs.Causes.{cause_line, line_after, conflict_line, unread_text, unwritten_text, conflict_text};
 
-use super::names::{dash_line, write_named};
+use crate::names::{dash_line, write_named};
 use exact_io::write_bytes;
 use std::io;
 use std::io::{ErrorKind, Write};
 
+/// Names standard output in messages.
+pub const STANDARD_OUTPUT: &str = "standard output";
+
 /// The end of a line that names a file, and then a line with the cause.
-pub fn cause_line(kind: ErrorKind) -> &'static str
+fn cause_line(kind: ErrorKind) -> &'static str
     ensures { result.now ≡ cause_line kind }
 {
     match kind {
@@ -61,7 +64,7 @@ pub fn cause_line(kind: ErrorKind) -> &'static str
 }
 
 /// The end of the line, and the line with the cause if it is known.
-pub fn line_after(cause: Option<ErrorKind>) -> &'static str
+fn line_after(cause: Option<ErrorKind>) -> &'static str
     ensures { result.now ≡ line_after cause }
 {
     match cause {
@@ -84,7 +87,7 @@ pub enum Conflict {
 }
 
 /// The end of a line that names such a file, and a line that says why.
-pub fn conflict_line(conflict: Conflict) -> &'static str
+fn conflict_line(conflict: Conflict) -> &'static str
     ensures { result.now ≡ conflict_line conflict }
 {
     match conflict {
@@ -104,4 +107,28 @@ pub fn say_unread<W: Write>(err: &mut W, path: &str, kind: ErrorKind) -> io::Res
 {
     write_named(err, "cannot read ", path, cause_line(kind))?;
     write_bytes(err, dash_line(path).as_bytes())
+}
+
+/// Says that a file or an output cannot be written, and why, if the cause is known.
+pub fn say_failed_write<W: Write>(
+    err: &mut W,
+    name: &str,
+    cause: Option<ErrorKind>,
+) -> io::Result<()>
+    ensures ok { OnOk result
+        (Appends (W.contents err.old) (W.contents err.new) (unwritten_text name.now cause)) }
+    ensures err { OnErr result (AppendsBeginning (W.contents err.old) (W.contents err.new)
+        (unwritten_text name.now cause)) }
+{
+    write_named(err, "cannot write ", name, line_after(cause))
+}
+
+/// Says that a file must not be written over, and why.
+pub fn say_conflict<W: Write>(err: &mut W, path: &str, conflict: Conflict) -> io::Result<()>
+    ensures ok { OnOk result
+        (Appends (W.contents err.old) (W.contents err.new) (conflict_text path.now conflict)) }
+    ensures err { OnErr result (AppendsBeginning (W.contents err.old) (W.contents err.new)
+        (conflict_text path.now conflict)) }
+{
+    write_named(err, "cannot write ", path, conflict_line(conflict))
 }

@@ -1,7 +1,7 @@
 use Rattle.std.proofs.Common.{◌<◌, length, rules}
 use Rattle.messages.proofs.Written.{on_err}
-use Rattle.commands.proofs.ShownNames.{next_written, next_broken, next_failed}
-use Rattle.commands.proofs.names.write_escaped.Goals as goal
+use Rattle.messages.proofs.ShownNames.{next_written, next_broken, next_failed}
+use Rattle.messages.proofs.names.write_escaped.Goals as goal
 
 pub shown-init : goal.shown-init
 shown-init g c = record {

@@ -5,7 +5,7 @@ use Rattle.std.specs.Io.KnownBytes.{Appends}
 use Rattle.std.proofs.KnownBytes.{Appends-trans}
 use Rattle.exact_io.specs.Transfers.{AppendsBeginning}
 use Rattle.exact_io.proofs.TransferLaws.{AppendsBeginning-first, AppendsBeginning-second}
-use Rattle.commands.specs.Names.{shown_byte, shown_from}
+use Rattle.messages.specs.Names.{shown_byte, shown_from}
 
 shown_next : (before byte next : ℕ) (rest after : List ℕ) → 0 < length rest
     → byte ≡ slice_index rest 0 → after ≡ drop 1 rest → next ≡ slice_index after 0

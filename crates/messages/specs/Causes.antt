@@ -1,9 +1,9 @@
 -- Why a file or an output failed, as text.
 use Rattle.std.specs.Prelude.{ℕ, List, ◌++◌, Option, Some, None, codes}
 use Rattle.std.specs.declared.io.ErrorKind.{ErrorKind}
-use Rattle.commands.specs.declared.causes.Conflict.{Conflict}
-use Rattle.commands.specs.declared.causes.Conflict.TheVariants.{IsRead, IsStandardOutput, IsWritten, IsDash}
-use Rattle.commands.specs.Names.{shown_name, dash_line}
+use Rattle.messages.specs.declared.causes.Conflict.{Conflict}
+use Rattle.messages.specs.declared.causes.Conflict.TheVariants.{IsRead, IsStandardOutput, IsWritten, IsDash}
+use Rattle.messages.specs.Names.{shown_name, dash_line}
 use Rattle.std.specs.declared.io.ErrorKind.TheVariants.{NotFound, PermissionDenied, IsADirectory, NotADirectory, AlreadyExists, ReadOnlyFilesystem, FilesystemLoop, InvalidFilename, InvalidInput, StorageFull, QuotaExceeded, FileTooLarge, ResourceBusy, ExecutableFileBusy, BrokenPipe, WriteZero, Interrupted, WouldBlock, TimedOut, Unsupported, OutOfMemory}
 
 -- the end of a line that names a file, and then a line with the cause
@@ -49,3 +49,11 @@ conflict_line IsDash = codes "\nstandard output is /dev/stdout\n"
 abbrev pub unread_text : List ℕ → ErrorKind → List ℕ
 unread_text path kind =
     (codes "cannot read " ++ (shown_name path ++ cause_line kind)) ++ dash_line path
+
+-- a file or an output cannot be written
+abbrev pub unwritten_text : List ℕ → Option ErrorKind → List ℕ
+unwritten_text name cause = codes "cannot write " ++ (shown_name name ++ line_after cause)
+
+-- a file must not be written over
+abbrev pub conflict_text : List ℕ → Conflict → List ℕ
+conflict_text path conflict = codes "cannot write " ++ (shown_name path ++ conflict_line conflict)

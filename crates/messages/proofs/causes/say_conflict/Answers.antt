@@ -1,0 +1,17 @@
+use Rattle.std.proofs.Common.{◌++◌, ℕ, List, codes, ap}
+use Rattle.messages.specs.Causes.{conflict_text}
+use Rattle.messages.specs.Names.{shown_name}
+use Rattle.messages.proofs.Written.{ok_text, err_text}
+use Rattle.messages.proofs.causes.say_conflict.Goals as goal
+
+pub returns-clause-ok : goal.returns-clause-ok
+returns-clause-ok g c =
+    ok_text _ _ _ _ (conflict_text c.args.path.now c.args.conflict)
+    (ap (λ (l : List ℕ). codes "cannot write " ++ (shown_name c.args.path.now ++ l))
+    c.conflict_line.ensures) c.write_named.ensures.ok
+
+pub returns-clause-err : goal.returns-clause-err
+returns-clause-err g c =
+    err_text _ _ _ _ (conflict_text c.args.path.now c.args.conflict)
+    (ap (λ (l : List ℕ). codes "cannot write " ++ (shown_name c.args.path.now ++ l))
+    c.conflict_line.ensures) c.write_named.ensures.err
