@@ -9,8 +9,11 @@ twice      statements that stand word for word in two files of proofs/, besides 
 answers    functions with more than 150 lines of answers
 arguments  statements of proofs/ with more than 20 arguments and premises
 blanks     runs of five `_` or more in proofs/
-copies     private functions whose only clause is that the result is what the definition of their own name says: it says the body
-           again, and is worth its lines only where it is the standard's, or where the contract of a caller rests on it
+copies     private functions whose only clause is that the result is what the definition of their own name in specs/ says. That
+           says the body again. Those that are left are ones on which the contract of a caller rests: what `verify`, `asm`,
+           `explain` and others print and accept is promised byte by byte, by definitions that are made of these. Definitions
+           of isa_model, as insn_codec's and checked_vm's, are the standard's, and do not count
+needless   those of them whose definition no other definition, no other clause and no proof names
 
 --each KIND prints each of a kind with its place. The exit status is 1 if there are more of a kind than LIMITS says. In the gate.
 """
@@ -23,15 +26,16 @@ from typing import NamedTuple
 
 from common import TOP, command_line
 
-LIMITS = {"unnamed": 0, "twice": 7, "answers": 5, "arguments": 6, "blanks": 159, "copies": 350}
+LIMITS = {"unnamed": 0, "twice": 7, "answers": 3, "arguments": 6, "blanks": 156, "copies": 301, "needless": 2}
 MOST_LINES, MOST_ARGUMENTS = 150, 20
 CRATES = Path(TOP, "crates")
 WORD = re.compile(r"[^\s(){},;:\"\[\].|]+")
 HEAD = re.compile(r"(?:pub )?([^\W\d][^\s:(){}.]*) :(?: |$)")
 BINDER = re.compile(r"[({]([^():{}]+) :")
 BLANKS = re.compile(r"(?:(?<![^\s(])_\s+){4,}_(?![^\s)])")
-PRIVATE = re.compile(r"^( *)fn (\w+)", re.MULTILINE)
+FUNCTION = re.compile(r"^( *)(pub(?:\(\w+\))? )?(?:const )?fn (\w+)", re.MULTILINE)
 CLAUSE = re.compile(r"\bensures(?: \w+)? \{")
+DEFINITION = re.compile(r"(?:(?:abbrev|unfoldable|pub) )+([^\W\d][^\s:(){}.]*) :(?: |$)")
 NO_LEMMA = re.compile(r"Examples\.antt:|/The[A-Z]\w*/")  # computed examples, and what a trait asks for
 
 
@@ -51,11 +55,11 @@ def files(*endings: str) -> Iterator[Path]:
             yield path
 
 
-def lemmas(path: Path) -> Iterator[Lemma]:
-    """The statements of a file of proofs, which begin at its margin."""
+def lemmas(path: Path, head: re.Pattern[str] = HEAD) -> Iterator[Lemma]:
+    """The statements of a file of proofs, or the definitions of one of specs/, which begin at its margin."""
     lines = path.read_text(encoding="utf-8").split("\n")
     for at, line in enumerate(lines):
-        found = HEAD.match(line)
+        found = head.match(line)
         if found:
             own = rf"(?: |unfolding|{re.escape(found[1])}(?: |$))"
             end = next((it for it in range(at + 1, len(lines)) if not re.match(own, lines[it])), len(lines))
@@ -90,15 +94,51 @@ def unnamed(every: list[Lemma]) -> list[str]:
     return [f"{it.place}: {it.name}" for it in every if seen[it.name] <= own[it.name] and not NO_LEMMA.search(it.place)]
 
 
-def copies() -> Iterator[str]:
-    """The private functions whose one clause names the definition that has their name, each with its place."""
-    for path in files(".rt"):
-        text = path.read_text(encoding="utf-8")
-        for found in PRIVATE.finditer(text):
-            head = re.split(rf"\n{found[1]}[^\s)]", text[found.start() :], maxsplit=1)[0]
-            same = re.search(rf"\bresult(?:\.now)? ≡ (?:spec\.)?{found[2]}\b", head)
-            if same and len(CLAUSE.findall(head)) == 1:
-                yield f"{path.relative_to(CRATES)}:{text.count(chr(10), 0, found.start()) + 1}: {found[2]}"
+class Function(NamedTuple):
+    """A function with its place and its clauses."""
+
+    place: str
+    name: str
+    private: bool
+    head: str
+
+
+def functions(path: Path) -> Iterator[Function]:
+    """The functions of a source file; the head of one ends where its body begins."""
+    text = path.read_text(encoding="utf-8")
+    for found in FUNCTION.finditer(text):
+        head = re.split(rf"\n{found[1]}[^\s)>]", text[found.start() :], maxsplit=1)[0]
+        place = f"{path.relative_to(CRATES)}:{text.count(chr(10), 0, found.start()) + 1}"
+        yield Function(place, found[3], not found[2], head.partition("(")[2])
+
+
+def copies() -> Iterator[tuple[str, bool]]:
+    """The private functions whose one clause names the definition that has their name, each with its place, and whether nothing
+    else names that definition."""
+    named: collections.Counter[tuple[str, str]] = collections.Counter()  # by crate
+    own: collections.Counter[tuple[str, str]] = collections.Counter()
+    found: list[tuple[str, Function]] = []
+    for path in files(".antt", ".rt"):
+        crate = path.relative_to(CRATES).parts[0]
+        if path.suffix == ".rt":
+            for it in functions(path):
+                named.update((crate, word) for word in {*WORD.findall(it.head)})
+                same = re.search(rf"\bresult(?:\.now)? ≡ (?:spec\.)?{it.name}\b", it.head)
+                if it.private and same and len(CLAUSE.findall(it.head)) == 1:
+                    found.append((crate, it))
+            continue
+        for line in path.read_text(encoding="utf-8").split("\n"):
+            used = re.match(r"use Rattle\.(\w+)\.", line)
+            if used and used[1] != crate:
+                named.update((used[1], word) for word in WORD.findall(line))
+            elif not used and not line.lstrip().startswith("--"):
+                named.update((crate, word) for word in WORD.findall(line))
+        if "specs" in path.parts:
+            for definition in lemmas(path, DEFINITION):
+                own[crate, definition.name] += sum(WORD.findall(line).count(definition.name) for line in definition.lines)
+    for crate, it in found:
+        if own[crate, it.name]:
+            yield f"{it.place}: {it.name}", named[crate, it.name] <= own[crate, it.name] + 1
 
 
 def counted() -> dict[str, list[str]]:
@@ -122,6 +162,7 @@ def counted() -> dict[str, list[str]]:
     twice = [
         f"{it.place}: {it.name}" for same in texts.values() for it in same[1:] if len({x.place.split(":")[0] for x in same}) > 1
     ]
+    same_again = [*copies()]
     many = [f"{it.place}: {it.name}: {arguments(it.type)}" for it in every if arguments(it.type) > MOST_ARGUMENTS]
     return {
         "unnamed": unnamed(every),
@@ -129,7 +170,8 @@ def counted() -> dict[str, list[str]]:
         "answers": answers,
         "arguments": many,
         "blanks": blanks,
-        "copies": [*copies()],
+        "copies": [place for place, _ in same_again],
+        "needless": [place for place, needless in same_again if needless],
     }
 
 
