@@ -8,7 +8,7 @@ on the next, values that are gone, pointers into call frames that have ended, re
 may leave out, and loops that take long or never end.
 
 usage: python3 attacks/attacks.py [PROGRAM] [--programs N] [--seed S] [--jobs J] [--keep FOLDER] [--family NAME]
-       [--seconds N] [--library FILE]
+       [--seconds N] [--library FILE] [--filter XDPVM_FILTER]
 
 N programs of each family are made, as texts. It reports each that `verify` accepts and `trace` ends
 with a trap or after more steps than the bound, or that `run` and `trace` run differently, each that
@@ -16,7 +16,7 @@ is refused for something that its family does not do, each of `witnesses` whose 
 without a trap, and each that takes more than a minute; its text and frames are kept in FOLDER. Many
 frames have an interface and a queue near the numbers of the text. A line for each family says how
 many were accepted, and why the others were refused. The exit status is 1 if anything was reported.
---library is as for fuzz.py.
+--library and --filter are as for fuzz.py.
 """
 import collections
 import os
@@ -30,7 +30,7 @@ from attack_programs import CORNERS, EDGES, NEVER
 from attack_programs import FAMILIES as RULES
 from attack_witnesses import loops, witness_of, witnesses
 from common import bytes_of, command_line, record, there, write
-from fuzz import REASONS, differs, spread, wait, words_of
+from fuzz import REASONS, begin, differs, spread, words_of
 from in_process import Ran, Run
 
 FAMILIES = {**RULES, "witnesses": witnesses, "loops": loops}
@@ -120,7 +120,7 @@ def main() -> None:
     words.add_argument("--programs", type=int, default=2_000)
     words.add_argument("--family", choices=FAMILIES, action="append", help="only this family")
     asked = words.parse_args()
-    wait(asked.seconds)
+    begin(asked)
     every: collections.Counter[str] = collections.Counter()
     findings = 0
     for family in asked.family or FAMILIES:

@@ -1,7 +1,8 @@
-/* Stands between a program and the C library, for break.py and break_survey.py. BREAK names what is to fail, WHEN which
-   call of that kind, counted from 1, and MARK a file that is made when it happens, and that gets a byte for each later
-   write to what failed. TICK is a number of nanoseconds: the clock then says n * n of them when it is read for the nth
-   time. Without these the program runs as always. */
+/* Stands between a program and the C library, for the scripts break*.py. BREAK names what is to fail, WHEN which call of that
+   kind, counted from 1, and MARK a file that is made when it happens, and that gets a byte for each later write to what
+   failed. WITHIN is a folder: only calls on files of it, on those that have relative paths, and on standard input and
+   outputs count then, and only those of processes that are called ONLY. TICK is a number of nanoseconds: the clock then says
+   n * n of them when it is read for the nth time. Without these the program runs as always. */
 #define _GNU_SOURCE
 #include <errno.h>
 #include <fcntl.h>
@@ -15,16 +16,33 @@
 extern void *__libc_malloc(size_t size);
 extern void *__libc_realloc(void *old, size_t size);
 
+enum { MOST_FILES = 1024 };
+
 static long calls;
+
+/* the files that are within the folder, by their numbers */
+static unsigned char is_within[MOST_FILES] = {1, 1, 1};
 
 /* whether this call is the one that is to fail */
 static int breaks(const char *kind) {
-    const char *what = getenv("BREAK"), *when = getenv("WHEN"), *mark = getenv("MARK");
-    if (!what || !when || !mark || strcmp(what, kind) || ++calls != atol(when)) {
+    const char *what = getenv("BREAK"), *when = getenv("WHEN"), *mark = getenv("MARK"), *only = getenv("ONLY");
+    if (!what || !when || !mark || strcmp(what, kind) || (only && strcmp(only, program_invocation_short_name))) {
+        return 0;
+    }
+    if (++calls != atol(when)) {
         return 0;
     }
     syscall(SYS_close, syscall(SYS_openat, AT_FDCWD, mark, O_WRONLY | O_CREAT, 0600));
     return 1;
+}
+
+static int counts_path(const char *path) {
+    const char *within = getenv("WITHIN");
+    return !within || path[0] != '/' || !strncmp(path, within, strlen(within));
+}
+
+static int counts_file(int file) {
+    return !getenv("WITHIN") || (file >= 0 && file < MOST_FILES && is_within[file]);
 }
 
 /* whether a byte was written, except to standard error */
@@ -50,12 +68,16 @@ void *realloc(void *old, size_t size) {
 
 /* a file or folder; what follows flags that create one is its mode */
 static int opened(int from, const char *path, int flags, va_list rest) {
-    int mode = flags & O_CREAT ? va_arg(rest, int) : 0;
-    if (breaks("open")) {
+    int mode = flags & O_CREAT ? va_arg(rest, int) : 0, counts = counts_path(path);
+    if (counts && breaks("open")) {
         errno = EACCES;
         return -1;
     }
-    return syscall(SYS_openat, from, path, flags, mode);
+    int file = syscall(SYS_openat, from, path, flags, mode);
+    if (file >= 0 && file < MOST_FILES) {
+        is_within[file] = counts;
+    }
+    return file;
 }
 
 int open(const char *path, int flags, ...) {
@@ -72,6 +94,53 @@ int openat(int from, const char *path, int flags, ...) {
     int file = opened(from, path, flags, rest);
     va_end(rest);
     return file;
+}
+
+int open64(const char *path, int flags, ...) __attribute__((alias("open")));
+int openat64(int from, const char *path, int flags, ...) __attribute__((alias("openat")));
+
+/* the file is closed all the same, as Linux does it */
+int close(int file) {
+    int counts = counts_file(file), result = syscall(SYS_close, file);
+    if (file > 2 && file < MOST_FILES) {
+        is_within[file] = 0;
+    }
+    if (file == failed) {
+        failed = -1;
+    }
+    if (result == 0 && counts && breaks("close")) {
+        errno = EIO;
+        return -1;
+    }
+    return result;
+}
+
+int renameat(int from, const char *old, int into, const char *path) {
+    if (counts_path(path) && breaks("rename")) {
+        errno = EACCES;
+        return -1;
+    }
+    return syscall(SYS_renameat, from, old, into, path);
+}
+
+int rename(const char *old, const char *path) {
+    return renameat(AT_FDCWD, old, AT_FDCWD, path);
+}
+
+static int flushed(long call, int file) {
+    if (counts_file(file) && breaks("flush")) {
+        errno = EIO;
+        return -1;
+    }
+    return syscall(call, file);
+}
+
+int fsync(int file) {
+    return flushed(SYS_fsync, file);
+}
+
+int fdatasync(int file) {
+    return flushed(SYS_fdatasync, file);
 }
 
 ssize_t getdents64(int folder, void *bytes, size_t count) {
@@ -96,11 +165,12 @@ int clock_gettime(clockid_t clock, struct timespec *now) {
 }
 
 ssize_t read(int file, void *bytes, size_t count) {
-    if (breaks("read")) {
+    int counts = counts_file(file);
+    if (counts && breaks("read")) {
         errno = EIO;
         return -1;
     }
-    return syscall(SYS_read, file, bytes, count > 1 && breaks("short-read") ? 1 : count);
+    return syscall(SYS_read, file, bytes, counts && count > 1 && breaks("short-read") ? 1 : count);
 }
 
 /* a file that has failed is written to again: a byte is written to the mark */
@@ -111,18 +181,19 @@ static void marks_again(void) {
 }
 
 ssize_t write(int file, const void *bytes, size_t count) {
+    int counts = counts_file(file);
     if (file == failed) {
         marks_again();
     }
-    if (breaks("write")) {
+    if (counts && breaks("write")) {
         failed = file;
         errno = ENOSPC;
         return -1;
     }
-    if (breaks("no-write")) {
+    if (counts && breaks("no-write")) {
         failed = file;
         return 0;
     }
     has_written |= file != STDERR_FILENO && count;
-    return syscall(SYS_write, file, bytes, count > 1 && breaks("short-write") ? 1 : count);
+    return syscall(SYS_write, file, bytes, counts && count > 1 && breaks("short-write") ? 1 : count);
 }

@@ -1,13 +1,13 @@
 #!/usr/bin/env python3
-"""Tries to break the program from outside: makes each allocation, each read and each write fail in turn, and each read and write
-move only one byte in turn, for every command on the examples.
+"""Tries to break the program from outside: makes each allocation, each opening, each read and each write fail in turn, and each
+read and write move only one byte in turn, for every command on the examples.
 
 usage: python3 attacks/break.py [--few] [PROGRAM [FOLDER]]
 
 ASSURANCE.md says which answers are allowed; the last line says how many were tried, in some minutes. PROGRAM is xdpvm (the default:
 crates/xdpvm/out/xdpvm). With FOLDER it takes what is there: NAME.image, with NAME.frames and NAME.table if there are some, and
-NAME.text. With --few it takes three programs and some proof tables, and each allocation, read and write in turn; that takes
-seconds, and the gate does it. It needs a C compiler (CC).
+NAME.text. With --few it takes three programs and some proof tables, and each allocation, opening, read and write in turn; that
+takes seconds, and the gate does it. It needs a C compiler (CC).
 """
 
 from __future__ import annotations
@@ -27,8 +27,8 @@ import common
 from common import TOP, bytes_of, there, write
 from failing import Answer, Told, Tried, prepare
 
-KINDS = ("alloc", "allocs", "read", "write", "no-write", "short-read", "short-write")
-FEW_KINDS = ("alloc", "read", "write")
+KINDS = ("alloc", "allocs", "open", "read", "write", "no-write", "short-read", "short-write", "close", "rename", "flush")
+FEW_KINDS = ("alloc", "open", "read", "write")
 
 
 def image(name: str) -> str:
@@ -76,6 +76,9 @@ RUNS = [
     ["verify", "falls.image"],
     ["verify", "lost"],
     ["walk"],
+    ["explain", "V9"],
+    ["--help"],
+    ["--version"],
     *by_table("allow"),
     *by_table("reasons"),
     ["prove", image("pass"), "made"],
@@ -168,6 +171,12 @@ def of_memory(_: Tried, words: list[str], found: Answer, good: Answer) -> str | 
     return "unchanged, what is known left away" if known else None
 
 
+def of_open(_: Tried, words: list[str], found: Answer, __: Answer) -> str | None:
+    named = [f"cannot read {name}" for name in words[1:]] + ["cannot write made"]
+    is_named = found.err.decode().splitlines() in [[line, "permission denied"] for line in named]
+    return "status 4" if found.status == 4 and is_named and found.is_quiet() else None
+
+
 def of_read(xdpvm: Tried, words: list[str], found: Answer, good: Answer) -> str | None:
     named = [words[1]] + ([words[-1]] if words[0] == "recheck" or "--table" in words else [])
     if found.status == 4 and message(found) in [f"cannot read {name}".encode() for name in named] and found.is_quiet():
@@ -198,7 +207,9 @@ def of_short(_: Tried, __: list[str], found: Answer, good: Answer) -> str | None
     return "unchanged" if found.is_as(good) else None
 
 
-ALLOWED = dict(zip(KINDS, (of_memory, of_memory, of_read, of_write, of_write, of_short, of_short)))
+ALLOWED = dict(
+    zip(KINDS, (of_memory, of_memory, of_open, of_read, of_write, of_write, of_short, of_short, of_short, of_open, of_write))
+)
 
 
 def takes_memory_late(xdpvm: Tried, words: list[str], good: Answer) -> bool:

@@ -1,16 +1,16 @@
 #!/usr/bin/env python3
-"""Breaks xdpvm_filter from outside: makes each allocation, read and write of some command lines fail in turn.
+"""Breaks xdpvm_filter from outside: makes each allocation, opening, read and write of some command lines fail in turn.
 
 usage: python3 attacks/break_filter.py [PROGRAM]
 
 PROGRAM is xdpvm_filter (the default: crates/xdpvm_filter/out/xdpvm_filter). If an allocation fails, the status is 5, standard
 error says so, and nothing is written, or all but the counts; or all is as without it, except for what is known of a refusal.
-If a read fails, its file is named, with status 4, and no output is made; or it was of the frames, and then status,
-counts, report, frames out and maps are those of a stream that fails there (F5). If a write fails or takes no byte, the output
-is named, with status 4, and each output has a beginning of what belongs there, or standard error got less; what failed is not
-written to again. Where the frames out go to standard output, standard error has the counts: a failure of it is told there, as
-one of standard output. Of frames that are written again (convert, show) the output has what was read before a read failed, and a
-beginning where a write did. A read or a write that moves one byte changes nothing. It needs a C compiler (CC). The last line is
+If a file is not opened, or a read of it fails, it is named, with status 4, and no output is made; or it was of the frames, and
+then status, counts, report, frames out and maps are those of a stream that fails there (F5). If a write fails or takes no byte,
+the output is named, with status 4, and each output has a beginning of what belongs there, or standard error got less; what failed
+is not written to again. Where the frames out go to standard output, standard error has the counts: a failure of it is told there,
+as one of standard output. Of frames that are written again (convert, show) the output has what was read before a read failed, and
+a beginning where a write did. A read or a write that moves one byte changes nothing. It needs a C compiler (CC). The last line is
 'N tried, M wrong'. In the gate.
 """
 from __future__ import annotations
@@ -25,7 +25,7 @@ import common
 from common import write
 from failing import Answer, Told, Tried, prepare
 
-KINDS = ("alloc", "allocs", "read", "write", "no-write", "short-read", "short-write")
+KINDS = ("alloc", "allocs", "open", "read", "write", "no-write", "short-read", "short-write", "close", "rename", "flush")
 OUTPUTS = ("made", "report", "held")
 EVERY_OUTPUT = ["--report", "report", "--maps-out", "held"]
 RUNS = (
@@ -104,6 +104,14 @@ def is_cut_off(words: list[str], answer: Answer, whole: Answer) -> bool:
     return right and b"the stream cannot be read\n" in answer.err
 
 
+def of_open(words: list[str], answer: Answer, _: Answer) -> str | None:
+    """Nothing is written but outputs that were made before the one that is not opened: those are empty."""
+    named = re.match(r"cannot (read|write) (\S+)\npermission denied\n", answer.err.decode())
+    if answer.status != 4 or not named or named[2] not in (*words, *OUTPUTS) or answer.out or any(answer.files):
+        return None
+    return "status 4" if answer.is_quiet() else "status 4, an output before it emptied"
+
+
 def of_conversion_read(words: list[str], answer: Answer, whole: Answer) -> str | None:
     """The file of frames is named, or what was read before is there: of nothing, the magic of the first form."""
     if answer.status == 4 and answer.err.startswith(f"cannot read {words[1]}\n".encode()):
@@ -136,7 +144,9 @@ def of_short(_: list[str], answer: Answer, whole: Answer) -> str | None:
     return "unchanged" if answer.is_as(whole) else None
 
 
-ALLOWED = dict(zip(KINDS, (of_memory, of_memory, of_read, of_write, of_write, of_short, of_short)))
+ALLOWED = dict(
+    zip(KINDS, (of_memory, of_memory, of_open, of_read, of_write, of_write, of_short, of_short, of_short, of_open, of_write))
+)
 
 
 def main() -> int:

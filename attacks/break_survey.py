@@ -10,7 +10,8 @@ left out. If a read fails, its file is named, with status 4 or more, or the fram
 fault, with status 3; if a write fails, the output is, or standard error got less; it is not written
 to again. If a file or folder cannot be opened, or a folder not listed, standard error names it and
 says why, with status 4. It never crashes, and never accepts an image that `verify` refuses. The
-times in a row are those of a clock that this script sets. With FOLDER it surveys each image there
+times in a row are those of a clock that this script sets. A proof table has what stood there before, or a beginning of the new
+one. With FOLDER it surveys each image there
 by itself, once with proof tables, and shows it. It needs a C compiler (CC). The last line is
 'N tried, M wrong'. Without FOLDER in the gate.
 """
@@ -37,6 +38,7 @@ RUNS = (
     ["few", "--tables", "made"],
     ["log", "examples/guarded.image"],
     ["log", "examples/unguarded.image", "--slot", "1"],
+    ["log", "examples/guarded.image", "--html"],
     ["dis", "examples/guarded.image"],
     ["dis", "--dot", "examples/guarded.image"],
     ["hits", "examples/filter.image", "examples/numbers.frames"],
@@ -47,6 +49,7 @@ RUNS = (
     ["--sort", "nothing", "few"],
     ["--what", "few"],
 )
+OUTPUTS = ("made/filter.table", "made/talkers.table")
 TIMES = re.compile(rb" *\d+\.\d+")
 # why break.c lets no file or folder be opened, and no folder be listed
 REASONS = {"open": b"permission denied", "list": b"it timed out"}
@@ -70,7 +73,8 @@ def is_shorter(answer: Answer, whole: Answer) -> bool:
 
 
 def is_right(kind: str, answer: Answer, whole: Answer) -> bool:
-    if answer.tried_again:
+    begun = all(found is None or (right or b"").startswith(found) for found, right in zip(answer.files, whole.files))
+    if answer.tried_again or not begun:
         return False
     if kind in REASONS:
         is_named = re.search(rb"^cannot (read|write) \S+\n" + REASONS[kind] + b"$", answer.err, re.M)
@@ -130,7 +134,7 @@ def main() -> int:
     parser.add_argument("folder", nargs="?", type=Path)
     given = parser.parse_args()
     runs = list(runs_of(str(given.folder.resolve()))) if given.folder else RUNS
-    survey, told = Tried(given.program, cleaned=without_times), Told()
+    survey, told = Tried(given.program, OUTPUTS, cleaned=without_times), Told()
     with tempfile.TemporaryDirectory() as folder:
         os.chdir(folder)
         make_files()

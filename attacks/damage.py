@@ -19,9 +19,9 @@ import sys
 import tempfile
 
 from in_process import Run
-from fuzz import absolute, built, differs, runner
+from fuzz import built, differs, runner
 import common
-from common import bytes_of, write
+from common import absolute, bytes_of, write
 
 EXAMPLES = f"{common.TOP}/examples"
 

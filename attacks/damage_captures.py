@@ -1,33 +1,36 @@
 #!/usr/bin/env python3
 """Damages captures: xdpvm_filter runs the packets before the damage, and then says which fault there is.
 
-usage: python3 attacks/damage_captures.py [XDPVM_FILTER] [--count N] [--seed N] [--tshark]
+usage: python3 attacks/damage_captures.py [XDPVM_FILTER] [--count N] [--seconds N] [--seed N] [--tshark]
 
-Each of N captures (30,000) is one of tests/captures.py with one to three of these changes: a byte, or four bytes of a length,
-have another value; bytes are left out or put in; or the file is cut. What has to come is worked out here, by the drafts of both
-formats (draft-ietf-opsawg-pcap, draft-ietf-opsawg-pcapng): the packets before the damage, with times and bytes, and then the
-end, or the fault F1 to F4 with its offset in the frame stream, and on standard error the byte at which the damaged record begins.
-A signal, a traceback of a sanitizer and a run of over ten
-seconds are wrong too. With --tshark each capture that has no fault here is also read by tshark, and the counts of packets are
-compared; tshark reads on after some faults, so these are left out.
+Each of N captures (30,000; with --seconds as many as come in so long) is one of tests/captures.py with one to three of these
+changes: a byte, or four bytes of a length, have another value; bytes are left out or put in; or the file is cut. Some have their
+packets many times, up to a megabyte. What has to come is worked out here, by the drafts of both formats (draft-ietf-opsawg-pcap,
+draft-ietf-opsawg-pcapng): the packets before the damage, with times and bytes, and then the end, or the fault F1 to F4 with its
+offset in the frame stream, and on standard error the byte at which the damaged record begins. A signal, and a run of over a
+second of the processor or 300 MB are wrong too. With --tshark each capture that has no fault here is also read by tshark, and the
+counts of packets are compared; tshark reads on after some faults, so these are left out.
 
 What differs is printed, and kept in /tmp as damaged.N.capture; the last line counts, and the status is 1 if anything differs.
 """
 import argparse
+import itertools
 import os
 import random
 import struct
 import subprocess
 import sys
 import tempfile
+import time
 from dataclasses import dataclass, field
 
 TOP = os.path.dirname(os.path.dirname(os.path.abspath(__file__)))
 sys.path.insert(0, os.path.join(TOP, "checks"))
 sys.path.insert(0, os.path.join(TOP, "tests"))
 from captures import LINKS, PASS, SEEDS, Packet, capture, packets_of_stream
-from common import built, bytes_of, write
+from common import built, bytes_of, measured, write
 
+MOST, SECONDS, KIB = 1_000_000, 1.0, 300 << 10  # bytes of a capture, and what one may take
 MOST_CAPTURED, MOST_BLOCK, MOST_FRAME, MOST_INTERFACES = 262_144, 4_194_304, 9216, 4096
 LEAST = {0x0A0D0D0A: 28, 1: 20, 2: 32, 3: 16, 6: 32}
 PCAPS = {0xA1B2C3D4: 1000, 0xA1B23C4D: 1}
@@ -201,6 +204,9 @@ def expected(data: bytes) -> Found:
 
 def damaged(chance: random.Random, data: bytes) -> bytes:
     """A capture with one to three changes."""
+    if chance.random() < 0.01:
+        rest = data if data[:4] == b"\x0a\x0d\x0d\x0a" else data[24:]
+        data += rest * chance.randrange(MOST // (len(rest) or 1))
     made = bytearray(data)
     for _ in range(chance.randint(1, 3)):
         at = chance.randrange(len(made) + 1)
@@ -230,15 +236,14 @@ def counted_by_tshark(path: str) -> int | None:
 
 def differs(program: str, path: str, out: str, wanted: Found) -> str:
     """What is wrong with a run, or nothing."""
-    try:
-        ran = subprocess.run([program, PASS, path, out], capture_output=True, timeout=10, check=False)
-    except subprocess.TimeoutExpired:
-        return "it takes over ten seconds"
+    ran = measured(["timeout", "-s", "KILL", "60", program, PASS, path, out])
+    if ran.seconds > SECONDS or ran.kib > KIB:
+        return f"{ran.seconds:.2f} seconds, {ran.kib} KiB"
     status = 0 if wanted.ending.startswith("end") else 3
-    said = ran.stdout.decode(errors="replace").splitlines()
-    if ran.returncode != status or not said or said[-1] != wanted.ending:
-        return f"status {ran.returncode}, {said[-1:]}, wanted {wanted.ending}"
-    places = [line for line in ran.stderr.decode(errors="replace").splitlines() if line.startswith("at byte ")]
+    said = ran.out.splitlines()
+    if ran.status != status or not said or said[-1] != wanted.ending:
+        return f"status {ran.status}, {said[-1:]}, wanted {wanted.ending}"
+    places = [line for line in ran.err.splitlines() if line.startswith("at byte ")]
     there = [f"at byte {wanted.at}:"] if status and "F1" not in wanted.ending else []
     if [line[: line.find(":") + 1] for line in places] != there:
         return f"it says {places}, wanted {there}"
@@ -250,6 +255,7 @@ def main() -> int:
     parser = argparse.ArgumentParser(description=__doc__, formatter_class=argparse.RawDescriptionHelpFormatter)
     parser.add_argument("program", nargs="?", default=built("xdpvm_filter"))
     parser.add_argument("--count", type=int, default=30_000)
+    parser.add_argument("--seconds", type=int)
     parser.add_argument("--seed", type=int, default=1)
     parser.add_argument("--tshark", action="store_true")
     given = parser.parse_args()
@@ -257,7 +263,10 @@ def main() -> int:
     whole = [capture(seed) for seed in SEEDS]
     with tempfile.TemporaryDirectory() as folder:
         path, out = os.path.join(folder, "a.capture"), os.path.join(folder, "a.frames")
-        for number in range(given.count):
+        end = time.monotonic() + (given.seconds or 0)
+        for number in itertools.count() if given.seconds else range(given.count):
+            if given.seconds and time.monotonic() > end:
+                break
             data = damaged(chance, chance.choice(whole))
             wanted = expected(data)
             if wanted.ending == "not a capture":

@@ -3,13 +3,15 @@
 import os
 import subprocess
 from collections import Counter
-from collections.abc import Callable, Iterator, Sequence
-from dataclasses import dataclass
+from collections.abc import Callable, Iterator, Mapping, Sequence
+from dataclasses import dataclass, field
 from typing import IO
 
-from common import TOP, bytes_of, compiler
+from common import TOP, bytes_of, compiler, write
 
 BETWEEN, MARK, STORED = "between.so", "mark", "standard.output"
+OLD = b"what stood in an output before\n"
+GONE = b"an output that is gone"
 SECONDS = 60
 
 
@@ -22,7 +24,7 @@ def prepare() -> None:
 @dataclass(frozen=True)
 class Answer:
     """What a run wrote to standard output and standard error, its status, its files, and whether the call that was to fail was
-    reached, and tried again."""
+    reached, and tried again. A file that has what stood in it before is None."""
 
     status: int
     out: bytes
@@ -38,29 +40,39 @@ class Answer:
         return (self.status, self.out, self.files) == (whole.status, whole.out, whole.files)
 
     def is_quiet(self) -> bool:
-        """Whether neither standard output nor a file got a byte."""
-        return not self.out and not any(self.files)
+        """Whether standard output got no byte, and each file is as it was."""
+        return not self.out and not any(it is not None for it in self.files)
 
     def begins(self, whole: "Answer") -> bool:
-        """Whether each output has a beginning of what it should have, and nothing else."""
+        """Whether each output has a beginning of what it should have, and nothing else, or is as it was."""
         pairs = zip((self.out, *self.files), (whole.out, *whole.files))
-        return all((right or b"").startswith(found or b"") for found, right in pairs)
+        return all(found is None or right is not None and right.startswith(found) for found, right in pairs)
+
+
+def changed(name: str, before: bytes) -> bytes | None:
+    """What an output has now; None: what stood in it before."""
+    found = bytes_of(name) if os.path.exists(name) else GONE
+    return None if found == before else found
 
 
 @dataclass(frozen=True)
 class Tried:
-    """A program, the files that it may write, and what makes its standard output the same in each run."""
+    """A program, the files that it may write, what makes its standard output the same in each run, more of its
+    environment, and what stands in outputs before a run, if not OLD."""
 
     program: str
     outputs: tuple[str, ...] = ()
     cleaned: Callable[[bytes], bytes] = bytes
+    environment: Mapping[str, str] = field(default_factory=dict)
+    before: Mapping[str, bytes] = field(default_factory=dict)
 
     def answer(self, words: Sequence[str], kind: str | None = None, call: int = 0, stored: bool = False) -> Answer:
         """A run, in which the nth call of a kind fails. Standard output is a pipe, or a file where it is stored."""
-        for name in (*self.outputs, MARK):
-            if os.path.exists(name):
-                os.remove(name)
-        env = {"LD_PRELOAD": os.path.abspath(BETWEEN)}
+        for name in self.outputs:
+            write(name, self.before.get(name, OLD))
+        if os.path.exists(MARK):
+            os.remove(MARK)
+        env = {"LD_PRELOAD": os.path.abspath(BETWEEN), **self.environment}
         if kind:
             env.update({"BREAK": kind, "WHEN": str(call), "MARK": os.path.abspath(MARK)})
         with open(STORED, "w+b") as file:
@@ -71,7 +83,7 @@ class Tried:
             )
             file.seek(0)
             said = self.cleaned(file.read() if stored else ran.stdout)
-        files = tuple(bytes_of(name) if os.path.exists(name) else None for name in self.outputs)
+        files = tuple(changed(name, self.before.get(name, OLD)) for name in self.outputs)
         reached = os.path.exists(MARK)
         return Answer(ran.returncode, said, ran.stderr, files, reached, reached and os.path.getsize(MARK) > 0)
 

@@ -3,7 +3,7 @@
 maps, helpers and functions, and runs those that are accepted on random frames.
 
 usage: python3 attacks/fuzz.py [PROGRAM] [--programs N] [--seed S] [--jobs J] [--keep FOLDER] [--ways] [--seconds N]
-       [--library FILE]
+       [--library FILE] [--filter XDPVM_FILTER]
 
 Programs and frame streams are of both versions. It reports each accepted program that `trace` ends
 with a trap or after more steps than the bound, that `run` and `trace` run differently, whose frames
@@ -13,7 +13,9 @@ that takes more than a minute. The program and its frames are kept in FOLDER. Mo
 right by construction except for one or two changes, such as a limit that is off by one, so that
 about half are accepted. The last line counts. The exit status is 1 if anything was reported. With
 --library a shared library (in_process.py says how to make one) does in this process what it can,
-some ten times as fast; a job that dies is reported with the folder of its last input.
+some ten times as fast; a job that dies is reported with the folder of its last input. With --filter
+each accepted program with maps also runs on maps with random contents, by XDPVM_FILTER with checks,
+and without: both have to write the same, and no run traps.
 """
 import argparse
 import json
@@ -31,12 +33,15 @@ from collections.abc import Callable, Iterable, Iterator
 
 import in_process
 import common
-from common import bytes_of, record, write
+from common import absolute, bytes_of, record, write
 from in_process import Ran, Run
+from kernel_calls import parsed
+from random_contents import contents
 from random_programs import Maker
 
 Tried = Callable[[Run, int, str], tuple[str | None, str]]  # what is wrong with the results for a seed, and the verdict's code
 SECONDS = 60
+FILTER: list[str] = []  # the program that fills maps, where one is given
 REASONS = [0, 0, 0, 0, 1, 7, 2**31, 2**32 - 1]
 
 
@@ -123,20 +128,47 @@ def misled(code: list[list[int]], verdict: Ran, ways: bool) -> str | None:
     return None if goes(code, jumps, int(verdict.stdout.split()[3])) else f"no way to the refusal: {known}"
 
 
+def unbounded(rows: list[list[str]], bound: int) -> str | None:
+    """A line of a report for a run that traps or passes the bound: None, or a text."""
+    for row in rows:
+        if row[0].isdigit() and (row[1] in ("TRAP", "LIMIT") or int(row[3]) > bound):
+            return f"accepted with bound {bound}: {' '.join(row)}"
+    return None
+
+
+def differs_filled(paths: list[str], image: bytes, bound: int, run: Run) -> str | None:
+    """What is wrong with the runs of an accepted program on maps with random contents: None, or a text."""
+    folder = os.path.dirname(paths[0])
+    maps, reports = os.path.join(folder, "begin.maps"), [os.path.join(folder, f"sent.{at}") for at in (0, 1)]
+    write(maps, contents(random.Random(zlib.crc32(image)), parsed(image)[0]))
+    found = []
+    for which, sent, report in zip(("checked", "filled"), paths[2:], reports):
+        ran = run(which, paths[0], paths[1], sent, maps, report)
+        if ran.returncode != 0:
+            return f"{which}: {ran}"
+        rows = [line.split() for line in bytes_of(report).decode().splitlines()]
+        if wrong := unbounded(rows, bound) or misreported(image, rows, bytes_of(sent)):
+            return f"on maps that are filled, {which}: {wrong}"
+        found.append((rows, bytes_of(sent)))
+    return None if found[0] == found[1] else f"on maps that are filled, with checks {found[0]}, and without {found[1]}"
+
+
 def differs(paths: list[str], bound: int, run: Run) -> str | None:
     """What is wrong with the runs of an accepted program: None, or a text. In this process a program with maps is
     traced on starting maps; one in eight runs in processes of its own too, where maps go from frame to frame. A
     program whose trace is wrong is not run: that might not end, or end this process."""
     image = bytes_of(paths[0])
-    if isinstance(run, in_process.Runner) and image[4:6] != b"\0\0":
+    has_maps = image[4:6] != b"\0\0"
+    if FILTER and has_maps and (wrong := differs_filled(paths, image, bound, run)):
+        return wrong
+    if isinstance(run, in_process.Runner) and has_maps:
         wrong = in_process.differs_alone(run.library, image, bytes_of(paths[1]), bound)
         if wrong or zlib.crc32(image) % 8:
             return wrong
     traced = run("trace", paths[0], paths[1], paths[2])
     rows = [line.split() for line in traced.stdout.decode().splitlines()]
-    for row in rows:
-        if row[0].isdigit() and (row[1] in ("TRAP", "LIMIT") or int(row[3]) > bound):
-            return f"accepted with bound {bound}: {' '.join(row)}"
+    if wrong := unbounded(rows, bound):
+        return wrong
     ran = run("run", paths[0], paths[1], paths[3])
     sent = [bytes_of(path) for path in paths[2:]]
     if (traced.returncode, traced.stdout, sent[0]) != (ran.returncode, ran.stdout, sent[1]) or traced.returncode != 0:
@@ -151,21 +183,27 @@ def built(path: str) -> str:
     return os.path.abspath(path)
 
 
-def absolute(path: str) -> str:
-    return os.path.abspath(path)
-
-
 def wait(seconds: int) -> None:
     """How long a command may take from now on."""
     global SECONDS  # pylint: disable=global-statement
     SECONDS = seconds
 
 
+def command(program: str, words: tuple[str, ...]) -> list[str]:
+    """The command line for these words: of the program, or of the one that fills maps."""
+    if words[0] not in ("filled", "checked"):
+        return [program, *words]
+    _, image, frames_in, sent, maps, report = words
+    checked = ["--checked"] * (words[0] == "checked")
+    return [*FILTER, image, frames_in, sent, "--maps", maps, "--report", report, *checked]
+
+
 def runner(program: str, library: str | None = None) -> Run:
     """Runs the program with these words, for a minute at most; with a library, what it can in this process."""
 
     def process(*words: str) -> Ran:
-        return subprocess.run([program, *words], timeout=SECONDS, stdin=subprocess.DEVNULL, capture_output=True, check=False)
+        called = command(program, words)
+        return subprocess.run(called, timeout=SECONDS, stdin=subprocess.DEVNULL, capture_output=True, check=False)
 
     if library:
         return in_process.Runner(library, process)
@@ -246,6 +284,13 @@ def words_of(parser: argparse.ArgumentParser) -> None:
     parser.add_argument("--keep", default="found", help="folder for what is found")
     parser.add_argument("--seconds", type=int, default=SECONDS, help="what a command may take; more on a busy machine")
     parser.add_argument("--library", type=absolute, help="a shared library that answers in this process")
+    parser.add_argument("--filter", type=built, help="xdpvm_filter: programs with maps run on random contents, too")
+
+
+def begin(asked: argparse.Namespace) -> None:
+    """How long a command may take, and what fills maps."""
+    wait(asked.seconds)
+    FILTER[:] = [asked.filter] if asked.filter else []
 
 
 def main() -> None:
@@ -254,7 +299,7 @@ def main() -> None:
     words.add_argument("--programs", type=int, default=20_000)
     words.add_argument("--ways", action="store_true", help="each refusal must say its way")
     asked = words.parse_args()
-    wait(asked.seconds)
+    begin(asked)
     counts, found = spread(asked, "seed", lambda run, seed, folder: tried(run, seed, folder, asked.ways))
     print(", ".join(f"{code} {count}" for code, count in counts.most_common()))
     print(f"{asked.programs} programs, {counts['accepted']} accepted, {found} findings")

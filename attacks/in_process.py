@@ -35,7 +35,10 @@ CALLS = {
     "xdpvm_trace_once": [CONST, SIZE, CONST, PLACE, SIZE, WORD, PLACE],
     "xdpvm_run_stream": [CONST, SIZE, CONST, SIZE, PLACE, SIZE, PLACE, SIZE, PLACE],
     "xdpvm_recheck": [CONST, SIZE, CONST, SIZE, PLACE, SIZE, PLACE],
+    "xdpvm_open": [CONST, SIZE, PLACE],
     "xdpvm_open_with_table": [CONST, SIZE, CONST, SIZE, PLACE],
+    "xdpvm_fill": [PLACE, CONST, SIZE, PLACE],
+    "xdpvm_stream": [PLACE, CONST, SIZE, PLACE, SIZE, PLACE, SIZE, PLACE],
     "xdpvm_run": [PLACE, CONST, PLACE, SIZE, PLACE],
     "xdpvm_close": [PLACE],
 }
@@ -106,11 +109,30 @@ class Library:
 
     def run(self, image: bytes, stream: bytes) -> tuple[int, bytes, bytes]:
         """The status, the report, and the frames out."""
-        status = self.asked(
-            self.calls.xdpvm_run_stream(image, len(image), stream, len(stream), self.one, ROOM, self.two, ROOM, self.out)
+        return self.streamed(
+            self.asked(
+                self.calls.xdpvm_run_stream(image, len(image), stream, len(stream), self.one, ROOM, self.two, ROOM, self.out)
+            )
         )
+
+    def streamed(self, status: int) -> tuple[int, bytes, bytes]:
+        """The status of a run over a stream, the report, and the frames out."""
         report, sent, _, _, fault = struct.unpack_from("<QQQII", self.out.raw)
         return 3 if fault else status, self.taken(self.one, report), self.taken(self.two, sent)
+
+    def run_filled(self, image: bytes, maps: bytes, stream: bytes) -> tuple[int, bytes, bytes]:
+        """The same in a session whose maps are filled by a text first."""
+        ctypes.memset(self.session, 0, 8)
+        if self.asked(self.calls.xdpvm_open(image, len(image), self.session)):
+            raise ValueError("verify accepts what open refuses")
+        try:
+            if self.asked(self.calls.xdpvm_fill(self.session, maps, len(maps), self.out)):
+                raise ValueError("a text does not fill the maps")
+            return self.streamed(
+                self.asked(self.calls.xdpvm_stream(self.session, stream, len(stream), self.one, ROOM, self.two, ROOM, self.out))
+            )
+        finally:
+            self.calls.xdpvm_close(self.session)
 
     def trace(self, image: bytes, head: Head, packet: bytes) -> Ended:
         """r0, the steps, how it ended, the reason of a trap, and the packet then, of a traced run on starting maps."""
@@ -199,8 +221,8 @@ def told(status: int, bound: int, why: bytes) -> Answer:
 
 
 class Runner:
-    """Does asm, verify, recheck, run and trace by the library; `run` with a table, `trace` of a
-    program with maps, for which the library has no call, and other commands by a process."""
+    """Does asm, verify, recheck, run and trace by the library, and a run on maps that are filled; `run` with a table,
+    `trace` of a program with maps, for which the library has no call, and other commands by a process."""
 
     def __init__(self, path: str, process: Run) -> None:
         self.library, self.process = Library(path), process
@@ -208,7 +230,7 @@ class Runner:
     def __call__(self, *words: str) -> Ran:
         answer = (
             getattr(self, words[0], None)
-            if len(words) == {"asm": 3, "verify": 2, "recheck": 3, "run": 4, "trace": 4}.get(words[0])
+            if len(words) == {"asm": 3, "verify": 2, "recheck": 3, "run": 4, "trace": 4, "filled": 6}.get(words[0])
             else None
         )
         try:
@@ -235,6 +257,13 @@ class Runner:
             return None
         write(sent, out)
         return status, report, b""
+
+    def filled(self, image: str, frames: str, sent: str, maps: str, report: str) -> Answer:
+        """A run on maps that are filled by a text: its report and its frames out are written."""
+        status, lines, out = self.library.run_filled(bytes_of(image), bytes_of(maps), bytes_of(frames))
+        write(report, lines)
+        write(sent, out)
+        return status, b"", b""
 
     def trace(self, image: str, frames: str, sent: str) -> Answer | None:
         program = bytes_of(image)

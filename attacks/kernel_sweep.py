@@ -2,7 +2,7 @@
 """Compares many programs with the Linux kernel of this machine: verdicts, and runs if both accept.
 
 usage: python3 attacks/kernel_sweep.py SET [--program XDPVM] [--count N] [--seed S] [--plain] [--jobs J] [--keep FOLDER]
-       [--name CODE]
+       [--name CODE] [--filter XDPVM_FILTER]
 
 SET is one of
   images PATH ..   images, or folders of images; with PATH.frames beside PATH.image if there is one
@@ -15,9 +15,10 @@ SET is one of
 
 A program runs on 20 frames (arithmetic: on each pair of boundary numbers). It is reported if `xdpvm
 run` and the kernel differ in the action, in the packet's bytes or in the key-value pairs of the
-maps; its image and frames are kept in FOLDER. Programs that call helper 5 are not run. Verdicts
-that differ are counted by the last words of the refusal. With --name each program that is refused
-here with that code and accepted by the kernel is named, and kept too.
+maps; its image and frames are kept in FOLDER. Where a program calls helper 5, both are given one
+time. Verdicts that differ are counted by the last words of the refusal. With --name each program
+that is refused here with that code and accepted by the kernel is named, and kept too. With --filter
+both begin with maps that are filled alike, with random contents, and XDPVM_FILTER runs the program.
 """
 import argparse
 import collections
@@ -37,6 +38,8 @@ from common import bytes_of, command_line, image_of, insn, write
 import kernel
 import kernel_calls
 from attack_programs import FAMILIES
+from map_files import Filling
+from random_contents import contents
 from random_programs import Maker
 
 Frame = tuple[int, bytes]
@@ -231,37 +234,47 @@ def maps() -> Iterator[Item]:
 # ---- the comparison
 
 
-def calls_clock(image: bytes) -> bool:
-    return any(it[0] == 0x85 and it[1] >> 4 == 0 and struct.unpack("<i", it[4:])[0] == 5 for it in kernel_calls.parsed(image)[1])
-
-
 def shape(words: str) -> str:
     """A refusal without its numbers."""
     return re.sub(r"-?\b0x[0-9a-f]+|-?\d+", "N", words.split(" processed")[0])[:110]
 
 
-def compared(item: Item, program: str, folder: str) -> tuple[tuple[str, str], list[str], int]:
-    """The verdicts' class, and what differs between the runs."""
+def filling_of(item: Item) -> bytes:
+    """Random contents for the maps of a program, as a text."""
+    return contents(random.Random(item[0]), kernel_calls.parsed(item[1])[0]).encode()
+
+
+def ran_alike(item: Item, ran: kernel.Ran, given: argparse.Namespace, folder: str) -> tuple[list[str], int]:
+    """What differs between the runs of a program that both accept, and how many frames were run by both."""
     _, image, frames = item
-    path = f"{folder}/image"
-    write(path, image)
-    ran = kernel.Ran(program, path, None)
+    filled = None
+    if given.filter and image[4:6] != b"\0\0":
+        filled = kernel.Filled(given.filter, Filling(write(f"{folder}/begin.maps", filling_of(item))))
+    if kernel.asks_for_time(image):
+        frames = [(kernel.TIME, body) for _, body in frames]
+    with kernel_calls.Kernel(kernel.with_time(image)) as there:
+        there.fill(filled.entries() if filled else [])
+        ran.run(given.program, f"{folder}/image", frames, filled)
+        return kernel.differences(there, ran, frames)
+
+
+def compared(item: Item, given: argparse.Namespace, folder: str) -> tuple[tuple[str, str], list[str], int]:
+    """The verdicts' class, and what differs between the runs."""
+    ran = kernel.Ran(given.program, write(f"{folder}/image", item[1]), None)
     ours = "ok" if ran.accepted else " ".join(ran.verdict.split()[:2])
     if ours.startswith("refused I") or ours.startswith("refused C"):
         return (ours, "no image"), [], 0
-    with kernel_calls.Kernel(image) as there:
+    with kernel_calls.Kernel(item[1]) as there:
         theirs = "ok" if there.refusal is None else shape(there.refusal)
-        if ours != "ok" or theirs != "ok" or calls_clock(image):
-            return (ours, theirs), [], 0
-        ran.run(program, path, frames)
-        found, both = kernel.differences(there, ran, frames)
-        return ("ok", "ok"), found, both
+    if ours != "ok" or theirs != "ok":
+        return (ours, theirs), [], 0
+    return ("ok", "ok"), *ran_alike(item, ran, given, folder)
 
 
 def keep(item: Item, folder: str) -> None:
     os.makedirs(folder, exist_ok=True)
     kept = re.sub(r"\W+", "_", item[0])
-    for ending, content in (("image", item[1]), ("frames", kernel.stream_of(item[2]))):
+    for ending, content in (("image", item[1]), ("frames", kernel.stream_of(item[2])), ("maps", filling_of(item))):
         write(f"{folder}/{kept}.{ending}", content)
 
 
@@ -274,10 +287,12 @@ def work(items: Iterable[Item], given: argparse.Namespace, job: int) -> Told:
             if number % given.jobs != job:
                 continue
             try:
-                verdicts, found, both = compared(item, given.program, folder)
+                verdicts, found, both = compared(item, given, folder)
             except OSError as error:
                 counts[("not made", str(error))] += 1
                 continue
+            except ValueError as error:
+                verdicts, found, both = ("ok", "ok"), [f"it is not run: {error}"], 0
             counts[verdicts] += 1
             frames += both
             if verdicts == (f"refused {given.name}", "ok"):
@@ -310,9 +325,11 @@ def main() -> int:
     words.add_argument("--jobs", type=int, default=os.cpu_count())
     words.add_argument("--keep", default="found")
     words.add_argument("--name", metavar="CODE")
+    words.add_argument("--filter", metavar="XDPVM_FILTER")
     given = words.parse_args()
-    if not shutil.which(given.program):
-        sys.exit(f"kernel_sweep.py: there is no program {given.program}")
+    for name in (given.program, given.filter or given.program):
+        if not shutil.which(name):
+            sys.exit(f"kernel_sweep.py: there is no program {name}")
     if given.plain:
         kernel_calls.without_perfmon()
     pipes = []

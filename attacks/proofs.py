@@ -30,9 +30,9 @@ from collections.abc import Callable, Iterator
 
 sys.path.insert(0, os.path.join(os.path.dirname(os.path.abspath(__file__)), "../checks"))
 import common
-from common import TOP, bytes_of, there, write
+from common import TOP, absolute, bytes_of, there, write
 import table
-from fuzz import absolute, frames, runner, wait
+from fuzz import frames, runner, wait
 from in_process import Library, Run, Runner, records
 from random_programs import Maker
 

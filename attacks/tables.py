@@ -2,35 +2,36 @@
 """Damages proof tables, and compares the verdicts of `xdpvm recheck` with a judge that is written
 here.
 
-usage: python3 attacks/tables.py PROGRAM [--random N] [--seed S] [--few N]
+usage: python3 attacks/tables.py [PROGRAM] [--version N] [--random N] [--seed S] [--few N] [--library FILE]
 
 PROGRAM is an optimized `xdpvm`. Each byte of the table of `r0 = 2; exit` is changed to each other value, and the table
 is cut after each byte: the verdict must be the judge's, except for the step's own refusal after P7.
-Then N tables (20,000) of larger programs of tools/ and bench/ are damaged at random: by changed
-bytes, by bytes taken out or put in, by a cut, or by an entry that is there twice. Their form and
+Then N tables (20,000) of four larger programs are damaged at random: by changed bytes, by bytes
+taken out or put in, by a cut, or by an entry that is there twice. Their form and
 fields are judged. Each table that is accepted must run its program as `run` does without a table,
-and its bound must not be below the steps that were made. With --few only every N-th of the changed
-tables is tried. The exit status is 0 if nothing differs.
+and its bound must not be below the steps that were made. The programs are of version N of images
+(1). With --few only every N-th of the changed tables is tried. --library is as for fuzz.py. The
+exit status is 0 if nothing differs.
 """
-import argparse
 import collections
 import os
 import random
 import struct
-import subprocess
 import sys
 import tempfile
 from collections.abc import Iterator
 
 sys.path.insert(0, os.path.join(os.path.dirname(os.path.abspath(__file__)), "../checks"))
-from common import bytes_of, record, write
+from common import absolute, built, bytes_of, command_line, record, runnable, write
 import table
+from fuzz import runner
+from in_process import Run
 from table import Refused
 
 SMALL = "r0 = 2\nexit\n"
 LARGER = {
     "calls": (
-        "r6 = *(u32 *)(r1 + 12)\nr1 = r6\ncall leaf\nr7 = r0\nr1 = 5\ncall leaf\nr0 += r7\nexit\n"
+        "r6 = *(u32 *)(r1 + 12)\nr1 = r6\ncall leaf\nr7 = r0\nr1 = 5\ncall leaf\nr0 += r7\nr0 &= 1\nexit\n"
         "leaf: *(u64 *)(r10 - 8) = r1\nr0 = *(u64 *)(r10 - 8)\nif r0 > 9 goto big\nr0 += 1\nexit\nbig: r0 = 9\nexit\n"
     ),
     "packet": (
@@ -123,7 +124,15 @@ def covers(slot: int, frames: list[table.Frame], other_slot: int, others: list[t
     )
 
 
-def judged_small(data: bytes) -> str:
+def is_answer(value: table.Value, version: int) -> bool:
+    """Whether r0 may be this at the last exit: a number, in version 2 one whose low half is known to be 4 at most."""
+    if value[0] != "number" or version == 1:
+        return bool(value[0] == "number")
+    _, known, mask, _, greatest, _, _, _, low_greatest, _, _ = value
+    return bool(min((known | mask) % 2**32, low_greatest, greatest) <= 4)
+
+
+def judged_small(data: bytes, version: int) -> str:
     """The verdict on a table of `r0 = 2; exit`."""
     try:
         entries = read(data, {0, 1}, 0)
@@ -136,7 +145,7 @@ def judged_small(data: bytes) -> str:
     for at, entry in enumerate(entries):
         frame = entry.frames[0]
         if entry.slot == 1:
-            if frame.registers[0][0] != "number":
+            if not is_answer(frame.registers[0], version):
                 return f"P7 entry {at}"
             if entry.successors:
                 return f"P8 entry {at}"
@@ -156,18 +165,18 @@ def judged_small(data: bytes) -> str:
 class Tried:
     """A program, and what was tried with it."""
 
-    def __init__(self, program: str) -> None:
-        self.program = program
+    def __init__(self, run: Run, version: int) -> None:
+        self.run, self.version = run, version
         self.counts: collections.Counter[str] = collections.Counter()
         self.wrong: list[tuple[object, ...]] = []
         self.ran: dict[str, tuple[int, str]] = {}
 
     def said(self, *words: str) -> tuple[int, str]:
-        ended = subprocess.run([self.program, *words], stdout=subprocess.PIPE, stderr=subprocess.DEVNULL, text=True, check=False)
-        return ended.returncode, ended.stdout.strip()
+        ended = self.run(*words)
+        return ended.returncode, ended.stdout.decode().strip()
 
     def make(self, name: str, text: str) -> bytes:
-        write(f"{name}.text", text)
+        write(f"{name}.text", "version 2\n" * (self.version - 1) + text)
         for words in (["asm", f"{name}.text", f"{name}.image"], ["prove", f"{name}.image", f"{name}.table"]):
             status, out = self.said(*words)
             if status:
@@ -187,13 +196,7 @@ class Tried:
         if status == 0:
             if self.said("run", f"{name}.image", "frames", "sent", "--table", "damaged") != self.ran[name]:
                 self.wrong.append((name, "runs otherwise", out))
-            steps = [
-                int(word)
-                for line in self.ran[name][1].splitlines()
-                for key, word in zip(line.split(), line.split()[1:])
-                if key == "steps"
-            ]
-            if steps and int(words[2]) < max(steps):
+            if int(words[2]) < max(int(line.split()[3]) for line in self.ran[name][1].splitlines() if line[0].isdigit()):
                 self.wrong.append((name, "bound below the steps", out))
         return answer
 
@@ -225,19 +228,21 @@ def damaged(right: bytes, chance: random.Random) -> bytes:
 
 
 def main() -> None:
-    words = argparse.ArgumentParser()
-    words.add_argument("program")
+    words = command_line()
+    words.add_argument("program", nargs="?", type=runnable, default=built())
+    words.add_argument("--version", type=int, choices=[1, 2], default=1)
     words.add_argument("--random", type=int, default=20_000)
     words.add_argument("--seed", type=int, default=1)
     words.add_argument("--few", type=int, default=1)
+    words.add_argument("--library", type=absolute)
     given = words.parse_args()
-    tried, chance = Tried(os.path.abspath(given.program)), random.Random(given.seed)
+    tried, chance = Tried(runner(given.program, given.library), given.version), random.Random(given.seed)
     with tempfile.TemporaryDirectory() as room:
         os.chdir(room)
         write("frames", FRAMES)
         data = tried.make("small", SMALL)
         for one in changed_bytes(data, given.few):
-            answer, judged = tried.answer("small", one), judged_small(one)
+            answer, judged = tried.answer("small", one), judged_small(one, given.version)
             if answer != judged:
                 tried.wrong.append(("small", answer, judged))
         print("changed bytes and cuts:", dict(tried.counts), flush=True)

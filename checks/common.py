@@ -38,6 +38,11 @@ def need(*programs: str) -> None:
             sys.exit(f"{os.path.basename(sys.argv[0])}: {lacking(path)}")
 
 
+def absolute(path: str) -> str:
+    """The whole path of a file on the command line, which need not be there."""
+    return os.path.abspath(path)
+
+
 def lacking(path: str) -> str:
     return f"there is no program {path}: give one, or build it as README.md says"
 

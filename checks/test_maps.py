@@ -181,6 +181,14 @@ class Beside(InFolder):
         self.assertEqual(self.ran("image.py", f"{MADE}/variables.clang14.o", "a.image").returncode, 0)
         self.assertEqual(map_files.lines_beside(self.path("a.image")), "")
 
+    def test_one_that_cannot_be_read_is_named(self) -> None:
+        """It is not taken for none."""
+        self.ran("image.py", f"{MADE}/values.clang14.o", "a.image")
+        with unittest.mock.patch.object(map_files, "open", side_effect=PermissionError(13, "no"), create=True):
+            with self.assertRaises(PermissionError) as why:
+                map_files.lines_beside(self.path("a.image"))
+        self.assertEqual(why.exception.filename, self.path("a.image.maps"))
+
     def test_an_image_on_standard_output_has_no_place_for_it(self) -> None:
         """Then nothing is written."""
         said = self.ran("image.py", f"{MADE}/values.clang14.o", "-")

@@ -1,5 +1,5 @@
 #!/usr/bin/env python3
-"""Tests of frames.py, image.py, xdp.py and kernel.py, on formats and on damaged files. In the gate;
+"""Tests of frames.py, image.py, xdp.py, survey.py and kernel.py, on formats and on damaged files. In the gate;
 `python3 checks/test_tools.py` runs them.
 
 Texts of frames and objects are cut at each byte and changed byte by byte: the result is a message, never a
@@ -15,6 +15,7 @@ import os
 import struct
 import subprocess
 import sys
+import tempfile
 import unittest
 import unittest.mock
 
@@ -28,6 +29,7 @@ import kernel_calls
 import objects
 import packed
 import sources
+import survey
 
 HERE, EXAMPLES = f"{TOP}/tools", f"{TOP}/examples"
 
@@ -81,6 +83,11 @@ class Frames(unittest.TestCase):
             frames_in(TEXT[:at])
             for byte in (0, 1, 10, 32, 49, 127, 128, 255):
                 frames_in(TEXT[:at] + bytes([byte]) + TEXT[at + 1 :])
+
+    def test_a_number_of_any_length_is_an_answer(self) -> None:
+        for digits, is_right in (("0" * 9000 + "7", True), ("9" * 20, False), ("9" * 21, False), ("9" * 9000, False)):
+            found, why = frames_in(f"frame {digits}\n".encode())
+            self.assertEqual((len(found), why is None), (is_right, is_right))
 
     def test_a_frame_that_is_too_long(self) -> None:
         long, short = frames.Frame(1, 0, 0, bytes(9217)), frames.Frame(2, 0, 0, b"\1")
@@ -192,6 +199,15 @@ class Sources(unittest.TestCase):
             slots = struct.unpack_from("<H", made, 6)[0]
             with self.subTest(path):
                 self.assertEqual(len(sources.Source.of_text(path).slots), slots)
+
+
+class Surveys(unittest.TestCase):
+    def test_an_earlier_survey_that_is_none(self) -> None:
+        with tempfile.NamedTemporaryFile() as file:
+            file.write(b"file,verdict\n" + b"a" * 200_000 + b",ok\n")
+            file.flush()
+            with self.assertRaisesRegex(sources.Failed, "it is no survey as csv"):
+                survey.differences([], file.name)
 
 
 class Messages(unittest.TestCase):

@@ -19,7 +19,6 @@ import collections
 import os
 import random
 import re
-import struct
 import subprocess
 import sys
 import tempfile
@@ -38,11 +37,11 @@ import map_lines
 import sources
 from kernel_calls import Kernel, NoKernel, parsed
 from map_files import Filling
+from random_contents import contents
 from random_programs import Maker
 
 PRIME = 1_000_003  # between the seeds of programs that come one after the other
 LENGTHS = [14, 15, 20, 34, 60, 64, 128, 300, 1500]
-Row = tuple[int, int, int, int]
 
 
 @dataclass
@@ -65,22 +64,6 @@ class Case:
         one, two = (fuzz.frames(chance, version) for _ in range(2))
         rows = parsed(image)[0]
         return Case(seed, image, contents(chance, rows), one[:4], (one[4:], two[4:]), chance)
-
-
-def contents(chance: random.Random, rows: list[Row]) -> str:
-    """Map lines for maps of these rows, in both cases of digits, with comments and with keys that come twice."""
-    lines = ["# contents"]
-    for index, (kind, size, value, entries) in enumerate(rows):
-        keys = [chance.choice([bytes(size), b"\xff" * size, chance.randbytes(size)]) for _ in range(entries)]
-        if kind == 2:
-            keys = [struct.pack("<I", key) for key in range(entries)]
-        for key in chance.choices(keys, k=chance.randrange(2 * entries + 1)):
-            body = chance.choice([bytes(value), b"\xff" * value, chance.randbytes(value)])
-            line = f"map {'0' * chance.choice([0, 0, 3])}{index} {key.hex()} {body.hex()}"
-            longest = max(6 + len(str(at)) + 2 * (row[1] + row[2]) for at, row in enumerate(rows))
-            line = line if len(line) <= longest else line.replace(" 000", " ", 1)
-            lines.append(line.upper().replace("MAP", "map") if chance.random() < 0.3 else line)
-    return "\n".join(lines) + chance.choice(["\n", "\n\n", ""])
 
 
 @dataclass
@@ -168,11 +151,8 @@ def checked_differs(folder: Folder) -> str:
 def kernel_differs(folder: Folder, xdpvm: str, counts: Counter[str]) -> str:
     """What differs in the kernel's runs on the same maps, if anything does."""
     case = folder.case
-    if kernel.asks_for_time(case.image):
-        counts["asks for the time"] += 1
-        return ""
-    frames = [(1, case.chance.randbytes(length)) for length in LENGTHS]
-    with Kernel(case.image) as there:
+    frames = [(kernel.TIME, case.chance.randbytes(length)) for length in LENGTHS]
+    with Kernel(kernel.with_time(case.image)) as there:
         if there.refusal is not None:
             counts["refused by the kernel"] += 1
             return ""

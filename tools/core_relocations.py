@@ -19,6 +19,8 @@ CALLED = {
     VALUE: "value", LOCAL_ID: "type number", TARGET_ID: "type number",
 }  # fmt: skip
 
+MOST_STEPS = 64  # of a record's way into a structure, as for libbpf
+
 # The context, as <linux/bpf.h> has it: each field has four bytes.
 CONTEXT = ("data", "data_end", "data_meta", "ingress_ifindex", "rx_queue_index", "egress_ifindex")
 
@@ -65,6 +67,8 @@ def field(types: Types, number: int, bits: int, width: int) -> Field:
 def local_way(types: Types, access: Access) -> tuple[list[Step], Field, str]:
     """The way of a record through the object's own types: its steps, the field there, and how it is called."""
     first, *rest = (int(it) for it in access.path.split(":"))
+    if len(rest) > MOST_STEPS:
+        raise Refused(f"a record of a field has {len(rest)} steps, and {MOST_STEPS} are possible")
     number, bits, width, steps = access.type, 8 * first * types.size(access.type), 0, [Step("", first)]
     called = plain_name(types.at(types.plain(number)).name)
     for index in rest:
@@ -85,12 +89,17 @@ def local_way(types: Types, access: Access) -> tuple[list[Step], Field, str]:
     return steps, field(types, number, bits, width), called
 
 
-def member_named(types: Types, number: int, name: str) -> tuple[int, int, int] | None:
-    """The type, the place and the width in bits of a member of that name, in members without names too."""
+def member_named(types: Types, number: int, name: str, seen: set[int] | None = None) -> tuple[int, int, int] | None:
+    """The type, the place and the width in bits of a member of that name, in members without names too. The types that
+    were seen have no such member."""
+    seen = set() if seen is None else seen
+    if number in seen:
+        return None
+    seen.add(number)
     for it in types.members(number):
         if it.name == name:
             return it.type, it.bits, it.width
-        inner = None if it.name else member_named(types, it.type, name)
+        inner = None if it.name else member_named(types, it.type, name, seen)
         if inner:
             return inner[0], it.bits + inner[1], inner[2]
     return None

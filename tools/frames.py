@@ -59,6 +59,7 @@ class Form(NamedTuple):
 FORMS = {b"XPF1": Form("<QIII", 4096), b"XPF2": Form("<QIIII", 9216)}  # time, interface, queue, length, reason
 TOO_LONG = 2**32 - 1  # the reason of a frame that a stream cannot hold
 PIECE = 1 << 24  # no frame of a text is longer
+MOST_DIGITS = 21  # a number with so many is too large
 MOST_TOLD = 3  # so many frames that are too long are told one by one
 GZIP = b"\x1f\x8b"
 HEAD = re.compile(r"frame (\d+)(?: interface (\d+))?(?: queue (\d+))?(?: reason (\d+))?")
@@ -84,8 +85,9 @@ def tell(message: str) -> None:
 
 def head_of(numbers: Iterable[str | None], frame: int) -> Frame:
     """The frame, without bytes yet, that the first line of one says."""
-    time, interface, queue, reason = (int(it or 0) for it in numbers)
-    if time >> 64 or interface >> 32 or queue >> 32 or reason >> 32:
+    digits = [(it or "0").lstrip("0") for it in numbers]
+    time, interface, queue, reason = (int(it[:MOST_DIGITS] or "0") for it in digits)
+    if time >> 64 or interface >> 32 or queue >> 32 or reason >> 32 or max(map(len, digits)) >= MOST_DIGITS:
         raise Damaged(f"frame {frame} has a number that is too large")
     return Frame(time, interface, queue, b"", reason)
 

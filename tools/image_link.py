@@ -2,7 +2,7 @@
 constants, functions, and what depends on the kernel."""
 
 import struct
-from typing import NamedTuple
+from typing import NamedTuple, TypeVar
 
 import image_maps
 from core_relocations import Kernel, context_differs
@@ -20,8 +20,9 @@ from objects import (
     Relocation,
     Symbol,
 )
-from type_information import TAG, Access, Extra, Line, Types
+from type_information import Access, Extra, Line, Types
 
+Found = TypeVar("Found")
 MAP, VALUE, FUNCTION = 5, 6, 1  # src_reg of a wide load of a map, of one of a value, of a local call
 MOST_SLOTS = 4096
 
@@ -45,13 +46,21 @@ def tagged(it: Object) -> tuple[bytes, dict[str, int]]:
     the index of each map, by its variable's name."""
     data, magic, indexes = it.body(".BTF"), b"XBP1", {}
     types = Types(data) if data is not None else None
-    for one in [types.at(number) for number in range(1, len(types.rows))] if types else []:
-        words = one.name.split(" ") if one.kind == TAG else []
+    for tag, of in types.tags() if types else ():
+        words = tag.split(" ")
         if types and words[:2] == ["xdpvm", "map"]:
-            indexes[types.at(one.size).name] = int(words[2])
+            indexes[types.at(of).name] = int(words[2])
         elif words[:2] == ["xdpvm", "XBP2"]:
             magic = b"XBP2"
     return magic, indexes
+
+
+def inside(found: dict[int, Found], function: Symbol) -> dict[int, Found]:
+    """What is known of the places of a function."""
+    places = range(function.value, function.value + function.size)
+    if len(found) < len(places):
+        return {at: it for at, it in found.items() if at in places}
+    return {at: found[at] for at in places if at in found}
 
 
 class Linker:
@@ -128,9 +137,8 @@ class Linker:
     def link_function(self, one: Symbol) -> None:
         """Applies all that is named in a function; what is left over is refused."""
         begin, wide = self.begins[one.section, one.value], False
-        named = {at: it for at, it in self.it.relocations(one.section).items() if one.value <= at < one.value + one.size}
-        accesses = self.extra.accesses.get(self.it.names[one.section], {})
-        asked = {at: it for at, it in accesses.items() if one.value <= at < one.value + one.size}
+        named = inside(self.it.relocations(one.section), one)
+        asked = inside(self.extra.accesses.get(self.it.names[one.section], {}), one)
         for k in range(one.size // 8):
             opcode, registers = self.slots[8 * (begin + k)], self.slots[8 * (begin + k) + 1]
             at = one.value + 8 * k

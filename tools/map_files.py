@@ -4,7 +4,6 @@ and what a run is given of it and of a file of the user's.
 The first line of IMAGE.maps is a comment that has the image's SHA-256 sum, so a file that is left from another image is
 not taken for this one's."""
 
-import contextlib
 import hashlib
 import os
 import re
@@ -35,12 +34,17 @@ def first_line(image: bytes) -> str:
 
 
 def text_of(path: str) -> str | None:
-    """The text of a file of maps that image.py made, or nothing."""
-    if is_plain(path):
-        with contextlib.suppress(OSError, UnicodeDecodeError), open(path, encoding="ascii") as file:
-            if file.read(len(MARK)) == MARK:
-                return MARK + file.read()
-    return None
+    """The text of a file of maps that image.py made, or nothing. One that is there and cannot be read is an error."""
+    if not is_plain(path):
+        return None
+    try:
+        with open(path, encoding="ascii") as file:
+            return MARK + file.read() if file.read(len(MARK)) == MARK else None
+    except (FileNotFoundError, UnicodeDecodeError):
+        return None
+    except OSError as why:
+        why.filename = path
+        raise
 
 
 def refuse_others(path: str, fill: str) -> None:

@@ -7,6 +7,8 @@ EXECUTABLE = 4  # a flag of sections: SHF_EXECINSTR
 OBJECT_SYMBOL, FUNCTION_SYMBOL, SECTION_SYMBOL = 1, 2, 3  # kinds of symbols: STT_OBJECT, STT_FUNC, STT_SECTION
 WIDE_LOAD, LOCAL_CALL = 1, 10  # types of relocations: R_BPF_64_64, R_BPF_64_32
 MACHINE = 247  # EM_BPF
+SECTION_HEAD = "<IIQQQQIIQQ"  # Elf64_Shdr
+MOST_NAME = 1023  # bytes of a name
 
 
 class Refused(Exception):
@@ -31,7 +33,8 @@ class Relocation(NamedTuple):
 
 
 def text_at(data: bytes, at: int) -> str:
-    return data[at : data.index(b"\0", at)].decode()
+    """The name at a place, which ends before a byte 0."""
+    return data[at : data.index(b"\0", at, at + MOST_NAME + 1)].decode()
 
 
 class Object:
@@ -44,7 +47,11 @@ class Object:
             raise Refused("this is no object file for BPF, little-endian (clang -target bpf makes one)")
         (table,) = struct.unpack_from("<Q", data, 40)
         size, count, names = struct.unpack_from("<HHH", data, 58)
-        rows = [struct.unpack_from("<IIQQQQIIQQ", data, table + size * i) for i in range(count)]
+        if size != struct.calcsize(SECTION_HEAD):
+            raise Refused(f"the heads of its sections have {size} bytes, a form that is not known here")
+        rows = [struct.unpack_from(SECTION_HEAD, data, table + size * i) for i in range(count)]
+        if sum(row[5] for row in rows if row[1] != NO_BITS) > len(data):
+            raise Refused("its sections have more bytes than the file")
         self.names = [text_at(data, rows[names][4] + row[0]) for row in rows]
         self.types: list[int] = [row[1] for row in rows]
         self.flags: list[int] = [row[2] for row in rows]
@@ -57,6 +64,12 @@ class Object:
                 texts = self.bodies[row[6]]
                 for name, info, _, section, value, length in struct.iter_unpack("<IBBHQQ", self.bodies[i]):
                     self.symbols.append(Symbol(text_at(texts, name), section, value, length, info & 15))
+        self.functions_of: dict[int, dict[int, Symbol]] = {}
+        for one in self.symbols:
+            if one.kind == FUNCTION_SYMBOL:
+                self.functions_of.setdefault(one.section, {})[one.value] = one
+        self.relocations_of: dict[int, dict[int, Relocation]] = {}
+        self.by_gcc = self.made_by_gcc()
 
     def section(self, name: str) -> int | None:
         return self.names.index(name) if name in self.names else None
@@ -72,6 +85,12 @@ class Object:
 
     def relocations(self, section: int) -> dict[int, Relocation]:
         """The relocations of a section, by their offset."""
+        if section not in self.relocations_of:
+            self.relocations_of[section] = self.read_relocations(section)
+        return self.relocations_of[section]
+
+    def read_relocations(self, section: int) -> dict[int, Relocation]:
+        """The same, from the bytes of the object."""
         found: dict[int, Relocation] = {}
         for i, kind in enumerate(self.types):
             if self.targets[i] != section or kind not in (RELOCATIONS, WITH_ADDENDS):
@@ -86,7 +105,7 @@ class Object:
 
     def functions(self, section: int) -> dict[int, Symbol]:
         """The functions of a section, by where they begin."""
-        return {it.value: it for it in self.symbols if it.section == section and it.kind == FUNCTION_SYMBOL}
+        return self.functions_of.get(section, {})
 
     def variable(self, section: int, at: int) -> str | None:
         """The name of the variable at an offset of a section, if it has one."""
@@ -98,6 +117,10 @@ class Object:
     def has_addresses(self) -> bool | None:
         """Whether an instruction that names a variable by its own symbol has the variable's address, as gcc's assembler
         writes it, and not the distance from it, as clang does. None: the object does not say who made it."""
+        return self.by_gcc
+
+    def made_by_gcc(self) -> bool | None:
+        """Whether gcc made it, and not clang, as it says itself."""
         comment, debug = self.body(".comment") or b"", self.body(".debug_str") or b""
         by_clang = ".llvm_addrsig" in self.names or b"clang version" in comment + debug
         by_gcc = b"GCC: (" in comment or b"GNU C" in debug

@@ -144,7 +144,10 @@ def text(cell: object) -> str:
 def differences(rows: list[Row], path: str) -> list[Row]:
     """Each cell that differs from an earlier survey: times aside, and columns that it does not have."""
     with open(path, newline="", encoding="utf-8") as file:
-        old = {row["file"]: row for row in csv.DictReader(file) if row.get("file")}
+        try:
+            old = {row["file"]: row for row in csv.DictReader(file) if row.get("file")}
+        except csv.Error as why:
+            raise Failed(f"{path}: it is no survey as csv: {why}") from None
     found: list[Row] = []
     for row in rows:
         before = old.pop(str(row["file"]), None)

@@ -1,4 +1,5 @@
 """Type information of objects and of the kernel (BTF), as docs.kernel.org/bpf/btf.html describes it."""
+import bisect
 import struct
 from collections.abc import Iterator
 from typing import NamedTuple
@@ -10,6 +11,9 @@ PROTOTYPE, VARIABLE, SECTION, TAG, TYPE_TAG, ENUM64 = 13, 14, 15, 17, 18, 19
 AFTER = {INT: 4, ARRAY: 12, VARIABLE: 4, TAG: 4}  # bytes after a type
 EACH = {STRUCT: 12, UNION: 12, ENUM: 8, PROTOTYPE: 8, SECTION: 12, ENUM64: 12}  # and for each part
 QUALIFIERS = (TYPEDEF, VOLATILE, CONST, RESTRICT, TYPE_TAG)
+MOST_QUALIFIERS = 32  # of a type, as for libbpf
+MOST_LINE = 4096  # bytes of a source line that are kept
+RECORD = 16  # bytes of a line or an access of .BTF.ext, at least
 
 
 class Type(NamedTuple):
@@ -46,12 +50,32 @@ class Types:
             self.rows.append((name, info, size, at + 12))
             kind = info >> 24 & 31
             at += 12 + AFTER.get(kind, EACH.get(kind, 0) * (info & 0xFFFF))
+        # what was asked for, by the number of the type
+        self.type_of: dict[int, Type] = {}
+        self.plain_of: dict[int, int] = {}
+        self.size_of: dict[int, int] = {}
+        self.members_of: dict[int, list[Member]] = {}
+        self.values_of: dict[int, dict[str, int]] = {}
+        self.named: dict[str, list[int]] | None = None
 
     def text(self, at: int) -> str:
         return text_at(self.data, self.texts + at)
 
+    def line(self, at: int) -> str:
+        """The beginning of a text that may be long."""
+        begin = self.texts + at
+        if begin >= len(self.data):
+            raise Refused("the type information is damaged")
+        return self.data[begin : begin + MOST_LINE].partition(b"\0")[0].decode(errors="replace")
+
     def at(self, number: int) -> Type:
         """The type of a number."""
+        if number not in self.type_of:
+            self.type_of[number] = self.read_type(number)
+        return self.type_of[number]
+
+    def read_type(self, number: int) -> Type:
+        """The same, from the bytes."""
         row = self.rows[number]
         if row is None:
             return Type("void", 0, 0, False, b"")
@@ -62,23 +86,34 @@ class Types:
 
     def plain(self, number: int) -> int:
         """The type without its names and qualifiers."""
-        seen = 0
-        while self.at(number).kind in QUALIFIERS:
-            number, seen = self.at(number).size, seen + 1
-            if seen > len(self.rows):
-                raise Refused("the type information is damaged")
-        return number
+        if number not in self.plain_of:
+            plain, seen = number, 0
+            while self.at(plain).kind in QUALIFIERS:
+                plain, seen = self.at(plain).size, seen + 1
+                if seen > MOST_QUALIFIERS:
+                    raise Refused("the type information is damaged")
+            self.plain_of[number] = plain
+        return self.plain_of[number]
 
     def size(self, number: int) -> int:
         """How many bytes a type has."""
-        it = self.at(self.plain(number))
-        if it.kind == ARRAY:
-            of, _, count = struct.unpack("<III", it.rest)
-            return self.size(of) * int(count)
-        return 8 if it.kind == POINTER else it.size
+        if number not in self.size_of:
+            it = self.at(self.plain(number))
+            if it.kind == ARRAY:
+                of, _, count = struct.unpack("<III", it.rest)
+                self.size_of[number] = self.size(of) * int(count)
+            else:
+                self.size_of[number] = 8 if it.kind == POINTER else it.size
+        return self.size_of[number]
 
     def members(self, number: int) -> list[Member]:
         """The members of a structure or union."""
+        if number not in self.members_of:
+            self.members_of[number] = self.read_members(number)
+        return self.members_of[number]
+
+    def read_members(self, number: int) -> list[Member]:
+        """The same, from the bytes."""
         it = self.at(self.plain(number))
         if it.kind not in (STRUCT, UNION):
             return []
@@ -89,6 +124,12 @@ class Types:
 
     def values(self, number: int) -> dict[str, int]:
         """The names of an enumeration, with their values."""
+        if number not in self.values_of:
+            self.values_of[number] = self.read_values(number)
+        return self.values_of[number]
+
+    def read_values(self, number: int) -> dict[str, int]:
+        """The same, from the bytes."""
         it = self.at(self.plain(number))
         if it.kind == ENUM:
             form = "<Ii" if it.flag else "<II"
@@ -115,9 +156,25 @@ class Types:
                 for variable, _, _ in struct.iter_unpack("<III", it.rest):
                     yield self.at(variable)
 
+    def tags(self) -> Iterator[tuple[str, int]]:
+        """The tags of declarations: the text of each, and the type that it is of."""
+        for number, row in enumerate(self.rows):
+            if row and self.kind(number) == TAG:
+                yield self.line(row[0]), row[2]
+
     def numbers(self, name: str, kinds: tuple[int, ...]) -> list[int]:
         """The types of a name and of one of these kinds."""
-        return [at for at, row in enumerate(self.rows) if row and row[1] >> 24 & 31 in kinds and self.text(row[0]) == name]
+        if self.named is None:
+            self.named = {}
+            for at, row in enumerate(self.rows):
+                if row and self.kind(at) not in (TAG, TYPE_TAG):
+                    self.named.setdefault(self.text(row[0]), []).append(at)
+        return [at for at in self.named.get(name, []) if self.kind(at) in kinds]
+
+    def kind(self, number: int) -> int:
+        """The kind of a type."""
+        row = self.rows[number]
+        return row[1] >> 24 & 31 if row else 0
 
 
 class Line(NamedTuple):
@@ -141,7 +198,8 @@ class Extra:
     """What .BTF.ext says of an object's instructions: their source lines, and what depends on the kernel."""
 
     def __init__(self, it: Object) -> None:
-        self.lines: dict[str, dict[int, Line]] = {}
+        self.lines: dict[str, dict[int, tuple[int, int, int]]] = {}
+        self.places: dict[str, list[int]] = {}
         self.accesses: dict[str, dict[int, Access]] = {}
         data, types = it.body(".BTF.ext"), it.body(".BTF")
         if data is None or types is None:
@@ -151,8 +209,8 @@ class Extra:
         head = struct.unpack_from("<I", data, 4)[0]
         parts = struct.unpack_from(f"<{min(head, 32) // 4 - 2}I", data, 8)
         for name, place, row in self.rows(data, head, parts[2:4]):
-            file, line, column = text(row[0]), text(row[1]), row[2]
-            self.lines.setdefault(name, {})[place] = Line(file, column >> 10, column & 1023, line.strip())
+            self.lines.setdefault(name, {})[place] = row
+        self.places = {name: sorted(rows) for name, rows in self.lines.items()}
         for name, place, row in self.rows(data, head, parts[4:6]):
             self.accesses.setdefault(name, {})[place] = Access(row[0], text(row[1]), row[2])
 
@@ -162,17 +220,23 @@ class Extra:
             return
         at, end = head + part[0], head + part[0] + part[1]
         (size,) = struct.unpack_from("<I", data, at)
+        if size < RECORD:
+            raise Refused("the type information is damaged")
         at += 4
         while at + 8 <= end:
-            name, count = struct.unpack_from("<II", data, at)
+            text, count = struct.unpack_from("<II", data, at)
+            name = self.types.text(text)
             at += 8
             for _ in range(count):
                 place, *row = struct.unpack_from("<IIII", data, at)
-                yield self.types.text(name), place, (row[0], row[1], row[2])
+                yield name, place, (row[0], row[1], row[2])
                 at += size
 
     def at(self, section: str, place: int) -> Line | None:
         """The line that an instruction comes from: the last one that begins at or before it."""
-        rows = self.lines.get(section, {})
-        before = [it for it in rows if it <= place]
-        return rows[max(before)] if before else None
+        places = self.places.get(section, [])
+        before = bisect.bisect_right(places, place)
+        if not before:
+            return None
+        file, line, column = self.lines[section][places[before - 1]]
+        return Line(self.types.line(file), column >> 10, column & 1023, self.types.line(line).strip())

@@ -6,7 +6,7 @@
 
    - Each pointer is to memory of yours of the length beside it, for the whole call. None is NULL, also where the length
      is 0. What a call writes overlaps nothing else that the call is given.
-   - The thread has 2 MiB of stack. Where `why_len` is 0, 256 KiB are enough for xdpvm_verify.
+   - The thread has 2 MiB of stack; xdpvm_verify needs at most 256 KiB.
    - malloc, realloc and free are from one allocator. No call comes from a signal handler, or from the forked child of a
      process with threads.
    - A struct xdpvm_session is all zero bytes at first, and from then on only calls change it. A copy of it is not one more
