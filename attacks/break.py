@@ -24,7 +24,7 @@ from pathlib import Path
 
 sys.path.insert(0, os.path.join(os.path.dirname(os.path.abspath(__file__)), "../checks"))
 import common
-from common import TOP, bytes_of, there, write
+from common import PYTHON, TOP, bytes_of, there, write
 from failing import Answer, Told, Tried, prepare
 
 KINDS = ("alloc", "allocs", "open", "read", "write", "no-write", "short-read", "short-write", "close", "rename", "flush")
@@ -256,7 +256,7 @@ def make_files(xdpvm: Tried) -> None:
         os.rename("made", f"{name}.table")
     for name, fields in REFUSED.items():
         write("table.text", ENTRIES.format(*fields))
-        subprocess.run([sys.executable, f"{TOP}/tools/table.py", "make", "table.text", f"{name}.table"], check=True)
+        subprocess.run([PYTHON, f"{TOP}/tools/table.py", "make", "table.text", f"{name}.table"], check=True)
 
 
 def tried(xdpvm: Tried, runs: list[list[str]], kinds: tuple[str, ...]) -> int:

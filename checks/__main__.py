@@ -12,28 +12,34 @@ were changed: checks/near.py.
 import argparse
 import os
 import re
+import resource
+import subprocess
 import sys
+import tempfile
 import time
 from concurrent.futures import ThreadPoolExecutor, as_completed
 from dataclasses import dataclass
 
 sys.path.insert(0, os.path.dirname(os.path.abspath(__file__)))
 import near
-from common import CANNOT, said_by
+from common import CANNOT, compiler
 from listed import CHECKS, TOP, Check
+from serving import served
 
 EXAMPLES = re.compile(r"^(\d+) examples, (\d+) differ$")
 MOST_SHOWN = 20000  # characters of a check's output, from its end
+PYTHONS = ("PYTHONDONTWRITEBYTECODE", "PYTHONUNBUFFERED")  # which checks run without: they make a start of Python slow
 
 
 @dataclass(frozen=True)
 class Result:
-    """How a check ended."""
+    """How a check ended, and the seconds that it took: by the clock, and of processors, but for those of served scripts."""
 
     check: Check
     status: int
     said: str
     seconds: float
+    used: float
 
     def counts(self) -> tuple[int, int]:
         """How many tests of it passed and failed."""
@@ -48,10 +54,17 @@ class Result:
         return self.status == 0 or self.check.skips and self.status == CANNOT
 
 
-def run(check: Check) -> Result:
+def run(check: Check, environment: dict[str, str]) -> Result:
     begin = time.monotonic()
-    status, said = said_by(check.command.split(), str(TOP))
-    return Result(check, status, said, time.monotonic() - begin)
+    with tempfile.TemporaryFile() as out:
+        how = {"cwd": TOP, "env": environment, "stdin": subprocess.DEVNULL, "stdout": out, "stderr": subprocess.STDOUT}
+        words = [sys.executable if it == "python3" else it for it in check.command.split()]
+        child = subprocess.Popen(words, **how)  # type: ignore[call-overload]
+        _, status, used = os.wait4(child.pid, 0)
+        child.returncode = os.waitstatus_to_exitcode(status)
+        out.seek(0)
+        said = out.read().decode(errors="replace")
+    return Result(check, child.returncode, said, time.monotonic() - begin, used.ru_utime + used.ru_stime)
 
 
 def tell(result: Result) -> None:
@@ -59,22 +72,26 @@ def tell(result: Result) -> None:
     lines = result.said.strip().splitlines()
     if result.is_passed():
         last = lines[-1] if lines else ""
-        print(f"{result.check.name}: {result.seconds:.0f} s{': ' + last[:160] if last else ''}", flush=True)
+        print(
+            f"{result.check.name}: {result.seconds:.0f} s, {result.used:.0f} of processors{': ' + last[:160] if last else ''}",
+            flush=True,
+        )
         return
     print(result.said[-MOST_SHOWN:].rstrip())
     print(f"FAILED: {result.check.name}: {result.check.command} ended with status {result.status}", flush=True)
 
 
-def run_all(checks: list[Check], jobs: int) -> list[Result]:
+def run_all(checks: list[Check], jobs: int, environment: dict[str, str]) -> list[Result]:
     found = []
     with ThreadPoolExecutor(jobs) as pool:
-        waiting = [pool.submit(run, it) for it in sorted(checks, key=lambda it: -it.seconds) if not it.alone]
+        in_order = sorted(checks, key=lambda it: -it.seconds)
+        waiting = [pool.submit(run, it, environment) for it in in_order if not it.alone]
         for ended in as_completed(waiting):
             found.append(ended.result())
             tell(found[-1])
     for check in checks:
         if check.alone:
-            found.append(run(check))
+            found.append(run(check, environment))
             tell(found[-1])
     return found
 
@@ -96,7 +113,12 @@ def main() -> int:
     unknown = [name for name in given.names if name not in {it.name for it in CHECKS}]
     if unknown:
         words.error(f"there is no check {unknown[0]}; --list prints them")
-    results = run_all([it for it in CHECKS if not given.names or it.name in given.names], max(given.jobs, 1))
+    begin, asked = time.monotonic(), [it for it in CHECKS if not given.names or it.name in given.names]
+    with served(compiler()) as more:
+        own = {name: it for name, it in os.environ.items() if name not in PYTHONS}
+        results = run_all(asked, max(given.jobs, 1), {**own, **more})
+    used = resource.getrusage(resource.RUSAGE_CHILDREN)
+    print(f"the checks took {time.monotonic() - begin:.0f} s, and {used.ru_utime + used.ru_stime:.0f} of processors")
     counts = [it.counts() for it in results]
     passed, failed = sum(it[0] for it in counts), sum(it[1] for it in counts)
     print(f"{passed} passed, {failed} failed")

@@ -22,7 +22,7 @@ import subprocess
 import sys
 import tempfile
 
-from common import TOP, built, command_line, runnable, text_of
+from common import PYTHON, TOP, built, command_line, runnable, text_of
 
 FOLDER = f"{TOP}/examples/filters"
 SECONDS = 600
@@ -43,7 +43,7 @@ def wrong(path: str, given: argparse.Namespace) -> str | None:
     text = text_of(path)
     with tempfile.TemporaryDirectory() as folder:
         sent = os.path.join(folder, "sent.pcapng")
-        words = [sys.executable, f"{TOP}/tools/xdp.py", os.path.basename(path), "mix.txt", sent]
+        words = [PYTHON, f"{TOP}/tools/xdp.py", os.path.basename(path), "mix.txt", sent]
         words += ["--clang", given.clang, "--xdpvm", given.program]
         words += (line_of(text, "words") or "").split()
         words += ["--", *(line_of(text, "flags") or "").split(), *([f"-mcpu={given.cpu}"] if given.cpu else [])]

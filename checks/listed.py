@@ -60,6 +60,7 @@ CHECKS = (
         40,
     ),
     Check("script_tests", "python3 checks/test_scripts.py", "the checks of the tree and the attacks on small cases", 5),
+    Check("serving", "python3 checks/test_serving.py", "that a script which is served to checks does as where Python starts it", 3),
     Check("limits", "python3 checks/limits.py", "which numbers stand for a limit and do not cite its name", 2),
     Check("version", "python3 checks/version.py", "that the version is the same wherever it stands", 1),
     Check("header", "python3 checks/header.py", "the declarations for C and Rust against the exports of the library", 1),

@@ -19,7 +19,7 @@ import time
 import unittest
 from functools import partial
 
-from common import TOP, built, bytes_of, write
+from common import PYTHON, TOP, built, bytes_of, write
 
 TOOLS, EXAMPLES = os.path.join(TOP, "tools"), os.path.join(TOP, "examples")
 PROGRAM = [built()]
@@ -37,14 +37,14 @@ class InFolder(unittest.TestCase):
         shutil.copy(os.path.join(EXAMPLES, "filters/mix.txt"), self.folder)
         shutil.copy(os.path.join(TOP, "tests/objects/made/globals.clang14.o"), os.path.join(self.folder, "filter.o"))
         with open(os.path.join(self.folder, "pass.txt"), "w", encoding="utf-8") as file:
-            subprocess.run([sys.executable, f"{TOOLS}/table.py", "show", f"{self.folder}/pass.table"], stdout=file, check=True)
+            subprocess.run([PYTHON, f"{TOOLS}/table.py", "show", f"{self.folder}/pass.table"], stdout=file, check=True)
 
     def words(self, tool: str, *words: str) -> list[str]:
         """A command; `run.sh` and `compile.sh` are scripts of the shell."""
         if tool.endswith(".sh"):
             return ["bash", os.path.join(EXAMPLES if tool == "run.sh" else TOOLS, tool), *words]
         more = ["--xdpvm", PROGRAM[0]] if tool in ("xdp.py", "kernel.py") else []
-        return [sys.executable, os.path.join(TOOLS, tool), *more, *words]
+        return [PYTHON, os.path.join(TOOLS, tool), *more, *words]
 
     def ran(self, tool: str, *words: str, **how: object) -> "subprocess.CompletedProcess[bytes]":
         given = {"cwd": self.folder, "capture_output": True, "timeout": 120, **how}

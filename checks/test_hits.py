@@ -14,7 +14,7 @@ import sys
 import tempfile
 import unittest
 
-from common import TOP, built, text_of, there, write
+from common import PYTHON, TOP, built, text_of, there, write
 
 sys.dont_write_bytecode = True
 import hits
@@ -23,7 +23,7 @@ from hits import Hits, Instruction
 from sources import Failed, Source
 
 EXAMPLES = os.path.join(TOP, "examples")
-XDP = [sys.executable, os.path.join(TOP, "tools/xdp.py")]
+XDP = [PYTHON, os.path.join(TOP, "tools/xdp.py")]
 TEXT = """# UDP passes
 r0 = 1
 r2 = *(u32 *)(r1 + 12); if r2 != 17 goto out

@@ -15,7 +15,7 @@ import unittest
 import unittest.mock
 from collections.abc import Iterator
 
-from common import TOP, bytes_of
+from common import PYTHON, TOP, bytes_of
 
 sys.dont_write_bytecode = True
 import image
@@ -150,7 +150,7 @@ class InFolder(unittest.TestCase):
 
     def ran(self, tool: str, *words: str) -> "subprocess.CompletedProcess[str]":
         """A tool on these words."""
-        command = [sys.executable, os.path.join(TOP, "tools", tool), *words]
+        command = [PYTHON, os.path.join(TOP, "tools", tool), *words]
         return subprocess.run(command, cwd=self.folder, capture_output=True, text=True, timeout=100, check=False)
 
 

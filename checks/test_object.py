@@ -15,7 +15,7 @@ import unittest.mock
 from collections.abc import Mapping, Sequence
 
 import common
-from common import TOP, built, bytes_of, text_of, write
+from common import PYTHON, TOP, built, bytes_of, text_of, write
 
 sys.dont_write_bytecode = True
 import image
@@ -63,7 +63,7 @@ def object_of(
 
 def ran(*words: str) -> "subprocess.CompletedProcess[str]":
     """object.py on these words, with the program that was built, or none."""
-    command = [sys.executable, TOOL, "--xdpvm", XDPVM, *words]
+    command = [PYTHON, TOOL, "--xdpvm", XDPVM, *words]
     return subprocess.run(command, cwd=EXAMPLES, capture_output=True, text=True, timeout=100, check=False)
 
 

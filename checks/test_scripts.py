@@ -12,7 +12,7 @@ import unittest
 from pathlib import Path
 
 sys.dont_write_bytecode = True
-from common import TOP, said_by
+from common import PYTHON, TOP, said_by
 import damage
 import edits
 import file_map
@@ -438,7 +438,7 @@ class WithoutProgram(unittest.TestCase):
             ("tests/tcpdump", "/nowhere"),
         ):
             with self.subTest(script):
-                status, said = said_by([sys.executable, os.path.join(TOP, f"{script}.py"), *words])
+                status, said = said_by([PYTHON, os.path.join(TOP, f"{script}.py"), *words])
                 self.assertIn(status, (1, 2))
                 self.assertIn("there is no program /nowhere", said)
                 self.assertNotIn("Traceback", said)

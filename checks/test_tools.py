@@ -20,7 +20,7 @@ import unittest
 import unittest.mock
 
 sys.dont_write_bytecode = True
-from common import TOP, bytes_of, insn, there
+from common import PYTHON, TOP, bytes_of, insn, there
 import frames
 import image
 import inputs
@@ -214,16 +214,14 @@ class Messages(unittest.TestCase):
     """Messages name the files of the command line, and have no traceback."""
 
     def said(self, *words: str, status: int = 1) -> str:
-        ran = subprocess.run([sys.executable, *words], cwd=EXAMPLES, capture_output=True, text=True, timeout=100, check=False)
+        ran = subprocess.run([PYTHON, *words], cwd=EXAMPLES, capture_output=True, text=True, timeout=100, check=False)
         self.assertEqual(ran.returncode, status, ran.stderr)
         self.assertNotIn("Traceback", ran.stderr)
         return ran.stderr
 
     def test_help_has_examples_and_statuses(self) -> None:
         for name in ("frames", "image", "kernel", "table", "xdp"):
-            ran = subprocess.run(
-                [sys.executable, os.path.join(HERE, f"{name}.py"), "--help"], capture_output=True, text=True, check=False
-            )
+            ran = subprocess.run([PYTHON, os.path.join(HERE, f"{name}.py"), "--help"], capture_output=True, text=True, check=False)
             with self.subTest(name):
                 self.assertEqual(ran.returncode, 0)
                 self.assertRegex(ran.stdout, r"(?s)usage:.*\nexamples?:\n    .*exit status is ")

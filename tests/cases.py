@@ -21,7 +21,7 @@ from pathlib import Path
 from typing import IO
 
 sys.path.insert(0, os.path.join(os.path.dirname(os.path.abspath(__file__)), "../checks"))
-from common import TOP, built, command_line, need, there
+from common import PYTHON, TOP, built, command_line, need, there
 from failures import said
 
 Names = dict[str, int]  # the numbers that `each` gives a case
@@ -233,7 +233,7 @@ class Trial:
     def program(self, name: str) -> list[str]:
         """How a program is called: one of xdpvm's, or a script of tools/."""
         if name.endswith(".py"):
-            return [sys.executable, os.path.join(TOP, "tools", name)]
+            return [PYTHON, os.path.join(TOP, "tools", name)]
         if name not in self.programs:
             raise WrongCase(f"there is no program {name}: {', '.join(self.programs)} are, and the scripts of tools/")
         return [self.programs[name]]

@@ -32,7 +32,7 @@ from dataclasses import dataclass, field
 from pathlib import Path
 
 sys.path.insert(0, str(Path(__file__).resolve().parent.parent / "checks"))
-from common import CANNOT, TOP, built, command_line, compiler, need
+from common import CANNOT, PYTHON, TOP, built, command_line, compiler, need
 
 FOLDER = Path(TOP) / "tests/objects"
 MADE = FOLDER / "made"
@@ -127,7 +127,7 @@ class Programs:
 
     def differs_from_linux(self, made: Path, folder: Path, words: list[str]) -> str | None:
         """What differs in Linux's run of an object, if anything does, and bpf(2) can be used."""
-        asked = [sys.executable, f"{TOP}/tools/kernel.py", *words, str(made), str(folder / "frames"), "--btf", str(BTF)]
+        asked = [PYTHON, f"{TOP}/tools/kernel.py", *words, str(made), str(folder / "frames"), "--btf", str(BTF)]
         asked += ["--xdpvm", self.xdpvm]
         ran = subprocess.run(asked, capture_output=True, text=True, check=False, env={**os.environ, "XDPVM_FILTER": self.filter})
         return None if ran.returncode in (0, CANNOT) else f"{ran.stdout}{ran.stderr}"
@@ -145,7 +145,7 @@ def by_host(source: Source) -> list[Run]:
 def wrong(programs: Programs, source: Source, made: Path, wanted: list[Run], folder: Path) -> str | None:
     """What is wrong with an object of a source, if anything is."""
     image, said, words = folder / "image", source.said, source.said.get("words", "").split()
-    asked = [sys.executable, f"{TOP}/tools/image.py", "--btf", str(BTF), *words, str(made), str(image)]
+    asked = [PYTHON, f"{TOP}/tools/image.py", "--btf", str(BTF), *words, str(made), str(image)]
     linked = subprocess.run(asked, capture_output=True, text=True, check=False)
     refusal = said.get("no image") or (said.get("gcc") if ".gcc" in made.name else None)
     if refusal:
