@@ -1,6 +1,7 @@
 /* Stands between a program and the C library, for the scripts break*.py. BREAK names what is to fail, WHEN which call of that
    kind, counted from 1, and MARK a file that is made when it happens, and that gets a byte for each later write to what
-   failed. WITHIN is a folder: only calls on files of it, on those that have relative paths, and on standard input and
+   failed. FORKS is a socket, from which both are read in place of BREAK and WHEN: then a fork of this process goes on as the
+   program, and its status is sent. WITHIN is a folder: only calls on files of it, on those that have relative paths, and on standard input and
    outputs count then, and only those of processes that are called ONLY. TICK is a number of nanoseconds: the clock then says
    n * n of them when it is read for the nth time. Without these the program runs as always. */
 #define _GNU_SOURCE
@@ -10,6 +11,7 @@
 #include <stdlib.h>
 #include <string.h>
 #include <sys/syscall.h>
+#include <sys/wait.h>
 #include <time.h>
 #include <unistd.h>
 
@@ -18,18 +20,48 @@ extern void *__libc_realloc(void *old, size_t size);
 
 enum { MOST_FILES = 1024 };
 
+/* what is to fail, and which call of it */
+static struct {
+    char kind[16];
+    long call;
+} wanted;
+static const char *mark, *only;
 static long calls;
 
 /* the files that are within the folder, by their numbers */
 static unsigned char is_within[MOST_FILES] = {1, 1, 1};
 
+/* runs a fork for each failure that is asked for, and returns in each fork, which is the program */
+static void serve(int socket) {
+    int status;
+    while (syscall(SYS_read, socket, &wanted, sizeof wanted) == sizeof wanted) {
+        pid_t child = fork();
+        if (!child) {
+            syscall(SYS_close, socket);
+            return;
+        }
+        waitpid(child, &status, 0);
+        syscall(SYS_write, socket, &status, sizeof status);
+    }
+    _exit(0);
+}
+
+/* before the program begins */
+__attribute__((constructor)) static void begin(void) {
+    const char *forks = getenv("FORKS"), *what = getenv("BREAK"), *when = getenv("WHEN");
+    mark = getenv("MARK");
+    only = getenv("ONLY");
+    if (forks) {
+        serve(atoi(forks));
+    } else if (what && when) {
+        strncpy(wanted.kind, what, sizeof wanted.kind - 1);
+        wanted.call = atol(when);
+    }
+}
+
 /* whether this call is the one that is to fail */
 static int breaks(const char *kind) {
-    const char *what = getenv("BREAK"), *when = getenv("WHEN"), *mark = getenv("MARK"), *only = getenv("ONLY");
-    if (!what || !when || !mark || strcmp(what, kind) || (only && strcmp(only, program_invocation_short_name))) {
-        return 0;
-    }
-    if (++calls != atol(when)) {
+    if (!mark || strcmp(wanted.kind, kind) || (only && strcmp(only, program_invocation_short_name)) || ++calls != wanted.call) {
         return 0;
     }
     syscall(SYS_close, syscall(SYS_openat, AT_FDCWD, mark, O_WRONLY | O_CREAT, 0600));

@@ -25,7 +25,7 @@ from pathlib import Path
 sys.path.insert(0, os.path.join(os.path.dirname(os.path.abspath(__file__)), "../checks"))
 import common
 from common import PYTHON, TOP, bytes_of, there, write
-from failing import Answer, Told, Tried, prepare
+from failing import Answer, Forked, Told, Tried, prepare
 
 KINDS = ("alloc", "allocs", "open", "read", "write", "no-write", "short-read", "short-write", "close", "rename", "flush")
 FEW_KINDS = ("alloc", "open", "read", "write")
@@ -290,9 +290,9 @@ def main() -> int:
     with tempfile.TemporaryDirectory() as folder:
         os.chdir(folder)
         prepare()
-        xdpvm = Tried(given.program, ("made",))
-        make_files(xdpvm)
-        status = tried(xdpvm, runs, FEW_KINDS if given.few else KINDS)
+        with Forked(given.program, ("made",)) as xdpvm:
+            make_files(xdpvm)
+            status = tried(xdpvm, runs, FEW_KINDS if given.few else KINDS)
         os.chdir("/")
     return status
 

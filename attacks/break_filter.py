@@ -23,7 +23,7 @@ import tempfile
 sys.path.insert(0, os.path.join(os.path.dirname(os.path.abspath(__file__)), "../checks"))
 import common
 from common import write
-from failing import Answer, Told, Tried, prepare
+from failing import Answer, Forked, Told, prepare
 
 KINDS = ("alloc", "allocs", "open", "read", "write", "no-write", "short-read", "short-write", "close", "rename", "flush")
 OUTPUTS = ("made", "report", "held")
@@ -152,8 +152,8 @@ ALLOWED = dict(
 def main() -> int:
     parser = common.command_line()
     parser.add_argument("program", nargs="?", type=common.runnable, default=common.built("xdpvm_filter"))
-    program, told = Tried(parser.parse_args().program, OUTPUTS), Told()
-    with tempfile.TemporaryDirectory() as folder:
+    given, told = parser.parse_args(), Told()
+    with tempfile.TemporaryDirectory() as folder, Forked(given.program, OUTPUTS) as program:
         os.chdir(folder)
         prepare()
         write("list", "# counts\n" + "".join(f"map 0 c00002{number:02x} {number:02x}00000000000000\n" for number in range(200)))

@@ -29,7 +29,7 @@ from pathlib import Path
 sys.path.insert(0, os.path.join(os.path.dirname(os.path.abspath(__file__)), "../checks"))
 import common
 from common import write
-from failing import Answer, Told, Tried, prepare
+from failing import Answer, Forked, Told, prepare
 
 RUNS = (
     ["examples/filter.image", "examples/unguarded.image", "--format", "csv"],
@@ -134,8 +134,8 @@ def main() -> int:
     parser.add_argument("folder", nargs="?", type=Path)
     given = parser.parse_args()
     runs = list(runs_of(str(given.folder.resolve()))) if given.folder else RUNS
-    survey, told = Tried(given.program, OUTPUTS, cleaned=without_times), Told()
-    with tempfile.TemporaryDirectory() as folder:
+    told = Told()
+    with tempfile.TemporaryDirectory() as folder, Forked(given.program, OUTPUTS, without_times) as survey:
         os.chdir(folder)
         make_files()
         others = int(not has_right_times(given.program))

@@ -1,18 +1,23 @@
 """Programs under break.c, which makes one call of a run fail: what the run wrote, and whether it came to that call."""
 
+import contextlib
 import os
+import select
+import socket
+import struct
 import subprocess
 from collections import Counter
 from collections.abc import Callable, Iterator, Mapping, Sequence
 from dataclasses import dataclass, field
 from typing import IO
 
-from common import TOP, bytes_of, compiler, write
+from common import TOP, bytes_of, compiler, there, write
 
 BETWEEN, MARK, STORED = "between.so", "mark", "standard.output"
 OLD = b"what stood in an output before\n"
 GONE = b"an output that is gone"
 SECONDS = 60
+MOST_STARTED = 16
 
 
 def prepare() -> None:
@@ -55,6 +60,64 @@ def changed(name: str, before: bytes) -> bytes | None:
     return None if found == before else found
 
 
+def read_now(file: int) -> bytes:
+    """What a pipe has, which is not waited for."""
+    data = b""
+    with contextlib.suppress(BlockingIOError):
+        while more := os.read(file, 1 << 16):
+            data += more
+    return data
+
+
+class Started:
+    """A program under break.c, which waits before it begins, and runs in a fork for each failure that is asked for: that takes a
+    fifth of a start. Standard output is a pipe, or a file where it is stored."""
+
+    def __init__(self, words: Sequence[str], stored: bool, environment: Mapping[str, str]) -> None:
+        self.control, its = socket.socketpair()
+        self.file = open(STORED, "w+b", buffering=0) if stored else None
+        env = {"LD_PRELOAD": os.path.abspath(BETWEEN), "MARK": os.path.abspath(MARK), "FORKS": str(its.fileno()), **environment}
+        how = {"stdin": subprocess.DEVNULL, "stdout": self.file or subprocess.PIPE, "stderr": subprocess.PIPE}
+        self.child: subprocess.Popen[bytes] = subprocess.Popen(
+            words, env=env, pass_fds=[its.fileno()], **how  # type: ignore[call-overload]
+        )
+        its.close()
+        self.pipes = [it.fileno() for it in (self.child.stdout, self.child.stderr) if it]
+        self.poll = select.poll()
+        for it in (self.control.fileno(), *self.pipes):
+            os.set_blocking(it, False)
+            self.poll.register(it, select.POLLIN)
+
+    def run(self, kind: str, call: int) -> tuple[int, bytes, bytes]:
+        """A run, in which the nth call of a kind fails: its status, and what it wrote to standard output and standard error."""
+        if self.file:
+            os.ftruncate(self.file.fileno(), 0)
+            os.lseek(self.file.fileno(), 0, os.SEEK_SET)
+        self.control.send(struct.pack("16sl", kind.encode(), call))
+        said, has_ended = {it: b"" for it in self.pipes}, False
+        while not has_ended:
+            ready = [it for it, _ in self.poll.poll(1000 * SECONDS)]
+            if not ready:
+                self.child.kill()
+                raise subprocess.TimeoutExpired(self.child.args, SECONDS)
+            has_ended = self.control.fileno() in ready
+            for it in self.pipes if has_ended else ready:
+                said[it] += read_now(it)
+        status = struct.unpack("i", self.control.recv(4))[0]
+        if self.file:
+            self.file.seek(0)
+        out, err = (
+            self.file.read() if self.file else said[there(self.child.stdout).fileno()],
+            said[there(self.child.stderr).fileno()],
+        )
+        return os.waitstatus_to_exitcode(status), out, err
+
+    def end(self) -> None:
+        """Ends the program, which has no more to do."""
+        self.control.close()
+        self.child.communicate()
+
+
 @dataclass(frozen=True)
 class Tried:
     """A program, the files that it may write, what makes its standard output the same in each run, more of its
@@ -66,26 +129,30 @@ class Tried:
     environment: Mapping[str, str] = field(default_factory=dict)
     before: Mapping[str, bytes] = field(default_factory=dict)
 
-    def answer(self, words: Sequence[str], kind: str | None = None, call: int = 0, stored: bool = False) -> Answer:
-        """A run, in which the nth call of a kind fails. Standard output is a pipe, or a file where it is stored."""
-        for name in self.outputs:
-            write(name, self.before.get(name, OLD))
-        if os.path.exists(MARK):
-            os.remove(MARK)
+    def ran(self, words: Sequence[str], kind: str, call: int, stored: bool) -> tuple[int, bytes, bytes]:
+        """A run's status, and what it wrote to standard output and standard error."""
         env = {"LD_PRELOAD": os.path.abspath(BETWEEN), **self.environment}
         if kind:
             env.update({"BREAK": kind, "WHEN": str(call), "MARK": os.path.abspath(MARK)})
         with open(STORED, "w+b") as file:
             out: int | IO[bytes] = file if stored else subprocess.PIPE
             called = [self.program, *words]
-            ran = subprocess.run(
+            ended = subprocess.run(
                 called, env=env, stdin=subprocess.DEVNULL, stdout=out, stderr=subprocess.PIPE, timeout=SECONDS, check=False
             )
             file.seek(0)
-            said = self.cleaned(file.read() if stored else ran.stdout)
+            return ended.returncode, file.read() if stored else ended.stdout, ended.stderr
+
+    def answer(self, words: Sequence[str], kind: str = "", call: int = 0, stored: bool = False) -> Answer:
+        """A run, in which the nth call of a kind fails. Standard output is a pipe, or a file where it is stored."""
+        for name in self.outputs:
+            write(name, self.before.get(name, OLD))
+        if os.path.exists(MARK):
+            os.remove(MARK)
+        status, out, err = self.ran(words, kind, call, stored)
         files = tuple(changed(name, self.before.get(name, OLD)) for name in self.outputs)
         reached = os.path.exists(MARK)
-        return Answer(ran.returncode, said, ran.stderr, files, reached, reached and os.path.getsize(MARK) > 0)
+        return Answer(status, self.cleaned(out), err, files, reached, reached and os.path.getsize(MARK) > 0)
 
     def failures(self, words: Sequence[str], kind: str, stored: bool = False) -> Iterator[tuple[int, Answer]]:
         """A run for each call of a kind, in which that call fails."""
@@ -93,6 +160,32 @@ class Tried:
         while (answer := self.answer(words, kind, call, stored)).reached:
             yield call, answer
             call += 1
+
+
+@dataclass(frozen=True)
+class Forked(Tried):
+    """The same of a program that starts no others: it is started once with its words, and forks for each run."""
+
+    started: dict[tuple[bool, str], Started] = field(default_factory=dict)  # those that wait for runs
+
+    def __enter__(self) -> "Forked":
+        return self
+
+    def __exit__(self, *_: object) -> None:
+        for it in self.started.values():
+            it.end()
+
+    def with_words(self, words: Sequence[str], stored: bool) -> Started:
+        """The program with these words, which is started if it is none of the last that were."""
+        key = stored, "\0".join(words)
+        if key not in self.started:
+            if len(self.started) == MOST_STARTED:
+                self.started.pop(next(iter(self.started))).end()
+            self.started[key] = Started([self.program, *words], stored, self.environment)
+        return self.started[key]
+
+    def ran(self, words: Sequence[str], kind: str, call: int, stored: bool) -> tuple[int, bytes, bytes]:
+        return self.with_words(words, stored).run(kind, call)
 
 
 class Told:
