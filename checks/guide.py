@@ -32,13 +32,17 @@ and captures, and those the same streams again. Each filter of examples/filters 
 exit status is 0 if every result is the one wanted, else 1.
 """
 import argparse
+import contextlib
 import glob
 import os
 import re
 import subprocess
 import sys
 import tempfile
-from collections.abc import Iterable, Iterator
+from collections.abc import Callable, Iterable, Iterator
+from concurrent.futures import ProcessPoolExecutor
+from dataclasses import dataclass
+from functools import partial
 from pathlib import Path
 
 import common
@@ -315,59 +319,72 @@ def links(pages: list[str]) -> Iterator[Example]:
         yield f"links of {os.path.relpath(page, TOP)}", "[]\n", f"{wrong}\n"
 
 
-def filters_answer() -> Iterator[Example]:
-    """Each filter of examples/filters has the result that its first line says, those in C where
-    clang is installed, and each that the page on C names is there."""
-    has_headers = os.path.exists("/usr/include/linux/bpf.h")
-    asked = argparse.Namespace(program=PROGRAM, clang="clang" if has_headers else "no compiler", cpu=None, only=None)
-    for path in filters.paths(asked):
-        yield os.path.relpath(path, TOP), "", filters.wrong(path, asked) or ""
+def filters_named() -> Iterator[Example]:
+    """Each filter that the page on C names is there."""
     named = set(re.findall(r"`(\w+\.c)`", text_of(os.path.join(TOP, "docs/COMPILED.md"))))
     yield "filters that COMPILED.md names", "[]\n", f"{sorted(named - set(os.listdir(filters.FOLDER)))}\n"
+
+
+def filters_asked() -> argparse.Namespace:
+    """Those in C are tried where clang is installed."""
+    has_headers = os.path.exists("/usr/include/linux/bpf.h")
+    return argparse.Namespace(program=PROGRAM, clang="clang" if has_headers else "no compiler", cpu=None, only=None)
+
+
+def filter_answers(path: str) -> Iterator[Example]:
+    """A filter of examples/filters has the result that its first line says."""
+    yield os.path.relpath(path, TOP), "", filters.wrong(path, filters_asked()) or ""
+
+
+def blocks(page: str) -> Iterator[Example]:
+    for kind, body in BLOCK.findall(text_of(page)):
+        yield from tries(kind, body)
+
+
+@dataclass(frozen=True)
+class Part:
+    """What is tried in a folder of its own, and where its examples are."""
+
+    where: str
+    examples: Callable[[], Iterable[Example]]
+
+    def tried(self) -> list[Example]:
+        """The examples."""
+        with tempfile.TemporaryDirectory() as folder, contextlib.chdir(folder):
+            for name in ("examples", "tools", "tests"):
+                os.symlink(os.path.join(TOP, name), name)
+            return list(self.examples())
+
+
+def parts() -> Iterator[Part]:
+    pages = [os.path.join(TOP, "README.md"), *sorted(glob.glob(os.path.join(TOP, "docs/*.md")))]
+    readmes = sorted(glob.glob(os.path.join(TOP, "crates/*/README.md")))
+    others = [os.path.join(TOP, it) for it in ("examples/README.md", "assurance/LOG.md", "bench/LOG.md")]
+    yield Part("streams and texts", returned)
+    yield from (Part(os.path.relpath(page, TOP), partial(blocks, page)) for page in pages)
+    yield from (Part("filters", partial(filter_answers, path)) for path in filters.paths(filters_asked()))
+    yield Part("filters", filters_named)
+    yield from (Part("examples", it) for it in (stored, proved, compiled, captured, reported))
+    yield from (Part("crates.txt", it) for it in (depends, crates_on_pages))
+    yield Part("pages", partial(links, pages + readmes + others))
 
 
 def main() -> None:
     if not os.access(PROGRAM, os.X_OK):
         sys.exit(f"there is no program {PROGRAM}: give one, or build it as README.md says")
-    pages = [os.path.join(TOP, "README.md"), *sorted(glob.glob(os.path.join(TOP, "docs/*.md")))]
     runs = failures = 0
-
-    def count(where: str, examples: Iterable[Example]) -> None:
-        nonlocal runs, failures
-        for what, wanted, answer in examples:
-            runs += 1
-            if answer != wanted:
-                failures += 1
-                print(f"{where}: {what}\nwanted:\n{wanted}answered:\n{answer}")
-
     with tempfile.TemporaryDirectory() as folder:
-        os.chdir(folder)
-        os.symlink(os.path.join(TOP, "examples"), "examples")
-        os.mkdir("bin")
-        os.symlink(os.path.join(TOP, "tools"), "tools")
-        os.symlink(os.path.join(TOP, "tests"), "tests")
-        os.symlink(PROGRAM, "bin/xdpvm")
-        os.symlink(SURVEY, "bin/xdpvm_survey")
-        os.symlink(FILTER, "bin/xdpvm_filter")
-        os.environ["XDPVM"] = PROGRAM
-        os.environ["XDPVM_FILTER"] = FILTER
-        os.environ["PATH"] = os.path.join(folder, "bin") + os.pathsep + os.environ["PATH"]
-        for page in pages:
-            for kind, body in BLOCK.findall(text_of(page)):
-                count(os.path.relpath(page, TOP), tries(kind, body))
-        count("examples", stored())
-        count("examples", proved())
-        count("examples", compiled())
-        count("examples", captured())
-        count("streams and texts", returned())
-        count("examples", reported())
-        count("filters", filters_answer())
-        count("crates.txt", depends())
-        count("crates.txt", crates_on_pages())
-        readmes = sorted(glob.glob(os.path.join(TOP, "crates/*/README.md")))
-        others = [os.path.join(TOP, it) for it in ("examples/README.md", "assurance/LOG.md", "bench/LOG.md")]
-        count("pages", links(pages + readmes + others))
-        os.chdir("/")
+        for program, name in ((PROGRAM, "xdpvm"), (SURVEY, "xdpvm_survey"), (FILTER, "xdpvm_filter")):
+            os.symlink(program, os.path.join(folder, name))
+        os.environ.update(XDPVM=PROGRAM, XDPVM_FILTER=FILTER, PATH=folder + os.pathsep + os.environ["PATH"])
+        every = list(parts())
+        with ProcessPoolExecutor(len(os.sched_getaffinity(0))) as pool:
+            for part, examples in zip(every, pool.map(Part.tried, every)):
+                for what, wanted, answer in examples:
+                    runs += 1
+                    if answer != wanted:
+                        failures += 1
+                        print(f"{part.where}: {what}\nwanted:\n{wanted}answered:\n{answer}")
     for program in (SURVEY, FILTER):
         if not os.path.exists(program):
             print(f"there is no program {program}: what calls it was not tried")
@@ -375,4 +392,5 @@ def main() -> None:
     sys.exit(1 if failures else 0)
 
 
-main()
+if __name__ == "__main__":
+    main()
