@@ -22,9 +22,9 @@ from dataclasses import dataclass
 
 sys.path.insert(0, os.path.dirname(os.path.abspath(__file__)))
 import near
+import serving
 from common import CANNOT, compiler
 from listed import CHECKS, TOP, Check
-from serving import served
 
 EXAMPLES = re.compile(r"^(\d+) examples, (\d+) differ$")
 MOST_SHOWN = 20000  # characters of a check's output, from its end
@@ -114,7 +114,7 @@ def main() -> int:
     if unknown:
         words.error(f"there is no check {unknown[0]}; --list prints them")
     begin, asked = time.monotonic(), [it for it in CHECKS if not given.names or it.name in given.names]
-    with served(compiler()) as more:
+    with serving.served(compiler()) as more:
         own = {name: it for name, it in os.environ.items() if name not in PYTHONS}
         results = run_all(asked, max(given.jobs, 1), {**own, **more})
     used = resource.getrusage(resource.RUSAGE_CHILDREN)

@@ -10,6 +10,7 @@ import sys
 import tempfile
 import time
 import unittest
+from functools import partial
 from pathlib import Path
 
 from common import TOP, compiler
@@ -85,14 +86,19 @@ class Served(unittest.TestCase):
 
     def test_other_limits_are_not_served(self) -> None:
         """Python itself is started then, and the tool does the same."""
+        python = Path(sys.executable).resolve()
         for before in (["prlimit", "--nofile=500"], ["bash", "-c", 'umask 077 && exec "$@"', "bash"]):
             with self.subTest(before):
                 child = self.waiting(*before)
-                python = Path(sys.executable).resolve()
-                until(lambda at=Path(f"/proc/{child.pid}/exe"): at.resolve() == python)
+                until(partial(is_program, child.pid, python))
                 self.assertEqual(self.forks(), [])
                 child.communicate(b"frame 1\ncafe\n")
                 self.assertEqual(child.returncode, 0)
+
+
+def is_program(process: int, program: Path) -> bool:
+    """Whether a process runs a program."""
+    return Path(f"/proc/{process}/exe").resolve() == program
 
 
 def until(holds: object, seconds: float = 60) -> None:
