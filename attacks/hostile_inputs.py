@@ -235,9 +235,9 @@ def counting(count: int, size: int) -> list[bytes]:
     return same
 
 
-def of_keys(keys: list[bytes]) -> bytes:
-    """A stream of frames, each of which is a key."""
-    return b"XPF1" + b"".join(record(1, (at, 0, 0), 0, key) for at, key in enumerate(keys))
+def of_keys(keys: list[bytes], rounds: int = 1) -> bytes:
+    """A stream of frames, each of which is a key, in so many rounds."""
+    return b"XPF1" + b"".join(record(1, (0, 0, 0), 0, key) for key in keys) * rounds
 
 
 def chains() -> Iterator[Tried]:
@@ -263,7 +263,7 @@ def worst_keys() -> Iterator[Tried]:
         PROGRAM,
         "run",
         "image",
-        write("frames", of_keys(keys * (rounds + 1))),
+        write("frames", of_keys(keys, rounds + 1)),
         "sent",
     ], FILLED + rounds * len(keys) * CALL
 

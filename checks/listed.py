@@ -119,7 +119,6 @@ CHECKS = (
         "what a terminal shows while a command takes over a second",
         8,
         skips=True,
-        alone=True,
     ),
     Check("devices", "python3 attacks/devices.py", "that files on two devices are two", 1, skips=True),
     Check(
@@ -127,14 +126,12 @@ CHECKS = (
         "python3 attacks/pipes.py",
         "that each frame is handed on before the next one is waited for, with a slow writer within 50 ms",
         3,
-        alone=True,
     ),
     Check(
         "endless",
         "python3 attacks/endless.py",
         "that tables, texts and earlier surveys without an end are refused as their first bytes are, within a second and 64 MB",
         6,
-        alone=True,
     ),
     Check(
         "worst_keys",
@@ -148,21 +145,18 @@ CHECKS = (
         "python3 attacks/hostile_inputs.py crates/xdpvm/out/xdpvm traced",
         "that a traced frame on a full map takes half a second, whatever keys come and go and whatever it loads",
         3,
-        alone=True,
     ),
     Check(
         "outputs",
         "python3 attacks/hostile_inputs.py crates/xdpvm/out/xdpvm outputs",
         "that a small image with a large table and a long log takes seconds and 100 MB",
         8,
-        alone=True,
     ),
     Check(
         "hostile",
         "python3 attacks/hostile.py crates/xdpvm/out/xdpvm --few",
         "that the images which keep `verify` busy longest, or take most memory, take at most 30 seconds and 300 MB",
         18,
-        alone=True,
     ),
     Check("failures", "python3 attacks/break.py --few", "what comes of memory, reads and writes that fail, on three programs", 12),
     Check(
