@@ -4,11 +4,12 @@
 #        bash release.sh --files FOLDER         compares an unpacked archive with its MANIFEST, and its programs with the gate's
 #        bash release.sh --check ARCHIVE        builds the archive's commit again, proofs included, and compares the bytes
 # The programs and the library are those that .ci/run left with its record of this very commit (checks/record.py); a tree
-# with changes that are not committed, or without a record, is refused. With --trial they are those in crates/*/out, and the
-# MANIFEST says that it is a trial. All times in the archives are the commit's, so the same build and the same commit give
-# the same archives. It needs the toolchain's `rt` on the path, for the library's heap and the licences of its ports, cc, ar
-# and dpkg-deb; without dpkg-deb there are no packages, and a line says so. A file LICENSE at the top goes into the archives;
-# where there is none the MANIFEST says so. The last lines are the archives with their SHA-256.
+# with changes that are not committed, or without a record, is refused. With --trial they are those in crates/*/out, the
+# MANIFEST says that it is a trial, and the archives are packed in less time. All times in the archives are the commit's, so
+# the same build and the same commit give the same archives. It needs the toolchain's `rt` on the path, for the library's
+# heap and the licences of its ports, cc, ar and dpkg-deb; without dpkg-deb there are no packages, and a line says so. A file
+# LICENSE at the top goes into the archives; where there is none the MANIFEST says so. The last lines are the archives with
+# their SHA-256.
 # The exit status is 0, or 1 with a message.
 set -euo pipefail
 umask 022
@@ -65,13 +66,10 @@ compare_files() {
 
 # Each file of a folder but its MANIFEST: SHA-256, mode and path; a link with where it leads.
 list_files() {
-    (cd "$1" && find . \( -type f -o -type l \) ! -path ./MANIFEST -printf '%P\n' | sort | while read -r file; do
-        if [ -L "$file" ]; then
-            echo "link $(readlink "$file") $file"
-        else
-            echo "$(sha256sum < "$file" | cut -c -64) $(stat -c %a "$file") $file"
-        fi
-    done)
+    (cd "$1" && mapfile -t files < <(find . -type f ! -path ./MANIFEST -printf '%P\n') && {
+        find . -type l -printf 'link %l %P\n'
+        paste -d ' ' <(sha256sum -- "${files[@]}" | cut -c -64) <(stat -c '%a %n' -- "${files[@]}")
+    } | sort -k 3)
 }
 
 if [ "$1" = --files ]; then
@@ -103,7 +101,9 @@ fi
 # ---- what is released
 
 gate=
+level=9e
 if [ -n "$trial" ]; then
+    level=1
     program=$top/crates/xdpvm/out/xdpvm
     survey=$top/crates/xdpvm_survey/out/xdpvm_survey
     filter=$top/crates/xdpvm_filter/out/xdpvm_filter
@@ -261,7 +261,7 @@ notices > "$tree/NOTICES"
 find "$tree" -name __pycache__ -prune -exec rm -rf {} +
 manifest "$tree" > "$tree/MANIFEST"
 stamped "$tree"
-tar -C "$work" --sort=name --owner=0 --group=0 --numeric-owner --format=ustar -cf - "$name" | xz -9e --threads=1 > "$folder/$name.tar.xz.part"
+tar -C "$work" --sort=name --owner=0 --group=0 --numeric-owner --format=ustar -cf - "$name" | xz "-$level" --threads=1 > "$folder/$name.tar.xz.part"
 mv "$folder/$name.tar.xz.part" "$folder/$name.tar.xz"
 (cd "$folder" && sha256sum "$name.tar.xz")
 
@@ -306,7 +306,7 @@ packed() {
     find "$tree" -type d -exec chmod 755 {} +
     (cd "$tree" && find usr -type f -print0 | sort -z | xargs -0 md5sum > DEBIAN/md5sums)
     stamped "$tree"
-    dpkg-deb --root-owner-group -Zxz -b "$tree" "$folder/$1_$version-1_amd64.deb" > "$work/said"
+    dpkg-deb --root-owner-group -Zxz ${trial:+-z1} -b "$tree" "$folder/$1_$version-1_amd64.deb" > "$work/said"
     (cd "$folder" && sha256sum "$1_$version-1_amd64.deb")
 }
 
