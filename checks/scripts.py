@@ -7,8 +7,8 @@ usage: python3 checks/scripts.py [--anew]
 A script is a file of attacks/, bench/, checks/, examples/, tests/ or tools/ that is called by itself. It has a run in the gate if
 .ci/run, .ci/prove, the list of checks (checks/listed.py) or a case of tests/ calls it, or a script that they call does. The exit
 status is 1 if one has neither, if a row names none, if the page lacks a row of `python3 -m attacks --table`, or if one of the four
-finds something. Where they found nothing they are not asked again until a script, a setting or a version changes (noted in
-~/.cache/xdpvm_scripts; --anew asks all the same). In the gate.
+finds something. Where they found nothing they are not asked again about a file until it changes, or a script that it imports,
+a setting or a version (noted in ~/.cache/xdpvm_scripts; --anew asks all the same). In the gate.
 """
 import hashlib
 import os
@@ -20,8 +20,10 @@ import sys
 from common import TOP, bytes_of, command_line, said_by, write
 from listing import PAGE, page
 
-KEPT = os.path.join(os.environ.get("XDG_CACHE_HOME") or os.path.expanduser("~/.cache"), "xdpvm_scripts")
-SETTINGS = ("pyproject.toml", ".shellcheckrc")
+KEPT = os.path.join(os.environ.get("XDG_CACHE_HOME") or os.path.expanduser("~/.cache"), "xdpvm_scripts/sums")
+MOST_KEPT = 10_000
+SETTINGS = ("pyproject.toml", ".shellcheckrc", "checks/scripts.py")
+IMPORTS = re.compile(r"^\s*(?:from|import) (.*)", re.M)
 JOBS = str(len(os.sched_getaffinity(0)))
 # How each is called, and the ending of its files; those of .ci are for the shell.
 LINTERS = (
@@ -92,27 +94,53 @@ def apart(paths: list[str]) -> list[list[str]]:
     return [list(it.values()) for it in lists]
 
 
+def imported(path: str, named: dict[str, str]) -> set[str]:
+    """A script, and those that it imports, directly or by one that it imports; `named` has their paths by their names."""
+    found, waiting = {path}, [path]
+    while waiting:
+        for names in IMPORTS.findall(text_of(waiting.pop())):
+            its = {named[it] for it in re.findall(r"\w+", names) if it in named} - found
+            found |= its
+            waiting += its
+    return found
+
+
+def sums_of(files: list[str], base: bytes) -> dict[str, str]:
+    """A sum of each file and of all that is found in it may rest on: `base`, and what it imports."""
+    named = {os.path.basename(it)[:-3]: it for it in files if it.endswith(".py")}
+    own = {it: hashlib.sha256(bytes_of(os.path.join(TOP, it))).hexdigest() for it in files}
+    found = {}
+    for path in files:
+        parts = [f"{it} {own[it]}" for it in sorted(imported(path, named) if path.endswith(".py") else [path])]
+        found[path] = hashlib.sha256(base + "\n".join([path, *parts]).encode()).hexdigest()
+    return found
+
+
+def kept() -> list[str]:
+    """The sums of files in which nothing was found."""
+    return bytes_of(KEPT).decode().split() if os.path.exists(KEPT) else []
+
+
 def linted(is_anew: bool) -> tuple[list[str], str]:
     """What the linters find, and a sentence on what was asked."""
     there = [words for words, _ in LINTERS if shutil.which(words[0])]
     lacking = [words[0] for words, _ in LINTERS if words not in there]
     files = {".py": tracked("*.py"), ".sh": tracked("*.sh", ".ci/*")}
-    sums = hashlib.sha256("".join(said_by([words[0], "--version"])[1] for words in there).encode())
-    for path in sorted([*files[".py"], *files[".sh"], *SETTINGS]):
-        sums.update(f"{path}\n".encode() + hashlib.sha256(bytes_of(os.path.join(TOP, path))).digest())
-    told = f"{', '.join(words[0] for words in there) or 'nothing'} asked of {len(files['.py'])} and {len(files['.sh'])} files"
-    told += f"; not installed: {', '.join(lacking)}" if lacking else ""
-    kept = os.path.join(KEPT, sums.hexdigest())
-    if os.path.exists(kept) and not is_anew:
-        return [], f"{told} by an earlier run"
+    versions = "".join(said_by([words[0], "--version"])[1] for words in there)
+    base = versions.encode() + b"".join(bytes_of(os.path.join(TOP, it)) for it in SETTINGS)
+    sums, earlier = sums_of([*files[".py"], *files[".sh"]], base), [] if is_anew else kept()
+    asked = {ending: [it for it in its if sums[it] not in earlier] for ending, its in files.items()}
+    told = f"{', '.join(words[0] for words in there) or 'nothing'} asked of {len(files['.py'])} and {len(files['.sh'])} files, "
+    told += f"of {sum(map(len, asked.values()))} in this run" + (f"; not installed: {', '.join(lacking)}" if lacking else "")
     found = []
     for words, ending in LINTERS:
-        for some in apart(files[ending]) if words in there else []:
+        for some in apart(asked[ending]) if words in there else []:
             status, said = said_by([*words, *some], TOP)
             found += [f"{words[0]} ended with status {status}:\n{said.rstrip()}"] if status else []
-    if not found:
-        os.makedirs(KEPT, exist_ok=True)
-        write(kept, "")
+    if not found and any(asked.values()):
+        os.makedirs(os.path.dirname(KEPT), exist_ok=True)
+        write(f"{KEPT}.{os.getpid()}", "\n".join([*dict.fromkeys([*kept(), *sums.values()])][-MOST_KEPT:]) + "\n")
+        os.replace(f"{KEPT}.{os.getpid()}", KEPT)
     return found, told
 
 
