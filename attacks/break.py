@@ -163,8 +163,8 @@ def lacks_stops(words: list[str], found: Answer, good: Answer) -> bool:
 
 
 def of_memory(_: Tried, words: list[str], found: Answer, good: Answer) -> str | None:
-    if found.status == 5 and found.err == b"out of memory\n" and found.is_quiet():
-        return "status 5"
+    if found.status == 5 and found.err == b"out of memory\n" and found.is_empty():
+        return "status 5" if found.is_quiet() else "status 5, an old output emptied"
     if found.is_as(good):
         return "unchanged"
     known = lacks_reason(found, good) or lacks_stops(words, found, good)

@@ -79,8 +79,8 @@ def lacks_losses(answer: Answer, whole: Answer) -> bool:
 
 def of_memory(words: list[str], answer: Answer, whole: Answer) -> str | None:
     if answer.status == 5 and answer.err == b"out of memory\n":
-        if answer.is_quiet():
-            return "status 5, nothing written"
+        if answer.is_empty():
+            return "status 5, nothing written" if answer.is_quiet() else "status 5, an old output emptied"
         return "status 5, all but the counts" if has_all_but_counts(answer, whole) else None
     if answer.is_as(whole):
         return "unchanged"
@@ -106,8 +106,8 @@ def is_cut_off(words: list[str], answer: Answer, whole: Answer) -> bool:
 
 def of_open(words: list[str], answer: Answer, _: Answer) -> str | None:
     """Nothing is written but outputs that were made before the one that is not opened: those are empty."""
-    named = re.match(r"cannot (read|write) (\S+)\npermission denied\n", answer.err.decode())
-    if answer.status != 4 or not named or named[2] not in (*words, *OUTPUTS) or answer.out or any(answer.files):
+    named = re.match(r"cannot (?:read|write) (standard output|\S+)\npermission denied\n", answer.err.decode())
+    if answer.status != 4 or not named or named[1] not in (*words, *OUTPUTS, "standard output") or not answer.is_empty():
         return None
     return "status 4" if answer.is_quiet() else "status 4, an output before it emptied"
 

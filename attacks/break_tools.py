@@ -127,14 +127,24 @@ class Folder:
         return found
 
 
+def is_page(kind: str, found: bytes | None) -> bool:
+    """Whether it is a page of counts, or a file of lcov, of a source that could not be read: with the lines that became code."""
+    return kind in ("open", "read", "close") and found is not None and found.endswith((b"</html>\n", b"end_of_record\n"))
+
+
 def judged(kind: str, found: Answer, whole: Answer, left: set[str]) -> str | None:
     """What a run under a failure did, if that is allowed."""
     is_memory = kind.startswith("memory")
-    if any(it not in (None, right) for it, right in zip(found.files, whole.files)):
+    # the folder of temporary files is opened, and closed, where it is removed
+    is_theirs = kind in ("open", "close") and all(it.startswith("tmp/") for it in left)
+    pages = [is_page(kind, it) and it != right for it, right in zip(found.files, whole.files)]
+    if any(it not in (None, right) and not page for it, right, page in zip(found.files, whole.files, pages)):
         return None
-    if not is_memory and (left or b"Traceback" in found.err or found.status < 0):
+    if not is_memory and (left and not is_theirs or b"Traceback" in found.err or found.status < 0):
         return None
     beside = ", a file left beside" if left else ""
+    if found.status == whole.status and any(pages) and found.out == whole.out:
+        return "the lines that became code"
     if found.status == whole.status:
         if not found.has_outputs_of(whole):
             return None

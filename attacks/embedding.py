@@ -5,10 +5,10 @@ usage: python3 attacks/embedding.py [--calls N] [--archive FILE] [--object OBJEC
 
 N calls (100,000) are made by four threads over the images of examples/, with the answers of one thread alone
 (attacks/threads.c); races of the caller's side are found, and with an OBJECT that `examples/embed/coverage.py --sanitizer thread`
-made those of the library, too. Then attacks/misuse.c prints what happens in each wrong use of a session and of pointers: what
-the header says an answer to has to have it, and where a call returns nothing outside the caller's memory is changed. The library
-is crates/xdpvm_c/out/libxdpvm_c.a or FILE. It needs a C compiler (CC) with ThreadSanitizer. The exit status is 1 if anything was
-wrong.
+made those of the library, too (CC has to be a clang from 15 on). Then attacks/misuse.c prints what happens in each wrong use of a
+session and of pointers: what the header says an answer to has to have it, and where a call returns nothing outside the caller's
+memory is changed. The library is crates/xdpvm_c/out/libxdpvm_c.a or FILE. It needs a C compiler (CC) with ThreadSanitizer. The
+exit status is 1 if anything was wrong.
 """
 import glob
 import os
@@ -38,7 +38,7 @@ def main() -> int:
     images = sorted(glob.glob(f"{TOP}/examples/*.image"))
     with tempfile.TemporaryDirectory() as folder:
         library = [given.object, heap, system] if given.object else [given.archive, heap]
-        threads = compiled("threads", folder, ["clang" if given.object else compiler(), "-O1", "-fsanitize=thread", *library])
+        threads = compiled("threads", folder, [compiler(), "-O1", "-fsanitize=thread", *library])
         # the sanitizer wants its addresses as they are without randomness
         ran = subprocess.run(["setarch", "-R", threads, str(given.calls), *images], check=False).returncode
         misused = subprocess.run([compiled("misuse", folder, [compiler(), "-O1", given.archive])], check=False).returncode

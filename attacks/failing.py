@@ -48,6 +48,10 @@ class Answer:
         """Whether standard output got no byte, and each file is as it was."""
         return not self.out and not any(it is not None for it in self.files)
 
+    def is_empty(self) -> bool:
+        """Whether nothing was written, though an output may have been made anew."""
+        return not self.out and not any(self.files)
+
     def begins(self, whole: "Answer") -> bool:
         """Whether each output has a beginning of what it should have, and nothing else, or is as it was."""
         pairs = zip((self.out, *self.files), (whole.out, *whole.files))

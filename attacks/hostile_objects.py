@@ -89,7 +89,7 @@ def of_types() -> Iterator[tuple[str, bytes]]:
     yield "a line for each slot", program(CODE * 4095 + EXIT, btf(TYPED, texts[:8]), ext(places, b""))
     yield "a row that is cut", program(code, btf(TYPED, texts[:8]), ext(row, b""))
     path, one = b":".join([b"0"] * 60), insn(0xB7, 0, imm=1)
-    fields = struct.pack("<III", 16, 3, 2000) + b"".join(struct.pack("<IIII", 8 * at, 1, 7, 2) for at in range(2000))
+    fields = struct.pack("<III", 16, 3, 1000) + b"".join(struct.pack("<IIII", 8 * at, 1, 7, 2) for at in range(1000))
     # a structure of structures: each member is the structure itself
     members = b"".join(struct.pack("<III", 1, 1, 0) for _ in range(60_000))
     types = struct.pack("<III", 1, STRUCT | 60_000, 8) + members

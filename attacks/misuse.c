@@ -10,11 +10,10 @@
 #include <signal.h>
 #include <stdatomic.h>
 #include <sys/mman.h>
-#include <sys/time.h>
 #include <sys/wait.h>
 #include <unistd.h>
 
-enum { PAGE = 4096, SECONDS = 10, RUNS = 2000, TURNS = 300, CHILDREN = 20 };
+enum { PAGE = 4096, SECONDS = 10, RUNS = 2000, AT_ONCE = 200000, TURNS = 300, CHILDREN = 20, INTERRUPTS = 500 };
 
 /* ---- the library's memory */
 
@@ -262,15 +261,25 @@ static void of_the_caller(void) {
     printf("status %u", run(&mine.session));
 }
 
+static atomic_ulong ran_at_once;
+
+/* What calls at once did: how many had XDPVM_WRONG, and whether the others are all in the maps. */
+static void tell_at_once(unsigned long all, unsigned long right, uint64_t counted) {
+    printf("%s of the calls are XDPVM_WRONG; of the others %s", right == all ? "none" : right * 2 > all ? "some" : "most",
+           counted == right ? "each packet is counted" : "packets are lost, or counted twice");
+}
+
 static void *runs(void *given) {
     static atomic_uint interfaces;
+    unsigned long right = 0;
     uint32_t interface = interfaces++;
     struct xdpvm_ended mine_ended;
     uint8_t packet[64] = {0};
-    for (uint32_t i = 0; i < RUNS; i++) {
+    for (uint32_t i = 0; i < AT_ONCE; i++) {
         struct xdpvm_head its = {0, interface * 50 + i % 50, 0};
-        xdpvm_run(given, &its, packet, sizeof packet, &mine_ended);
+        right += xdpvm_run(given, &its, packet, sizeof packet, &mine_ended) == XDPVM_OK;
     }
+    ran_at_once += right;
     return NULL;
 }
 
@@ -281,7 +290,7 @@ static void two_threads(void) {
     for (int i = 0; i < 4; i++) need(!pthread_create(&ids[i], NULL, runs, &mine.session), "a thread");
     for (int i = 0; i < 4; i++) pthread_join(ids[i], NULL);
     for (uint32_t i = 0; i < 200; i++) counted += count_of(&mine.session, i);
-    printf("%s", counted == 4 * RUNS ? "each packet counted" : "packets are lost, or counted twice");
+    tell_at_once(4 * AT_ONCE, ran_at_once, counted);
     xdpvm_close(&mine.session);
 }
 
@@ -319,25 +328,36 @@ static void image_changes(void) {
     printf("each of %d programs is accepted or refused, and runs", accepted + refused);
 }
 
-static volatile uint64_t interrupted;
+static volatile unsigned long interrupted, answered;
 
 static void interrupts(int number) {
     (void)number;
     struct xdpvm_ended its;
     uint8_t packet[64] = {0};
-    interrupted += xdpvm_run(&mine.session, &(struct xdpvm_head){0, 3, 0}, packet, sizeof packet, &its) == XDPVM_OK;
+    answered += xdpvm_run(&mine.session, &(struct xdpvm_head){0, 3, 0}, packet, sizeof packet, &its) == XDPVM_OK;
+    interrupted++;
+}
+
+/* Sends signals to a thread. */
+static void *sends(void *given) {
+    while (!stops) {
+        pthread_kill(*(pthread_t *)given, SIGUSR1);
+        usleep(20);
+    }
+    return NULL;
 }
 
 static void of_a_handler(void) {
-    const struct itimerval often = {{0, 50}, {0, 50}}, never = {{0, 0}, {0, 0}};
-    uint64_t ran = 0;
+    pthread_t id, self = pthread_self();
+    unsigned long ran = 0, all = 0;
     open_mine();
-    signal(SIGPROF, interrupts);
-    setitimer(ITIMER_PROF, &often, NULL);
-    while (interrupted < RUNS) ran += run(&mine.session) == XDPVM_OK;
-    setitimer(ITIMER_PROF, &never, NULL);
-    int right = count_of(&mine.session, 2) == ran && count_of(&mine.session, 3) == interrupted;
-    printf("%s", right ? "each packet counted" : "packets are lost, or counted twice");
+    signal(SIGUSR1, interrupts);
+    need(!pthread_create(&id, NULL, sends, &self), "a thread");
+    for (; interrupted < INTERRUPTS; all++) ran += run(&mine.session) == XDPVM_OK;
+    stops = 1;
+    pthread_join(id, NULL);
+    tell_at_once(interrupted, answered, count_of(&mine.session, 3));
+    need(ran == all, "a run that was interrupted");
 }
 
 static void null_of_no_length(void) {
@@ -371,10 +391,10 @@ static void overlapping(void) {
 
 static void longer_than_it_is(void) {
     uint8_t *page = mmap(NULL, 2 * PAGE, PROT_READ | PROT_WRITE, MAP_PRIVATE | MAP_ANONYMOUS, -1, 0);
-    struct xdpvm_verdict verdict;
+    struct xdpvm_assembled made;
     mprotect(page + PAGE, PAGE, PROT_NONE);
-    memcpy(page + PAGE - image_size, image, image_size);
-    printf("status %u", xdpvm_verify(page + PAGE - image_size, image_size + 1, 100, mine.text, sizeof mine.text, &verdict));
+    memset(page, ' ', PAGE);
+    printf("status %u", xdpvm_assemble(page, PAGE + 1, image, sizeof image, mine.text, sizeof mine.text, &made));
 }
 
 static void *verifies(void *given) {

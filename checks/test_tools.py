@@ -28,6 +28,7 @@ import kernel
 import kernel_calls
 import objects
 import packed
+import runs
 import sources
 import survey
 
@@ -108,6 +109,14 @@ class PackedFiles(unittest.TestCase):
         for size in (1, 7, 1000, len(data)):
             pieces = (data[at : at + size] for at in range(0, len(data), size))
             self.assertEqual(b"".join(packed.unpacked(pieces)), b"one" + bytes(3 << 20))
+
+    def test_what_is_damaged_from_its_beginning_is_refused(self) -> None:
+        with tempfile.NamedTemporaryFile() as file:
+            file.write(gzip.compress(b"XPF1")[:10] + b"\xff" * 100)
+            file.flush()
+            with self.assertRaisesRegex(sources.Failed, f"{file.name}: what gzip packed is damaged"):
+                runs.written_unpacked(file.name, f"{file.name}.unpacked")
+            os.remove(f"{file.name}.unpacked")
 
     def test_what_is_cut_or_damaged_comes_up_to_there(self) -> None:
         data, found = gzip.compress(b"one"), []

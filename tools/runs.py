@@ -166,11 +166,19 @@ class Conversion:
         return ran.stderr
 
 
+def looked_at_unpacked(packed: Iterator[bytes], name: str) -> tuple[bytes, Iterator[bytes]]:
+    """The first bytes of what is packed in these pieces, and all of it. `name` is what messages call the file."""
+    try:
+        return looked_at(unpacked(packed))
+    except Packed as why:
+        raise Failed(f"{name}: {why}") from None
+
+
 def written_unpacked(path: str, made: str) -> tuple[bytes, str]:
     """Unpacks a file; the first bytes of what was packed in it, and the file that has it. What is said of a file that
     ends early is said."""
     with open(path, "rb") as source, open(made, "wb") as out:
-        begin, pieces = looked_at(unpacked(pieces_of(source)))
+        begin, pieces = looked_at_unpacked(pieces_of(source), path)
         try:
             out.writelines(pieces)
         except Packed as why:
@@ -220,7 +228,7 @@ class Live:
         ends = self.ends
         begin, pieces = looked_at(pieces_of(capture))
         if begin[: len(GZIP)] == GZIP:
-            begin, pieces = looked_at(unpacked(pieces))
+            begin, pieces = looked_at_unpacked(pieces, ends.capture)
         source: object = subprocess.PIPE
         if begin[:3] != b"XPF":
             words = Conversion(self.wanted.xdpvm, "frames", ends.reasons).words(begin, "-", "-", ends.capture)
