@@ -4,7 +4,7 @@
 usage: python3 -m checks [--list] [--jobs N] [NAME ..]        (at the top of the repository)
        python3 -m checks near [--since COMMIT] [CRATE::FUNCTION ..]
 
-NAME is one of --list, which prints each with its command, its seconds on four idle cores, and what it checks; without a name all
+NAME is one of --list, which prints each with its command, its processor seconds, and what it checks; without a name all
 run. --jobs: so many at once (the default: the cores). What a check prints is shown if it fails. The last line is 'N passed, M
 failed': a check counts once, and the pages' examples each. The exit status is 0 if all pass. `near` proves only the functions that
 were changed: checks/near.py.

@@ -1,4 +1,4 @@
-"""The checks, in the order in which they are listed. The dearest begin first; those that measure time run alone, at the end."""
+"""The checks, in the order in which they are listed. The dearest begin first; one that measures time runs alone, at the end."""
 from dataclasses import dataclass
 from pathlib import Path
 
@@ -7,8 +7,8 @@ TOP = Path(__file__).resolve().parent.parent
 
 @dataclass(frozen=True)
 class Check:
-    """A command that ends with status 0 where all is as it is to be. `seconds` is about what it takes by itself on an idle machine
-    of four cores. Status 77 is that it cannot be tried here, where `skips` says that this may be."""
+    """A command that ends with status 0 where all is as it is to be. `seconds` is about what it takes of processors, on a
+    busy machine. Status 77 is that it cannot be tried here, where `skips` says that this may be."""
 
     name: str
     command: str
@@ -19,25 +19,25 @@ class Check:
 
 
 CHECKS = (
-    Check("guide", "python3 checks/guide.py", "every example of the pages, on the program; that links lead somewhere", 40),
-    Check("tour", "python3 checks/tour.py", "the changes of TOUR.md: what the prover says of each", 10),
+    Check("guide", "python3 checks/guide.py", "every example of the pages, on the program; that links lead somewhere", 14),
+    Check("tour", "python3 checks/tour.py", "the changes of TOUR.md: what the prover says of each", 60),
     Check(
         "cases",
         "python3 tests/cases.py",
         "cases that are written by hand: what the programs write to each output and file, and their status; verdicts, bounds and "
         "runs; what is said of wrong inputs",
-        15,
+        33,
     ),
     Check("entries", "python3 checks/entries.py", "whether `xdpvm explain` prints what REFUSALS.md says of each code", 1),
     Check("cases_runner", "python3 checks/test_cases.py", "that the runner of cases finds each difference", 1),
-    Check("edits_fit", "python3 checks/run.py --fit", "whether the text that each edit replaces is still there", 2),
+    Check("edits_fit", "python3 checks/run.py --fit", "whether the text that each edit replaces is still there", 20),
     Check(
         "near",
         "python3 -m checks near known_bits::Bits::below known_bits::Bits::meet known_bits::bits::ones",
         "that functions are proved and their edits tried by themselves",
-        15,
+        50,
     ),
-    Check("laws", "python3 checks/laws.py", "which laws are in specs/ without need", 2),
+    Check("laws", "python3 checks/laws.py", "which laws are in specs/ without need", 6),
     Check("names", "python3 checks/names.py", "which public names mean different things in two crates", 2),
     Check(
         "file_map",
@@ -49,30 +49,30 @@ CHECKS = (
         "readmes",
         "python3 checks/readmes.py",
         "whether each crate has a README of at most 40 lines, and clauses and names that pages name exist",
-        3,
+        7,
     ),
-    Check("hygiene", "python3 checks/hygiene.py", "what makes proofs hard to keep: it may only become less", 3),
-    Check("trusted", "python3 checks/trusted.py", "which definitions the promise rests on", 2),
+    Check("hygiene", "python3 checks/hygiene.py", "what makes proofs hard to keep: it may only become less", 8),
+    Check("trusted", "python3 checks/trusted.py", "which definitions the promise rests on", 7),
     Check(
         "scripts",
         "python3 checks/scripts.py",
         "that each script has a run, and what black, mypy, pylint and shellcheck find",
-        40,
+        3,
     ),
-    Check("script_tests", "python3 checks/test_scripts.py", "the checks of the tree and the attacks on small cases", 5),
+    Check("script_tests", "python3 checks/test_scripts.py", "the checks of the tree and the attacks on small cases", 8),
     Check("serving", "python3 checks/test_serving.py", "that a script which is served to checks does as where Python starts it", 3),
-    Check("limits", "python3 checks/limits.py", "which numbers stand for a limit and do not cite its name", 2),
+    Check("limits", "python3 checks/limits.py", "which numbers stand for a limit and do not cite its name", 15),
     Check("version", "python3 checks/version.py", "that the version is the same wherever it stands", 1),
     Check("header", "python3 checks/header.py", "the declarations for C and Rust against the exports of the library", 1),
     Check(
         "embedding",
         "bash examples/embed/build.sh --short",
         "the library, called from C and Rust on every image in examples/, with each request for memory refused in turn",
-        12,
+        6,
     ),
     Check("installation", "bash checks/installation.sh", "install.sh into a fresh folder, and what a user runs there", 5),
-    Check("releases", "bash checks/releases.sh", "the archives of a release, tried without the toolchain", 25),
-    Check("tools", "python3 checks/test_tools.py", "frames.py, image.py, table.py and xdp.py on small cases", 15),
+    Check("releases", "bash checks/releases.sh", "the archives of a release, tried without the toolchain", 8),
+    Check("tools", "python3 checks/test_tools.py", "frames.py, image.py, table.py and xdp.py on small cases", 6),
     Check(
         "pages",
         "python3 checks/test_hits.py",
@@ -83,7 +83,7 @@ CHECKS = (
         "filled_maps",
         "python3 checks/test_maps.py",
         "what maps begin with: variables and constants of objects, the file of maps beside an image, the options of xdp.py",
-        4,
+        2,
     ),
     Check(
         "contents",
@@ -93,7 +93,7 @@ CHECKS = (
         8,
     ),
     Check("objects_made", "python3 checks/test_object.py", "objects for Linux, made and read", 8),
-    Check("files", "python3 checks/test_files.py", "that no tool writes over a file that it reads, and that outputs are whole", 10),
+    Check("files", "python3 checks/test_files.py", "that no tool writes over a file that it reads, and that outputs are whole", 6),
     Check(
         "objects_run",
         "python3 tests/object_files.py",
@@ -106,11 +106,11 @@ CHECKS = (
         "damaged captures: the packets before the damage, and then the fault with its offset",
         8,
     ),
-    Check("damage", "python3 attacks/damage_tools.py --each 20", "damaged objects, captures and texts", 10),
+    Check("damage", "python3 attacks/damage_tools.py --each 20", "damaged objects, captures and texts", 3),
     Check("manual", "python3 checks/manual.py --check", "the man pages and completions against what --help says", 2),
     Check("pictures", "python3 checks/pictures.py --check", "the pictures of the pages against what they show", 1),
     Check(
-        "captures", "python3 tests/captures.py", "generated captures against the stored packets of editcap, and against editcap", 4
+        "captures", "python3 tests/captures.py", "generated captures against the stored packets of editcap, and against editcap", 40
     ),
     Check("expressions", "python3 tests/tcpdump.py", "filters of tcpdump's expressions against stored results of tcpdump", 12),
     Check(
@@ -125,13 +125,13 @@ CHECKS = (
         "pipes",
         "python3 attacks/pipes.py",
         "that each frame is handed on before the next one is waited for, with a slow writer within 50 ms",
-        3,
+        1,
     ),
     Check(
         "endless",
         "python3 attacks/endless.py",
         "that tables, texts and earlier surveys without an end are refused as their first bytes are, within a second and 64 MB",
-        6,
+        45,
     ),
     Check(
         "worst_keys",
@@ -156,16 +156,16 @@ CHECKS = (
         "hostile",
         "python3 attacks/hostile.py crates/xdpvm/out/xdpvm --few",
         "that the images which keep `verify` busy longest, or take most memory, take at most 30 seconds and 300 MB",
-        18,
+        16,
     ),
-    Check("failures", "python3 attacks/break.py --few", "what comes of memory, reads and writes that fail, on three programs", 12),
+    Check("failures", "python3 attacks/break.py --few", "what comes of memory, reads and writes that fail, on three programs", 8),
     Check(
         "stack",
         "python3 attacks/stack.py",
         "that each command needs at most 512 KB of the machine's stack, and the library 256 for an explanation",
-        8,
+        9,
     ),
-    Check("survey_failures", "python3 attacks/break_survey.py", "the same of the survey", 8),
+    Check("survey_failures", "python3 attacks/break_survey.py", "the same of the survey", 16),
     Check(
         "hits",
         "python3 attacks/hits_sweep.py --programs 20",
@@ -177,7 +177,7 @@ CHECKS = (
         "tables",
         "python3 attacks/proofs.py --random 20 --damages 3",
         "that recheck accepts what prove wrote, and refuses what is damaged",
-        12,
+        2,
     ),
     Check("kernel", "bash checks/kernel.sh", "that Linux runs an example alike", 2, skips=True),
     Check("objects_of_cases", "python3 attacks/object_sweep.py stored --every 10", "objects of the cases in tests/programs", 8),
