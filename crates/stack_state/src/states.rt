@@ -128,7 +128,8 @@ impl State {
         self.innermost.copy_from(&other.innermost);
     }
 
-    fn copy_callers(&mut self, other: &State)
+    /// Its callers become copies of the other one's.
+    pub fn copy_callers(&mut self, other: &State)
         ensures { self.new ≡ record self.old { callers = other.now.callers } }
     {
         let count = other.callers.len();

@@ -3,6 +3,7 @@ pub mod AccessLaws
 pub mod AnswerLaws
 pub mod ArithmeticLaws
 pub mod AtomicLaws
+pub mod BesideLaws
 pub mod ExactLaws
 pub mod FollowLaws
 pub mod HelperArgumentLaws

@@ -1,5 +1,5 @@
 -- Each value that the machine computes is allowed by the kind that the step computes.
-use Rattle.std.specs.Prelude.{◌≡◌, ℕ, ◌<◌, ◌≤◌, ◌^◌, ℤ, Bool, true, false, nat_le, unsigned_abs, if◌then◌else◌, slice_get, Option, Some, None, Result, Ok, Err, refl}
+use Rattle.std.specs.Prelude.{◌≡◌, ℕ, ◌≤◌, ℤ, Bool, true, false, nat_le, unsigned_abs, if◌then◌else◌, slice_get, Option, Some, None, Result, Ok, Err, refl}
 use Rattle.std.proofs.Common.{arith}
 use Rattle.std.proofs.lemmas.Bool.Decides.{nat_tests}
 use Rattle.isa_model.specs.declared.values.Region.{Region}

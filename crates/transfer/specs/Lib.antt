@@ -9,5 +9,6 @@ pub mod Accesses
 pub mod Atomics
 pub mod HelperCalls
 pub mod Exact
+pub mod Beside
 pub mod Following
 pub mod Messages

@@ -1,12 +1,13 @@
 //! Jumps.
 
-ghost use Rattle.std.specs.Prelude.{◌≡◌, ◌+◌, ◌<◌, ◌^◌, ◌↔◌, IsTrue, length};
+ghost use Rattle.std.specs.Prelude.{◌≡◌, ◌+◌, ◌<◌, ◌^◌, ◌↔◌, IsTrue, IfOk, length};
 ghost use Rattle.isa_model.specs.Code.Instructions.{Program};
 ghost use Rattle.stack_state.specs.Places.{go_to};
 ghost use Rattle.branch_refine.specs.Comparing.{compared_by, IsDefined};
 ghost use Rattle.branch_refine.specs.Leaving.{goes, left_in, MayBePut};
 ghost use Rattle.transfer.specs.Refusing.{is_untested, is_untested_operand, comparison_refusal};
 ghost use Rattle.transfer.specs.Exact.{Sides, BranchesOr};
+ghost use Rattle.transfer.specs.Beside.{learns, beside, ways_in, beside_in};
 
 use crate::Ways;
 use crate::refusals::Refusal;
@@ -54,45 +55,84 @@ fn comparison_refusal(cond: Cond, state: &State) -> Refusal
     }
 }
 
+/// Returns whether an outcome shows something of values that callers may have too.
+fn learns(outcome: BranchOutcome) -> bool
+    ensures { result ≡ learns outcome }
+{
+    matches!(outcome, BranchOutcome::Learned(_))
+}
+
 /// The two sides of a conditional jump: `state` becomes the fall-through's, at `next`, and `other`
 /// the jump's, at `target`. If only one side is taken, `state` becomes that side's, and no state is
-/// copied.
+/// copied. True: the callers stay as they are, and of a second side they are not copied either.
 fn split(
     cond: Cond,
     outcomes: (BranchOutcome, BranchOutcome),
     destinations: (usize, usize),
     state: &mut State,
     other: &mut State,
-) -> Ways
+) -> (Ways, bool)
     requires stay { MayBePut cond outcomes.0 }
     requires go { MayBePut cond outcomes.1 }
-    ensures { Sides (goes outcomes.0) (goes outcomes.1)
+    ensures sides { Sides (goes outcomes.0) (goes outcomes.1)
         (go_to (left_in cond state.old outcomes.0) destinations.0)
-        (go_to (left_in cond state.old outcomes.1) destinations.1) result state.new other.new }
+        (go_to (left_in cond state.old outcomes.1) destinations.1) result.0 state.new
+        (beside result.1 state.new other.new) }
+    ensures callers { IsTrue result.1 → state.new.callers ≡ state.old.callers }
 {
     let (stay, go) = outcomes;
     let (next, target) = destinations;
     match (stay.goes(), go.goes()) {
         (true, true) => {
-            other.copy_from(state);
+            let shares = !learns(stay) && !learns(go);
+            match shares {
+                true => other.innermost.copy_from(&state.innermost),
+                false => other.copy_from(state),
+            }
             go.put(cond, other);
             other.slot = target;
             stay.put(cond, state);
             state.slot = next;
-            Ways::Two
+            (Ways::Two, shares)
         }
         (true, false) => {
             stay.put(cond, state);
             state.slot = next;
-            Ways::One
+            (Ways::One, !learns(stay))
         }
         (false, true) => {
             go.put(cond, state);
             state.slot = target;
-            Ways::One
+            (Ways::One, !learns(go))
         }
-        (false, false) => Ways::None,
+        (false, false) => (Ways::None, false),
     }
+}
+
+/// A conditional jump. True: the callers of the state stay as they are, and of a second successor
+/// they are not copied.
+pub fn jump_beside(
+    cond: Cond,
+    by: i32,
+    slots: usize,
+    state: &mut State,
+    other: &mut State,
+) -> Result<(Ways, bool), Refusal>
+    requires { state.old.slot < 2 ^ 63 }
+    ensures branches { (p : Program) → length p.insns ≡ slots
+        → BranchesOr p state.old cond by (ways_in result) state.new
+        (beside_in result state.new other.new) }
+    ensures callers { IfOk result
+        (λ left. IsTrue left.1 → state.new.callers ≡ state.old.callers) }
+{
+    if !is_defined(cond, state) {
+        return Err(comparison_refusal(cond, state));
+    }
+    let stay = outcome_of(cond, false, state);
+    let go = outcome_of(cond, true, state);
+    let next = state.slot + 1;
+    let target = destination(state.slot, by, slots);
+    Ok(split(cond, (stay, go), (next, target), state, other))
 }
 
 /// A conditional jump.
@@ -107,12 +147,9 @@ pub fn jump_if(
     ensures { (p : Program) → length p.insns ≡ slots
         → BranchesOr p state.old cond by result state.new other.new }
 {
-    if !is_defined(cond, state) {
-        return Err(comparison_refusal(cond, state));
+    let (ways, shares) = jump_beside(cond, by, slots, state, other)?;
+    if shares && matches!(ways, Ways::Two) {
+        other.copy_callers(state);
     }
-    let stay = outcome_of(cond, false, state);
-    let go = outcome_of(cond, true, state);
-    let next = state.slot + 1;
-    let target = destination(state.slot, by, slots);
-    Ok(split(cond, (stay, go), (next, target), state, other))
+    Ok(ways)
 }

@@ -1,12 +1,13 @@
 //! One abstract step: the successors of a state.
 #![tactic(auto)]
 
-ghost use Rattle.std.specs.Prelude.{◌≡◌, Some, IfOk, IsSome};
+ghost use Rattle.std.specs.Prelude.{◌≡◌, Some, IfOk, IsSome, IsTrue};
 ghost use Rattle.isa_model.specs.declared.instructions.Insn.{Insn};
 ghost use Rattle.isa_model.specs.Code.Instructions.{fetch};
 ghost use Rattle.transfer.specs.Following.{GoesOnTo};
 ghost use Rattle.transfer.specs.Leading.{OnSuccessors, LeadsTo, EachWay};
 ghost use Rattle.transfer.specs.Exact.{Steps};
+ghost use Rattle.transfer.specs.Beside.{beside, ways_in, beside_in};
 
 mod arithmetic;
 mod atomics;
@@ -24,9 +25,10 @@ mod stacks;
 mod steps;
 mod values;
 
-use crate::steps::{perform, reads_unset};
+use crate::jumps::jump_beside;
+use crate::steps::{keeps_callers, perform, reads_unset};
 use image::Image;
-use isa_model::Version;
+use isa_model::{Insn, Version};
 pub use refusals::Refusal;
 use stack_state::State;
 
@@ -98,6 +100,39 @@ pub fn step_in_place(image: &Image, state: &mut State, other: &mut State) -> Res
         other,
     )?;
     Ok(ways)
+}
+
+/// Does what `step_in_place` does. True: the callers of the state stay as they are, and a second
+/// successor has them too, though `other` may have others.
+pub fn step_beside(
+    image: &Image,
+    state: &mut State,
+    other: &mut State,
+) -> Result<(Ways, bool), Refusal>
+    requires { IsSome (fetch image.now state.old.slot) }
+    ensures leads { IfOk result (λ left. LeadsTo image.now state.old left.0 state.new
+        (beside left.1 state.new other.new)) }
+    ensures follows { IfOk result (λ left. EachWay left.0 state.new
+        (beside left.1 state.new other.new) (GoesOnTo image.now state.old)) }
+    ensures steps { (i : Insn) → fetch image.now state.old.slot ≡ Some i
+        → Steps image.now state.old i (ways_in result) state.new
+        (beside_in result state.new other.new) }
+    ensures callers { IfOk result
+        (λ left. IsTrue left.1 → state.new.callers ≡ state.old.callers) }
+{
+    let slots = image.slots();
+    let Some(insn) = image.at(state.slot) else {
+        unreachable!()
+    };
+    if let Insn::JumpIf(cond, by) = *insn {
+        if !reads_unset(state, insn) {
+            let left = jump_beside(cond, i32::from(by), slots, state, other)?;
+            return Ok(left);
+        }
+    }
+    let keeps = keeps_callers(insn);
+    let ways = step_in_place(image, state, other)?;
+    Ok((ways, keeps))
 }
 
 // The version of an image's program.

@@ -8,6 +8,7 @@ ghost use Rattle.transfer.specs.Refusing.{is_unset_in, reads_unset};
 ghost use Rattle.transfer.specs.Exact.{OperandKind, IsSetter, ResultKind, SetsOrRefuses, StepsForm, GoesOn, StoresAt, SwapsAtPlace, ComparesAtPlace};
 ghost use Rattle.transfer.specs.HelperCalls.{CallsHelper};
 ghost use Rattle.transfer.specs.Values.{NamesFit};
+ghost use Rattle.transfer.specs.Beside.{keeps_callers};
 
 use crate::Ways;
 use crate::arithmetic::{arithmetic, constant, negated, reordered, sign_extended};
@@ -190,6 +191,34 @@ fn help(maps: &[MapDef], number: i32, state: &mut State) -> Result<Ways, Refusal
 }
 
 // ---- all forms
+
+/// Returns whether a form leaves all callers as they are: it sets a register, or jumps always.
+pub fn keeps_callers(insn: &Insn) -> bool
+    ensures { result ≡ keeps_callers insn.now }
+{
+    match insn {
+        Insn::Alu(..)
+        | Insn::Neg(..)
+        | Insn::MovSx(..)
+        | Insn::ByteSwap(..)
+        | Insn::LoadNumber(..)
+        | Insn::LoadMap(..)
+        | Insn::LoadMapValue(..)
+        | Insn::Load(..)
+        | Insn::LoadSx(..)
+        | Insn::Jump(_)
+        | Insn::JumpLong(_) => true,
+        Insn::StoreConstant(..)
+        | Insn::Store(..)
+        | Insn::Atomic(..)
+        | Insn::Exchange(..)
+        | Insn::CompareExchange(..)
+        | Insn::JumpIf(..)
+        | Insn::CallLocal(_)
+        | Insn::CallHelper(_)
+        | Insn::Exit => false,
+    }
+}
 
 /// Returns what an instruction does, once the tests of its registers pass.
 pub fn perform(

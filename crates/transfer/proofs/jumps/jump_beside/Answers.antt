@@ -7,10 +7,11 @@ use Rattle.stack_state.specs.declared.states.State.{State}
 use Rattle.stack_state.specs.Places.{go_to}
 use Rattle.branch_refine.specs.Leaving.{goes, left_in}
 use Rattle.transfer.specs.Exact.{Sides}
-use Rattle.transfer.proofs.jumps.jump_if.Goals as goal
+use Rattle.transfer.specs.Beside.{beside}
+use Rattle.transfer.proofs.jumps.jump_beside.Goals as goal
 
-pub returns : goal.returns
-returns c = λ p count.
+pub returns-clause-branches : goal.returns-clause-branches
+returns-clause-branches c = λ p count.
     let a : State = c.args.state.now in
     let cond = c.args.cond in
     let g = c.outcome_of-go.result in
@@ -30,6 +31,7 @@ returns c = λ p count.
       sides =
           subst (λ n.
           Sides (goes h) (goes g) (go_to (left_in cond a h) (a.slot + 1))
-          (go_to (left_in cond a g) n) c.split.result c.split.new.state c.split.new.other)
-          leads c.split.ensures;
+          (go_to (left_in cond a g) n) c.split.result.0 c.split.new.state
+          (beside c.split.result.1 c.split.new.state c.split.new.other))
+          leads c.split.ensures.sides;
     }
