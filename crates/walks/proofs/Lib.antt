@@ -3,6 +3,7 @@ pub mod Accepted
 pub mod DeadForgottenLaws
 pub mod NumbersForgottenLaws
 pub mod Forgotten
+pub mod OtherCallers
 pub mod ForgettingLoops
 pub mod NumberLoops
 pub mod KeptNumbersLaws

@@ -1,6 +1,6 @@
 //! What is forgotten of a state when a path reaches it.
 
-ghost use Rattle.std.specs.Prelude.{◌≡◌, ◌↔◌, ℕ, ◌<◌, IsTrue};
+ghost use Rattle.std.specs.Prelude.{◌≡◌, ◌↔◌, ℕ, ◌<◌, false, IsTrue};
 ghost use Rattle.stack_state.specs.Slots.{AreKnownFrom};
 ghost use Rattle.control_flow.specs.Masks.{HasSlot};
 ghost use Rattle.walks.specs.Forgetting.{AreKept, AreSlotsLeft, AreSlotsKept, CallersForgotten, DeadForgotten, Exact, Coarse, Forgets, IsSlotDeadAt, KeepsNumbersOf, KnowsNoNumber, KnowsNumbersOf, KnowsTestedNumbers, MayForgetAll, NumbersForgotten};
@@ -78,7 +78,8 @@ fn forget_places(flow: &Flow<'_>, slot: usize, registers: &mut [Kind; 10], stack
 /// Forgets what is known of the stack slots of the last caller that are dead where it goes on, if
 /// it has just called.
 fn forget_caller(flow: &Flow<'_>, has_called: bool, state: &mut State)
-    ensures { CallersForgotten flow.now state.old state.new }
+    ensures forgets { CallersForgotten flow.now state.old state.new }
+    ensures same { has_called ≡ false → state.new ≡ state.old }
 {
     if !has_called {
         return;
@@ -97,7 +98,8 @@ fn forget_caller(flow: &Flow<'_>, has_called: bool, state: &mut State)
 /// and states that differ only in them become one. After a call it forgets dead stack slots of the
 /// caller too; until the return they stay as they are.
 fn forget_dead(flow: &Flow<'_>, has_called: bool, state: &mut State)
-    ensures { DeadForgotten flow.now state.old state.new }
+    ensures forgets { DeadForgotten flow.now state.old state.new }
+    ensures callers { has_called ≡ false → state.new.callers ≡ state.old.callers }
 {
     forget_caller(flow, has_called, state);
     let frame = &mut state.innermost;
@@ -110,6 +112,7 @@ fn forget_dead(flow: &Flow<'_>, has_called: bool, state: &mut State)
 pub fn forget(flow: &Flow<'_>, has_called: bool, state: &mut State)
     ensures forgets { Forgets Exact flow.now state.old state.new }
     ensures all { KnowsTestedNumbers flow.now state.new }
+    ensures callers { has_called ≡ false → state.new.callers ≡ state.old.callers }
 {
     forget_dead(flow, has_called, state);
     if flow.forgets_numbers() && flow.is_join(state.slot) {
@@ -131,6 +134,7 @@ pub fn forget_beside(
     ensures forgets { Forgets Coarse flow.now state.old state.new }
     ensures all { KnowsNumbersOf registers slots flow.now state.new }
     ensures keeps { KeepsNumbersOf registers slots flow.now state.old state.new }
+    ensures callers { has_called ≡ false → state.new.callers ≡ state.old.callers }
 {
     forget_dead(flow, has_called, state);
     if flow.takes_input() && flow.is_join(state.slot) {

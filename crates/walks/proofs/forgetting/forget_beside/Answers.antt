@@ -12,7 +12,7 @@ returns-then-is_join-clause-forgets c =
     (HasRegister c.args.registers) (HasSlot c.without.result)
     c.forget_registers_beside.new.registers
     c.forget_slots_of.new.stack.slots may (c.is_join.ensures.join.0 c.if-is_join.true)
-    c.forget_dead.ensures c.forget_registers_beside.ensures c.forget_slots_of.ensures
+    c.forget_dead.ensures.forgets c.forget_registers_beside.ensures c.forget_slots_of.ensures
 
 pub returns-then-is_join-clause-all : goal.returns-then-is_join-clause-all
 returns-then-is_join-clause-all c =
@@ -27,11 +27,11 @@ returns-then-is_join-clause-keeps c =
     keeps_beside c.args.flow.now c.args.state.now c.forget_dead.new.state c.args.registers
     c.args.slots (HasSlot c.without.result) c.forget_registers_beside.new.registers
     c.forget_slots_of.new.stack.slots (λ j chosen. ((c.without.ensures j).0 chosen).1)
-    c.forget_dead.ensures c.forget_registers_beside.ensures c.forget_slots_of.ensures
+    c.forget_dead.ensures.forgets c.forget_registers_beside.ensures c.forget_slots_of.ensures
 
 pub returns-else-takes_input-clause-forgets : goal.returns-else-takes_input-clause-forgets
 returns-else-takes_input-clause-forgets c =
-    forgets_dead c.args.flow.now c.args.state.now _ c.forget_dead.ensures
+    forgets_dead c.args.flow.now c.args.state.now _ c.forget_dead.ensures.forgets
 
 pub returns-else-takes_input-clause-all : goal.returns-else-takes_input-clause-all
 returns-else-takes_input-clause-all c = λ may join. elim c.else-takes_input.branch [
@@ -44,4 +44,4 @@ returns-else-takes_input-clause-all c = λ may join. elim c.else-takes_input.bra
 pub returns-else-takes_input-clause-keeps : goal.returns-else-takes_input-clause-keeps
 returns-else-takes_input-clause-keeps c =
     keeps_dead c.args.flow.now c.args.state.now _ c.args.registers c.args.slots
-    c.forget_dead.ensures
+    c.forget_dead.ensures.forgets
