@@ -1,6 +1,6 @@
 //! A path arrives at a state: what is forgotten of it, and whether a stored state covers it.
 
-ghost use Rattle.std.specs.Prelude.{◌≡◌, ◌⊎◌, None, IsTrue, IfOk, IfErr, IfSome, OnOk};
+ghost use Rattle.std.specs.Prelude.{◌≡◌, ◌⊎◌, None, false, IsTrue, IfOk, IfErr, IfSome, OnOk};
 ghost use Rattle.control_flow.specs.Flows.{IsJoin};
 ghost use Rattle.walks.specs.Forgetting.{IsForgotten, Forgets};
 ghost use Rattle.explorer.specs.Search.{Arrives, RefusesArrival, precision_in};
@@ -29,6 +29,7 @@ pub fn forget_at(
     ensures forgets { OnOk result
         (Forgets (precision_in kept.now) flow.now state.old state.new) }
     ensures same { states.new.states.items ≡ states.old.states.items }
+    ensures callers { has_called ≡ false → state.new.callers ≡ state.old.callers }
 {
     forget_by(flow, kept, has_called, state);
     if !states.is_settled(state.slot) || !may_forget_all(flow, state) {

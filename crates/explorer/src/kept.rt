@@ -1,6 +1,6 @@
 //! Abstract states, kept compactly.
 
-ghost use Rattle.std.specs.Prelude.{◌≡◌, IfOk, IfErr, IsTrue};
+ghost use Rattle.std.specs.Prelude.{◌≡◌, ◌≤◌, length, IfOk, IfErr, IsTrue};
 ghost use Rattle.state_index.specs.Parts.{AreBlankBeside, AreParts};
 ghost use Rattle.explorer.specs.ProvedBytes.{with_proved};
 ghost use Rattle.explorer.specs.Around.{state_around};
@@ -9,6 +9,7 @@ use crate::around::Around;
 use crate::callers::{Callers, keep_callers};
 use crate::groups::FEW;
 use crate::kept_frames::{KeptFrame, restore_all};
+use crate::others::Others;
 use crate::proved_bytes::{NOTHING, ProvedBytes, give_proved, may_have_many, take_proved};
 use control_flow::SlotMask;
 use isa_model::STACK_SIZE;
@@ -24,61 +25,11 @@ pub const PLACES: usize = 10 + STACK_SIZE / 8;
 /// Says how many words a state takes besides its call frames.
 const STATE_WORDS: u32 = 16;
 
-/// Another state, with which a state may share what is the same.
-#[derive(Clone, Copy)]
-pub struct Other<'a> {
-    innermost: Option<&'a KeptFrame>,
-    callers: Option<&'a Callers>,
-}
-
-impl<'a> Other<'a> {
-    /// The state, if there is one.
-    pub fn of(state: Option<&'a Kept>) -> Self {
-        match state {
-            Some(state) => Other {
-                innermost: Some(&state.innermost),
-                callers: Some(&state.callers),
-            },
-            None => Other {
-                innermost: None,
-                callers: None,
-            },
-        }
-    }
-
-    /// A state of which only what is around its innermost call frame is kept so.
-    pub fn around(around: &'a Around) -> Self {
-        Other {
-            innermost: None,
-            callers: Some(&around.callers),
-        }
-    }
-}
-
-/// Two other states, with which a state may share what is the same.
-#[derive(Clone, Copy)]
-pub struct Others<'a> {
-    pub first: Other<'a>,
-    pub second: Other<'a>,
-    /// Says how many parts the innermost call frame has at most in no groups.
-    pub most: usize,
-}
-
-impl<'a> Others<'a> {
-    /// One other state, if there is one.
-    pub fn one(other: Option<&'a Kept>) -> Self {
-        Others {
-            first: Other::of(other),
-            second: Other::of(None),
-            most: FEW,
-        }
-    }
-}
-
-/// Returns how many words a state takes that no other one shares.
-fn own_words(innermost: &KeptFrame, callers: &Callers) -> u32 {
+/// Returns how many words a state takes that no other one shares: its callers are had so often by it
+/// and by whoever does not count.
+fn own_words(innermost: &KeptFrame, callers: &Callers, held: usize) -> u32 {
     let mut words = innermost.own_words().saturating_add(STATE_WORDS);
-    if Rc::strong_count(callers) == 1 {
+    if Rc::strong_count(callers) == held {
         for frame in callers.as_ref().as_slice() {
             words = words.saturating_add(frame.own_words());
         }
@@ -152,6 +103,16 @@ impl Kept {
         Kept::of_parts(alloc, state, parts, others)
     }
 
+    /// Its innermost call frame.
+    pub(crate) fn innermost(&self) -> &KeptFrame {
+        &self.innermost
+    }
+
+    /// Its other call frames.
+    pub(crate) fn callers(&self) -> &Callers {
+        &self.callers
+    }
+
     /// Keeps a state whose innermost call frame has only these stack slots about which something
     /// may be known. The state is scratch space afterwards.
     pub(crate) fn of_forgotten(
@@ -221,24 +182,46 @@ impl Kept {
         let Ok(slot) = u32::try_from(state.slot) else {
             return Err(AllocError);
         };
-        let like = (others.first.innermost, others.second.innermost);
-        let most = others.most;
-        let innermost = KeptFrame::with_parts(
-            alloc,
-            &state.innermost,
-            parts.as_slice(),
-            like,
-            most,
-            most == FEW,
-        )?;
-        let other_callers = (others.first.callers, others.second.callers);
-        let callers = keep_callers(alloc, state.callers.as_slice(), parts, other_callers)?;
-        let words = own_words(&innermost, &callers);
+        let innermost = KeptFrame::beside(alloc, &state.innermost, parts.as_slice(), others)?;
+        let callers = keep_callers(alloc, state.callers.as_slice(), parts, others.callers())?;
+        let words = own_words(&innermost, &callers, 1);
         Ok(Kept {
             slot,
             words,
             proved: proved.0,
             also_proved: proved.1,
+            callers,
+            innermost,
+        })
+    }
+
+    /// Keeps a state beside another one, of which these are the callers, which it has too, though
+    /// others may be in it. Its innermost frame has these parts. `held`: who has the callers already
+    /// and does not count.
+    pub(crate) fn with_callers(
+        alloc: Global,
+        state: &State,
+        callers: Callers,
+        held: usize,
+        parts: &[Part],
+        others: Others<'_>,
+    ) -> Result<Self, AllocError>
+        requires parts { AreParts parts.now state.now.innermost }
+        requires few { length callers.value.items ≤ 7 }
+        ensures { IfOk result (λ kept. kept ≡ record state.now {
+          callers = record { items = callers.value.items };
+        }) }
+    {
+        let Ok(slot) = u32::try_from(state.slot) else {
+            return Err(AllocError);
+        };
+        let innermost = KeptFrame::beside(alloc, &state.innermost, parts, others)?;
+        let words = own_words(&innermost, &callers, held.saturating_add(1));
+        Ok(Kept {
+            slot,
+            words,
+            proved: NOTHING,
+            also_proved: NOTHING,
             callers,
             innermost,
         })
@@ -291,7 +274,7 @@ impl Kept {
         take_parts(parts, frame)?;
         let none = (None, None);
         let innermost = KeptFrame::with_parts(alloc, frame, parts.as_slice(), none, PLACES, false)?;
-        let words = own_words(&innermost, &around.callers);
+        let words = own_words(&innermost, &around.callers, 1);
         let Around {
             slot,
             proved,

@@ -6,6 +6,7 @@ ghost use Rattle.state_index.specs.Parts.{AreParts, register_parts, slot_parts};
 
 use crate::blanks::clear_frame;
 use crate::groups::{FEW, KeptParts, Rest, may_cover_all, write_all};
+use crate::others::Others;
 use crate::shared_parts::{OtherGroups, SharedParts};
 use arrayvec::ArrayVec;
 use reg_state::Kind;
@@ -74,6 +75,21 @@ impl KeptFrame {
             named,
             parts,
         })
+    }
+
+    /// Keeps an innermost frame with these parts, some of which it may share with those of others.
+    pub fn beside(
+        alloc: Global,
+        frame: &AbstractFrame,
+        parts: &[Part],
+        others: Others<'_>,
+    ) -> Result<Self, AllocError>
+        requires { AreParts parts.now frame.now }
+        ensures { IfOk result (λ kept. kept ≡ frame.now) }
+    {
+        let like = (others.first.innermost, others.second.innermost);
+        let most = others.most;
+        KeptFrame::with_parts(alloc, frame, parts, like, most, most == FEW)
     }
 
     /// Returns whether this is the frame; a wrong false is possible, and certain where a constant

@@ -7,6 +7,7 @@ ghost use Rattle.explorer.specs.declared.trail.Visit.{Visit as TheVisit};
 ghost use Rattle.walks.specs.Forgetting.{Precision};
 ghost use Rattle.explorer.specs.Listening.{ComesTo, IfRefused, IsToTell, HearsMove, IsToRefuse, EndsIn};
 
+use crate::current::Current;
 use crate::kept::Kept;
 use crate::moves::{Halt, Move, Refused};
 use stack_state::State;
@@ -88,21 +89,21 @@ pub trait Listener {
 #[inline(always)]
 pub fn tell<L: Listener>(
     listener: &mut L,
-    state: &State,
+    current: &Current,
     made: Move,
     kept: Option<&Kept>,
 ) -> Result<(), L::Stop>
     ensures { (how : Precision) (p : Program) (path : List TheVisit)
-        → IsToTell how p (L.follows listener.old how p) path state.now made
-        → OnOk result (HearsMove how p (L.follows listener.new how p) path state.now made) }
+        → IsToTell how p (L.follows listener.old how p) path current.now made
+        → OnOk result (HearsMove how p (L.follows listener.new how p) path current.now made) }
 {
     match made {
         Move::New(stored) => {
-            listener.arrives(state)?;
-            listener.explores(state, stored, kept)
+            listener.arrives(current.state())?;
+            listener.explores(current.state(), stored, kept)
         }
         Move::Covered(index, number) => {
-            listener.arrives(state)?;
+            listener.arrives(current.state())?;
             listener.covered(index, number)
         }
         Move::Finished(number) => listener.finished(number),
@@ -112,15 +113,15 @@ pub fn tell<L: Listener>(
 /// Returns why a search stops with a refusal at this state; the listener is called first for a
 /// state to which the path comes back.
 #[inline(always)]
-pub fn halt<L: Listener>(listener: &mut L, state: &State, refused: Refused) -> Halt<L::Stop>
+pub fn halt<L: Listener>(listener: &mut L, current: &Current, refused: Refused) -> Halt<L::Stop>
     ensures same { IfRefused result (λ e slot. (e ≡ refused.0) × (slot ≡ refused.1)) }
     ensures ends { (how : Precision) (p : Program)
-        → IsToRefuse how p (L.follows listener.old how p) state.now refused.0 refused.1
+        → IsToRefuse how p (L.follows listener.old how p) current.now refused.0 refused.1
         → IfRefused result (EndsIn p (L.follows listener.new how p)) }
 {
     let (refusal, slot) = refused;
     if let Refusal::Repeats = refusal {
-        if let Err(stop) = listener.arrives(state) {
+        if let Err(stop) = listener.arrives(current.state()) {
             return Halt::Stopped(stop);
         }
     }

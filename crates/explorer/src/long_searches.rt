@@ -1,6 +1,6 @@
 //! Searches that get long: they forget more numbers, so that more states become one.
 
-ghost use Rattle.std.specs.Prelude.{◌≡◌, IsTrue};
+ghost use Rattle.std.specs.Prelude.{◌≡◌, false, IsTrue};
 ghost use Rattle.walks.specs.Forgetting.{Forgets, IsNoFiner};
 ghost use Rattle.explorer.specs.Search.{precision_in};
 
@@ -36,6 +36,7 @@ pub fn lengthen(
 #[inline(always)]
 pub fn forget_by(flow: &Flow<'_>, kept: &Option<KeptNumbers>, has_called: bool, state: &mut State)
     ensures forgets { Forgets (precision_in kept.now) flow.now state.old state.new }
+    ensures callers { has_called ≡ false → state.new.callers ≡ state.old.callers }
 {
     let Some(kept) = kept else {
         forget(flow, has_called, state);

@@ -4,8 +4,9 @@ ghost use Rattle.std.specs.Prelude.{◌≡◌, ◌++◌, ◌+◌, ◌∷◌, [],
 
 use crate::changing::{Changing, PendingState};
 use crate::groups::FEW;
-use crate::kept::{Kept, Other, Others, PLACES};
+use crate::kept::{Kept, PLACES};
 use crate::latest::LatestPending;
+use crate::others::{Other, Others};
 use std::alloc::{AllocError, Global};
 use std::marker::Model;
 

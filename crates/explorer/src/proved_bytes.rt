@@ -266,17 +266,21 @@ fn count_in(found: &mut Pointers, frame: &AbstractFrame) {
     }
 }
 
-/// Returns what is proved of all pointers of an identity that has many, and is not the other one;
-/// nothing if there is none.
-fn proved_of_many(state: &State, other: ProvedBytes) -> ProvedBytes {
+/// Returns what is proved of all pointers of an identity that has many in these call frames, and is
+/// not the other one; nothing if there is none.
+fn proved_of_many(
+    callers: &[AbstractFrame],
+    innermost: &AbstractFrame,
+    other: ProvedBytes,
+) -> ProvedBytes {
     let mut voted = Vote {
         identity: 0,
         votes: 0,
     };
-    for frame in state.callers.as_slice() {
+    for frame in callers {
         cast_votes(&mut voted, other, frame);
     }
-    cast_votes(&mut voted, other, &state.innermost);
+    cast_votes(&mut voted, other, innermost);
     if voted.votes == 0 {
         return NOTHING;
     }
@@ -285,10 +289,10 @@ fn proved_of_many(state: &State, other: ProvedBytes) -> ProvedBytes {
         count: 0,
         least: u32::MAX,
     };
-    for frame in state.callers.as_slice() {
+    for frame in callers {
         count_in(&mut found, frame);
     }
-    count_in(&mut found, &state.innermost);
+    count_in(&mut found, innermost);
     let (Ok(identity), Ok(bytes)) = (u16::try_from(found.identity), u16::try_from(found.least))
     else {
         return NOTHING;
@@ -299,9 +303,19 @@ fn proved_of_many(state: &State, other: ProvedBytes) -> ProvedBytes {
     }
 }
 
+/// Returns whether call frames may have many pointers.
+fn may_have_many_in(callers: &[AbstractFrame], innermost: &AbstractFrame) -> bool {
+    !callers.is_empty() || innermost.stack.known_from() <= FRAME_SLOTS - MANY
+}
+
 /// Returns whether a state may have many pointers.
 pub fn may_have_many(state: &State) -> bool {
-    !state.callers.is_empty() || state.innermost.stack.known_from() <= FRAME_SLOTS - MANY
+    may_have_many_in(state.callers.as_slice(), &state.innermost)
+}
+
+/// Returns whether something is proved of many pointers of these call frames.
+pub fn has_proved(callers: &[AbstractFrame], innermost: &AbstractFrame) -> bool {
+    may_have_many_in(callers, innermost) && proved_of_many(callers, innermost, NOTHING).bytes != 0
 }
 
 /// Leaves out of a state what is proved of all pointers of an identity that has many, and is not
@@ -311,7 +325,7 @@ pub fn take_proved(state: &mut State, other: ProvedBytes) -> ProvedBytes
     ensures taken { with_proved result state.new ≡ state.old }
     ensures none { result.bytes ≡ 0 → state.new ≡ state.old }
 {
-    let proved = proved_of_many(state, other);
+    let proved = proved_of_many(state.callers.as_slice(), &state.innermost, other);
     if proved.bytes == 0 || !is_known_in(proved, state) {
         return NOTHING;
     }

@@ -4,6 +4,7 @@ ghost use Rattle.std.specs.Prelude.{◌≡◌, ◌∷◌, [], List, IfSome, IsTr
 ghost use Rattle.stack_state.specs.declared.states.State.{State as TheState};
 ghost use Rattle.stack_state.specs.Starts.{start};
 ghost use Rattle.image.specs.Images.{IsImage};
+ghost use Rattle.transfer.specs.Beside.{beside};
 ghost use Rattle.walks.specs.Walks.{StepsTo};
 ghost use Rattle.walks.specs.Forgetting.{Coarse, Forgets};
 ghost use Rattle.explorer.specs.Listening.{HasRetraced};
@@ -15,7 +16,7 @@ use control_flow::{Flow, KeptNumbers};
 use image::Image;
 use stack_state::State;
 use std::alloc::Global;
-use transfer::{Ways, step_in_place};
+use transfer::{Ways, step_beside};
 use walks::{forget, forget_all, may_forget_all};
 
 /// The state at the end of a path, and scratch space for one.
@@ -63,6 +64,18 @@ fn forget_again(
     true
 }
 
+/// Becomes the other successor of a branch, which may have the callers of the state.
+fn go_aside(shares: bool, state: &mut State, other: &State)
+    ensures { state.new ≡ beside shares state.old other.now }
+{
+    if !shares {
+        state.copy_from(other);
+        return;
+    }
+    state.slot = other.slot;
+    state.innermost.copy_from(&other.innermost);
+}
+
 impl Walker {
     /// A walker at the start. It is large, so it is on the heap, and it is made out of line.
     #[inline(never)]
@@ -94,7 +107,7 @@ impl Walker {
             return false;
         }
         let caller_count = self.state.callers.len();
-        let Ok(ways) = step_in_place(image, &mut self.state, &mut self.scratch) else {
+        let Ok((ways, shares)) = step_beside(image, &mut self.state, &mut self.scratch) else {
             return false;
         };
         let has_called = self.state.callers.len() > caller_count;
@@ -105,7 +118,7 @@ impl Walker {
                 if !course.is_aside {
                     return forget_again(flow, kept, course, has_called, &mut self.state);
                 }
-                self.state.copy_from(&self.scratch);
+                go_aside(shares, &mut self.state, &self.scratch);
                 forget_again(flow, kept, course, has_called, &mut self.state)
             }
         }

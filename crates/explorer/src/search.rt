@@ -11,23 +11,24 @@ ghost use Rattle.control_flow.specs.Flows.{IsFlow, IsJoin};
 ghost use Rattle.walks.specs.Forgetting.{Precision, Exact, IsForgotten};
 ghost use Rattle.walks.specs.Refused.{StopsAt};
 ghost use Rattle.explorer.specs.Search.{Arrives, IsArrival, RefusesArrival, IsNew, Comes, HasEnded, AfterMove, AfterMoveOrEnd, InEach, IsNext, IsTooLong, precision_in};
-ghost use Rattle.explorer.specs.Listening.{BeginsPath, BeginFails, ShowsStep, StepFails, ComesBackAt, IfReturns, ReturnFails, IfRefused, IsToTell, FollowsTo, FollowsNext, EndsIn};
+ghost use Rattle.explorer.specs.Listening.{BeginsPath, BeginFails, ComesBackAt, IfReturns, ReturnFails, IfRefused, IsToTell, FollowsTo, FollowsNext, EndsIn};
 
-use crate::arrivals::{arrive, forget_at};
+use crate::arrivals::arrive;
+use crate::current::Current;
 use crate::kept::Kept;
 use crate::listening::{Listener, halt, tell};
-use crate::long_searches::{forget_by, lengthen};
+use crate::long_searches::lengthen;
 use crate::moves::{Halt, Move, NO_MEMORY, NextMove, Refused};
 use crate::stored_states::StoredStates;
-use crate::trail::{Course, Trail, Visit};
+use crate::trail::Trail;
 use control_flow::{Flow, KeptNumbers};
 use image::Image;
 use isa_model::MAX_EXPLORED;
 use stack_state::State;
 use state_index::Part;
 use std::alloc::{AllocError, Global};
-use transfer::{Ways, step_in_place};
-use walks::{Refusal, forget, kept_slots};
+use transfer::Ways;
+use walks::Refusal;
 
 /// A search: the path from the start to the current state, and the states that were stored.
 #[derive(Drop)]
@@ -36,7 +37,7 @@ pub struct Search {
     pub path: Trail,
     /// Says how many instructions are finished: their states have their numbers.
     pub finished: u32,
-    pub current: State,
+    pub current: Current,
     /// Scratch space for a state.
     pub scratch: State,
     /// Which numbers are kept at joins, once the search is long.
@@ -56,7 +57,7 @@ impl Search {
             states,
             path: Trail::new(alloc),
             finished: 0,
-            current: State::start(),
+            current: Current::start(),
             scratch: State::start(),
             kept: None,
         };
@@ -76,14 +77,14 @@ impl Search {
         self.states.begin_anew(alloc, slots)?;
         self.path = Trail::new(alloc);
         self.finished = 0;
-        self.current = State::start();
+        self.current = Current::start();
         self.kept = None;
         Ok(())
     }
 
     /// The path arrives at the current state, which may have been kept before.
     #[inline(always)]
-    fn come(
+    pub fn come(
         &mut self,
         alloc: Global,
         flow: &Flow<'_>,
@@ -105,7 +106,7 @@ impl Search {
             alloc,
             flow,
             &mut self.states,
-            &self.current,
+            self.current.state(),
             &mut kept,
             self.path.last_pending(),
             &mut self.scratch,
@@ -124,86 +125,8 @@ impl Search {
         ensures explored { self.new.finished + length self.new.path.items ≡ 0 }
         ensures kept { self.new.kept ≡ None }
     {
-        forget(flow, false, &mut self.current);
+        self.current.forget(flow);
         self.come(alloc, flow, None)
-    }
-
-    /// Explores the instruction at the current state, which is stored with that index, if there is
-    /// one. What is dead at its successors is forgotten, and the pending state is kept compactly;
-    /// `parts` is scratch space.
-    #[inline(always)]
-    fn step(
-        &mut self,
-        alloc: Global,
-        image: &Image,
-        flow: &Flow<'_>,
-        stored: Option<usize>,
-        parts: &mut Vec<Part>,
-    ) -> Result<(Ways, Move), Refused>
-        requires image { flow.now ≡ image.now }
-        requires good { IsFlow flow.now }
-        requires at { IsNext flow.now self.old (NextMove.Explore stored) }
-        requires room { self.old.finished + length self.old.path.items < MAX_EXPLORED }
-        ensures moves { IfOk result (λ made. AfterMove flow.now self.new made.1) }
-        ensures steps { IfOk result (λ made. ShowsStep (precision_in self.old.kept) flow.now
-            self.old.current self.old.path.items made.1 self.new.path.items self.new.current) }
-        ensures stops { IfErr result (λ r. StopsAt (precision_in self.new.kept) flow.now r.0 r.1) }
-        ensures fails { IfErr result (λ r. StepFails (precision_in self.old.kept) flow.now
-            self.old.current self.new.current r.0 r.1) }
-        ensures explored { OnOk result (self.new.finished + length self.new.path.items
-            ≡ self.old.finished + length self.old.path.items + 1) }
-        ensures kept { self.new.kept ≡ self.old.kept }
-    {
-        let slot = self.current.slot;
-        let caller_count = self.current.callers.len();
-        let ways = match step_in_place(image, &mut self.current, &mut self.scratch) {
-            Ok(ways) => ways,
-            Err(refusal) => return Err((Refusal::Step(refusal), slot)),
-        };
-        let pending = match ways {
-            Ways::None => {
-                self.finished += 1;
-                self.states.finish(stored, 1);
-                return Ok((ways, Move::Finished(1)));
-            }
-            Ways::One => None,
-            Ways::Two => {
-                forget_by(flow, &self.kept, false, &mut self.scratch);
-                let mask = kept_slots(flow, self.scratch.slot);
-                let others = self.path.others_at(self.scratch.slot, self.states.last());
-                match Kept::of_forgotten(alloc, &mut self.scratch, mask, parts, others) {
-                    Ok(other) => Some(other),
-                    Err(_) => return Err(NO_MEMORY),
-                }
-            }
-        };
-        let has_called = self.current.callers.len() > caller_count;
-        let Ok(is_plain) = forget_at(
-            alloc,
-            flow,
-            &mut self.states,
-            &self.kept,
-            has_called,
-            &mut self.current,
-            &mut self.scratch,
-        ) else {
-            return Err(NO_MEMORY);
-        };
-        let visit = Visit {
-            pending,
-            best: 0,
-            stored,
-        };
-        let course = Course {
-            is_aside: false,
-            is_coarse: self.kept.is_some(),
-            is_plain,
-        };
-        let Ok(()) = self.path.push(alloc, visit, course) else {
-            return Err(NO_MEMORY);
-        };
-        let made = self.come(alloc, flow, None)?;
-        Ok((ways, made))
     }
 
     /// The path has arrived at a state with this number: its last visit ends, or continues with
@@ -226,7 +149,7 @@ impl Search {
             return Err(NO_MEMORY);
         };
         if let Some(other) = taken {
-            other.restore(&mut self.current);
+            self.current.restore(&other);
             let made = self.come(alloc, flow, Some(other))?;
             return Ok(Some(made));
         }
@@ -364,7 +287,7 @@ impl Search {
         }
         match next_move {
             NextMove::Done(number) => Ok(number),
-            NextMove::Explore(_) => Err(Halt::Refused(Refusal::TooLong, self.current.slot)),
+            NextMove::Explore(_) => Err(Halt::Refused(Refusal::TooLong, self.current.slot())),
         }
     }
 

@@ -3,7 +3,8 @@
 ghost use Rattle.std.specs.Prelude.{◌≡◌, None, IfOk, IfSome};
 ghost use Rattle.state_index.specs.Parts.{AreParts};
 
-use crate::kept::{Kept, Others};
+use crate::kept::Kept;
+use crate::others::Others;
 use stack_state::State;
 use state_index::Part;
 use std::alloc::{AllocError, Global};

@@ -1,7 +1,7 @@
 use Rattle.std.proofs.lemmas.Bool.{iff_false}
 use Rattle.std.proofs.Common.{refl}
 use Rattle.walks.specs.Forgetting.{Coarse}
-use Rattle.explorer.proofs.Stopping.{closed_stops, closed_ends, open_told, not_open}
+use Rattle.explorer.proofs.Stopping.{closed_ends, open_told, not_open}
 use Rattle.explorer.proofs.listened.find_bound.Goals as goal
 
 -- ---- where the search decides

@@ -47,7 +47,7 @@ come-requires-clause-comes c =
     (λ o. TakesLastPending c.args.ended c.args.self.now.path.items o
     c.take_last_pending.new.self.items) c.in-Some.is c.in-Ok.ensures in
     comes_aside c.args.flow.now c.args.self.now on.path on.visit _ c.take_last_pending.new.self
-    c.args.ended c.restore.new.state c.requires.at on.was
+    c.args.ended c.restore.new.self c.requires.at on.was
     (on.pending ∙ ap Some (sym c.restore.ensures)) refl on.now
 
 pub returns-in_default-pop-clause-moves : goal.returns-in_default-pop-clause-moves

@@ -19,9 +19,9 @@ come-requires-clause-comes c =
     let search = c.args.self.now in
     let states = search.states.states.items in
     let path = search.path.items in
-    let s = c.forget.new.state in
+    let s = c.forget.new.self in
     let new = c.requires.new in
-    let exact = subst (λ x. Forgets Exact p x s) new.current c.forget.ensures.forgets in
+    let exact = subst (λ x. Forgets Exact p x s) new.current c.forget.ensures in
     let begins = subst (λ k. Forgets (precision_in k) p start s) (sym new.kept) exact in
     record {
       at =
@@ -41,8 +41,8 @@ come-requires-clause-comes c =
 
 pub come-requires-clause-forgotten : goal.come-requires-clause-forgotten
 come-requires-clause-forgotten c = λ none.
-    Forgets-forgotten c.args.flow.now c.args.self.now.current c.forget.new.state
-    c.forget.ensures.forgets
+    Forgets-forgotten c.args.flow.now c.args.self.now.current c.forget.new.self
+    c.forget.ensures
 
 pub returns-clause-stops : goal.returns-clause-stops
 returns-clause-stops c = c.come.ensures.stops
@@ -50,9 +50,9 @@ returns-clause-stops c = c.come.ensures.stops
 pub returns-clause-fails : goal.returns-clause-fails
 returns-clause-fails c =
     let p = c.args.flow.now in
-    let s = c.forget.new.state in
+    let s = c.forget.new.self in
     let now = c.come.new.self.current in
-    let begins = subst (λ x. Forgets Exact p x s) c.requires.new.current c.forget.ensures.forgets in
+    let begins = subst (λ x. Forgets Exact p x s) c.requires.new.current c.forget.ensures in
     IfErr-weaker c.come.result (λ r. ComesBackAt s r.0 r.1) (λ r. BeginFails Exact p now r.0 r.1)
     (λ r at. begin_fails Exact p s now r.0 r.1 c.come.ensures.current begins at)
     c.come.ensures.fails

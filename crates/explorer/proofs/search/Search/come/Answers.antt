@@ -1,3 +1,5 @@
+use Rattle.std.proofs.Common.{subst}
+use Rattle.std.specs.Prelude.{IfOk, IfErr}
 use Rattle.std.proofs.lemmas.Result.{IfOk-weaker, IfErr-weaker}
 use Rattle.walks.specs.Refused.{StopsAt}
 use Rattle.explorer.specs.Search.{Arrives, RefusesArrival, AfterMove, precision_in}
@@ -9,13 +11,15 @@ pub returns-clause-moves : goal.returns-clause-moves
 returns-clause-moves c =
     let p = c.args.flow.now in
     let old = c.args.self.now in
+    let new = c.arrive.new.states.states.items in
     IfOk-weaker c.arrive.result
-    (λ made. Arrives p old.states.states.items old.current made
-    c.arrive.new.states.states.items)
+    (λ made. Arrives p old.states.states.items old.current made new)
     (λ made. AfterMove p
     (record old { states = c.arrive.new.states; scratch = c.arrive.new.scratch }) made)
     (λ made arrives. comes_to p old c.arrive.new.states c.arrive.new.scratch made c.requires.comes
-    arrives) c.arrive.ensures.arrives
+    arrives)
+    (subst (λ s. IfOk c.arrive.result (λ made. Arrives p old.states.states.items s made new))
+    c.state.ensures c.arrive.ensures.arrives)
 
 pub returns-clause-stops : goal.returns-clause-stops
 returns-clause-stops c =
@@ -26,4 +30,5 @@ returns-clause-stops c =
     (λ r. StopsAt (precision_in old.kept) p r.0 r.1)
     (λ r refuses. arrival_refused p old.finished old.states.states.items old.path.items at.first
     old.current r.0 r.1 at.begins at.path c.requires.comes.on_path refuses)
-    c.arrive.ensures.refused
+    (subst (λ s. IfErr c.arrive.result (λ r. RefusesArrival p old.states.states.items s r.0 r.1))
+    c.state.ensures c.arrive.ensures.refused)

@@ -29,8 +29,8 @@ returns-in-Explore-next_move-clause-stops g c =
             WalksTo-as Coarse how p (length search.path.items) search.current tt
             (Path-walks p search.finished search.states.states.items search.path.items goes.at.first
             search.current goes.at.begins goes.at.path);
-        slot_is = refl;
-        begins = goes.ready.insn_begins;
+        slot_is = c.slot.ensures;
+        begins = rw c.slot.ensures goes.ready.insn_begins;
       },
       (
         goes.at.first,

@@ -3,6 +3,7 @@ use Rattle.std.proofs.lemmas.Result.{err_from_is_err_and}
 use Rattle.isa_model.specs.Code.Instructions.{fetch}
 use Rattle.transfer.specs.declared.Ways.TheVariants as ways
 use Rattle.transfer.specs.Exact.{RefusesStep}
+use Rattle.transfer.specs.Beside.{beside}
 use Rattle.stack_state.specs.declared.states.State.{State}
 use Rattle.explorer.specs.declared.search.Search.{Search}
 use Rattle.explorer.specs.declared.trail.Visit.{Visit}
@@ -17,7 +18,7 @@ use Rattle.explorer.proofs.Walking.{Path-walks, into_by}
 use Rattle.explorer.proofs.SearchMoves.{Entered, fetched, one_way, two_ways, comes_into, step_ends}
 use Rattle.explorer.proofs.Telling.{steps_by_arrival, step_fails}
 use Rattle.explorer.proofs.search.Search.step.Goals as goal
-use Rattle.explorer.proofs.search.Search.step.Goals.{After-push, in-One, in-Two+in-Ok-of_forgotten}
+use Rattle.explorer.proofs.search.Search.step.Goals.{After-push, in-One, in-Two+in-Ok-keep_other}
 
 pub returns-in-Err-clause-stops : goal.returns-in-Err-clause-stops
 returns-in-Err-clause-stops c =
@@ -34,12 +35,12 @@ returns-in-Err-clause-stops c =
       walk =
           Path-walks p c.args.self.now.finished c.args.self.now.states.states.items
           c.args.self.now.path.items at.at.first s at.at.begins at.at.path;
-      slot_is = refl;
-      begins = at.ready.insn_begins;
+      slot_is = c.slot-slot.ensures;
+      begins = rw c.slot-slot.ensures at.ready.insn_begins;
       insn = i;
       here = here;
       refused = subst (λ x. RefusesStep x s i c.in-Err.refusal) (sym c.requires.image)
-          (c.step_in_place.new.state, c.step_in_place.new.other, c.in-Err.ensures.steps i there);
+          (c.step.new.self, c.step.new.other, c.in-Err.ensures.steps i there);
     }
 
 pub returns-in-None-clause-moves : goal.returns-in-None-clause-moves
@@ -48,17 +49,17 @@ returns-in-None-clause-moves c =
     let q = c.args.image.now in
     let search = c.args.self.now in
     let s = search.current in
-    let a = c.step_in_place.new.state in
-    let b = c.step_in_place.new.other in
+    let a = c.step.new.self in
+    let b = beside c.in-Ok.left.1 a c.step.new.other in
     let at = c.requires.at in
     let total = search.finished + length search.path.items in
     let (i, here) = fetched p s at.ready in
     let into =
-    into_by p q s a b a b c.in-Ok.ways ways.None c.requires.image c.in-Ok.ensures.steps i here
+    into_by p q s a b a b c.in-Ok.left.0 ways.None c.requires.image c.in-Ok.ensures.steps i here
     c.in-None.is tt in
     let back = step_ends p q search.finished search.states.states.items
     c.finish.new.self.states.items at.at.first search.path.items c.args.stored s a b
-    c.in-Ok.ways
+    c.in-Ok.left.0
     at.at.begins c.requires.image at.at.fine at.at.path at.stored_at at.on_path
     c.in-Ok.ensures.leads into c.in-None.is c.finish.ensures in
     record {
@@ -86,7 +87,7 @@ entered_of : (c : After-push)
     → Entered (precision_in c.args.self.now.kept) c.args.flow.now c.args.self.now.finished
     c.args.self.now.states.states.items
     (record { pending = c.match-ways.pending; best = 0; stored = c.args.stored })
-    c.args.self.now.current c.forget_at.new.state
+    c.args.self.now.current c.forget_at.new.self
 entered_of c =
     let how = precision_in c.args.self.now.kept in
     let p = c.args.flow.now in
@@ -94,9 +95,9 @@ entered_of c =
     let m = c.args.self.now.finished in
     let states = c.args.self.now.states.states.items in
     let s = c.args.self.now.current in
-    let a = c.step_in_place.new.state in
-    let b = c.step_in_place.new.other in
-    let first = c.forget_at.new.state in
+    let a = c.step.new.self in
+    let b = beside c.in-Ok.left.1 a c.step.new.other in
+    let first = c.forget_at.new.self in
     let at = c.requires.at in
     let pending = c.match-ways.pending in
     elim c.match-ways.branch [
@@ -104,27 +105,26 @@ entered_of c =
           let forgets : Forgets how p a first =
           subst (λ (x : Search). Forgets (precision_in x.kept) p x.current first) w.self-is
           c.in-Ok-forget_at.ensures.forgets in
-          one_way p q m states c.args.stored s a b first c.in-Ok.ways pending
+          one_way p q m states c.args.stored s a b first c.in-Ok.left.0 pending
           c.requires.image c.requires.good at.ready at.stored_at c.in-Ok.ensures.leads
           c.in-Ok.ensures.steps c.in-Ok.ensures.follows forgets w.in-One.is w.pending-is
-      | in-Two+in-Ok-of_forgotten w ↦
-          let other = w.forget_by.new.state in
+      | in-Two+in-Ok-keep_other w ↦
           let forgets : Forgets how p a first =
-          subst (λ (x : Search). Forgets (precision_in x.kept) p x.current first) w.self-is
+          subst (λ (x : Search). Forgets (precision_in x.kept) p x.current first) (w.self-is ∙ w.keep_other.ensures.rest)
           c.in-Ok-forget_at.ensures.forgets in
-          two_ways p q m states c.args.stored s a b first other c.in-Ok.ways pending
-          c.requires.image c.requires.good at.ready at.stored_at c.in-Ok.ensures.leads
-          c.in-Ok.ensures.steps c.in-Ok.ensures.follows forgets w.forget_by.ensures.forgets
-          w.in-Two.is (w.pending-is ∙ ap Some w.in-Ok-of_forgotten.ensures)
+          two_ways p q m states c.args.stored s a b first w.in-Ok-keep_other.other c.in-Ok.left.0
+          pending c.requires.image c.requires.good at.ready at.stored_at c.in-Ok.ensures.leads
+          c.in-Ok.ensures.steps c.in-Ok.ensures.follows forgets
+          w.in-Ok-keep_other.ensures.forgets w.in-Two.is w.pending-is
     ]
 
 search_of : (c : After-push)
     → (scratch : State)
     × (c.match-ways.self
-    ≡ record c.args.self.now { current = c.step_in_place.new.state; scratch = scratch })
+    ≡ record c.args.self.now { current = c.step.new.self; scratch = scratch })
 search_of c = elim c.match-ways.branch [
-  | in-One w ↦ (c.step_in_place.new.other, w.self-is)
-  | in-Two+in-Ok-of_forgotten w ↦ (w.of_forgotten.new.state, w.self-is)
+  | in-One w ↦ (c.step.new.other, w.self-is)
+  | in-Two+in-Ok-keep_other w ↦ (w.keep_other.new.self.scratch, w.self-is ∙ w.keep_other.ensures.rest)
 ]
 
 pub come-requires-clause-comes : goal.come-requires-clause-comes
@@ -134,23 +134,16 @@ come-requires-clause-comes c =
     let visit : Visit =
     record { pending = c.match-ways.pending; best = 0; stored = c.args.stored } in
     comes_into c.args.flow.now c.args.self.now _ c.args.stored c.match-ways.pending
-    c.forget_at.new.state
+    c.forget_at.new.self
     (c.forget_at.ensures.same ∙ ap (λ (x : Search). x.states.states.items) same)
     (ap (λ (x : Search). x.finished) same)
     (c.in-Ok-push.ensures.items ∙ ap (λ (x : Search). x.path.items ++ visit ∷ []) same) refl
     (ap (λ (x : Search). x.kept) same) c.requires.at
     (entered_of w)
 
-pub of_forgotten-requires : goal.of_forgotten-requires
-of_forgotten-requires c = λ j below none.
-    let forgotten =
-    Forgets-forgotten c.args.flow.now c.step_in_place.new.other c.forget_by.new.state
-    c.forget_by.ensures.forgets in
-    forgotten.1 j below (c.kept_slots-mask.ensures j below none)
-
 pub come-requires-clause-forgotten : goal.come-requires-clause-forgotten
 come-requires-clause-forgotten c = λ new.
-    Forgets-forgotten c.args.flow.now c.match-ways.self.current c.forget_at.new.state
+    Forgets-forgotten c.args.flow.now c.match-ways.self.current c.forget_at.new.self
     c.in-Ok-forget_at.ensures.forgets
 
 pub returns-in_err-made-clause-fails : goal.returns-in_err-made-clause-fails
@@ -160,7 +153,7 @@ returns-in_err-made-clause-fails c =
     let given = err_from_is_err_and c.from_residual.result c.from_residual.ensures.1 in
     rw (given.1, given.2)
     (step_fails (precision_in c.args.self.now.kept) c.args.flow.now c.args.self.now.current
-    c.forget_at.new.state
+    c.forget_at.new.self
     c.come.new.self.current refusal.0 refusal.1 c.come.ensures.current
     (entered_of w).waiting.steps c.in_err-made.ensures.fails)
 
