@@ -169,6 +169,16 @@ fn none_yet(alloc: Global, count: usize) -> Result<Vec<Option<Found>>, AllocErro
 }
 
 impl<'a> Changes<'a> {
+    /// Of a survey, with no row yet of the earlier one.
+    fn none(alloc: Global, surveyed: &'a [Row]) -> Result<Self, AllocError> {
+        Ok(Changes {
+            surveyed,
+            matching: Matching::of(alloc, surveyed)?,
+            found: none_yet(alloc, surveyed.len())?,
+            gone: Vec::new(alloc),
+        })
+    }
+
     /// Keeps a row of the earlier survey for an image: the first one with its path, or, if there is
     /// none, the first one with its name. One that is not kept, and has another path, is gone.
     fn keep(&mut self, index: usize, new: Found) -> Result<(), AllocError> {
@@ -221,6 +231,22 @@ impl<'a> Changes<'a> {
                     changes,
                 },
             )?;
+        }
+        Ok(())
+    }
+
+    /// Takes all rows that are left of the earlier survey.
+    fn take_rows<S: Read + Drop>(
+        &mut self,
+        alloc: Global,
+        earlier: &mut Earlier<S>,
+    ) -> Result<(), EarlierError> {
+        for _ in 0..u64::MAX {
+            let Some(row) = earlier.next(alloc)? else {
+                break;
+            };
+            let matched = self.matching.find(earlier.file(&row));
+            self.take_row(alloc, earlier, matched, &row)?;
         }
         Ok(())
     }
@@ -306,18 +332,7 @@ pub fn changes_since<'a, S: Read + Drop>(
     surveyed: &'a [Row],
 ) -> Result<Changes<'a>, EarlierError> {
     let mut earlier = Earlier::begin(alloc, source)?;
-    let mut changes = Changes {
-        surveyed,
-        matching: Matching::of(alloc, surveyed)?,
-        found: none_yet(alloc, surveyed.len())?,
-        gone: Vec::new(alloc),
-    };
-    for _ in 0..u64::MAX {
-        let Some(row) = earlier.next(alloc)? else {
-            break;
-        };
-        let matched = changes.matching.find(earlier.file(&row));
-        changes.take_row(alloc, &earlier, matched, &row)?;
-    }
+    let mut changes = Changes::none(alloc, surveyed)?;
+    changes.take_rows(alloc, &mut earlier)?;
     Ok(changes)
 }
