@@ -28,7 +28,6 @@ SHARED = {
     "Refusal": "of the crate's own",
     "ReportForm": "the type of host, and what it means",
     "FrameClock": "the same clock in host and in the library",
-    "Takes": "how many steps a state takes, and the place that a delete takes",
 }
 
 TYPE = re.compile(r"^pub (?:unsafe )?(?:struct|enum|trait|type|union) (\w+)", re.M)

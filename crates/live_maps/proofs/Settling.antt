@@ -8,7 +8,7 @@ use Rattle.map_indexes.specs.PlaceKeys.{TakesPlace}
 use Rattle.maps.specs.Maps.{MapState, Updated, Deleted, map_at}
 use Rattle.live_maps.specs.Live.{Live, Serials, AreLive, place_if_new, content_at, serials_at, with_bytes, without}
 use Rattle.live_maps.specs.PlaceOrders.{AreOrdersOf, PlaceOrder, serials_in}
-use Rattle.live_maps.specs.Giving.{Gives, Takes}
+use Rattle.live_maps.specs.Giving.{GivesSerial, TakesSerial}
 use Rattle.live_maps.proofs.ContentLaws.{live_of}
 use Rattle.live_maps.proofs.LiveLaws.{live-updated, live-added, live-removed, live-same, not_zero, updated_there, deleted_there, place_if_new-Some, place_if_new-None, update_answer-live, delete_answer-live}
 use Rattle.live_maps.proofs.LookUpLaws.{lookup-present}
@@ -38,7 +38,7 @@ module _ (key value : List ℕ) (flags : ℕ) {room next : ℕ} {maps new : List
   added : (p more : ℕ) (later : List PlaceOrder)
       → Updated key value flags 0 (map_at maps m) (map_at new m)
       → get (map_at maps m).places key ≡ None → get (map_at new m).places key ≡ Some p
-      → Gives m (Some p) next more kept later
+      → GivesSerial m (Some p) next more kept later
       → Settled room more new later (with_bytes now m key value)
   added p more later u none there g =
       let w = u.updates.writes refl in
@@ -87,7 +87,8 @@ module _ (key value : List ℕ) (flags : ℕ) {room next : ℕ} {maps new : List
       stays.0 stays.1
 
   -- no place was given
-  as_before : (more : ℕ) (later : List PlaceOrder) (l : Live) → Gives m None next more kept later
+  as_before : (more : ℕ) (later : List PlaceOrder) (l : Live)
+      → GivesSerial m None next more kept later
       → Settled room next new kept l → Settled room more new later l
   as_before more later l g s =
       subst (λ (n : ℕ). Settled room n new later l) (sym g.1)
@@ -96,7 +97,7 @@ module _ (key value : List ℕ) (flags : ℕ) {room next : ℕ} {maps new : List
   pub updated-settled : (result more : ℕ) (place : Option ℕ) (later : List PlaceOrder)
       → Updated key value flags result (map_at maps m) (map_at new m)
       → place ≡ place_if_new (get (map_at maps m).places key) (get (map_at new m).places key)
-      → Gives m place next more kept later
+      → GivesSerial m place next more kept later
       → Settled room more new later (if result == 0 then with_bytes now m key value else now)
   updated-settled zero more (Some p) later u e g =
       let two = place_if_new-Some _ _ p (sym e) in
@@ -142,7 +143,7 @@ module _ (key value : List ℕ) (flags : ℕ) {room next : ℕ} {maps new : List
 module _ (key : List ℕ) {room next : ℕ} {maps new : List MapState} {kept : List PlaceOrder}
     {now : Live} {m : ℕ} (d : OneChanged (HasKeySize key) room next maps new kept now m) where
   removed : (p : ℕ) (later : List PlaceOrder) → Deleted key 0 (map_at maps m) (map_at new m)
-      → get (map_at maps m).places key ≡ Some p → Takes m (Some p) kept later
+      → get (map_at maps m).places key ≡ Some p → TakesSerial m (Some p) kept later
       → Settled room next new later (without now m key)
   removed p later x there t =
       let r =
@@ -170,7 +171,7 @@ module _ (key : List ℕ) {room next : ℕ} {maps new : List MapState} {kept : L
 
   pub deleted-settled : (result : ℕ) (place : Option ℕ) (later : List PlaceOrder)
       → Deleted key result (map_at maps m) (map_at new m) → place ≡ place_taken result
-      → Takes m place kept later
+      → TakesSerial m place kept later
       → Settled room next new later (if result == 0 then without now m key else now)
   deleted-settled zero (Some p) later x e t = removed p later x (sym e) t
   deleted-settled zero None later x e t =

@@ -4,18 +4,18 @@ use Rattle.live_maps.specs.Live.{serials_at}
 use Rattle.live_maps.specs.PlaceOrders.{PlaceOrder, given_now, kept_at, serials_in, since_in, taken_now, with_since}
 
 -- the serials afterwards, what is kept of the maps, and the serial that is next
-abbrev pub Gives : ℕ → Option ℕ → ℕ → ℕ → List PlaceOrder → List PlaceOrder → Type 0
-Gives m None next more old new = (new ≡ old) × (more ≡ next)
-Gives m (Some p) next more old new =
+abbrev pub GivesSerial : ℕ → Option ℕ → ℕ → ℕ → List PlaceOrder → List PlaceOrder → Type 0
+GivesSerial m None next more old new = (new ≡ old) × (more ≡ next)
+GivesSerial m (Some p) next more old new =
     (serials_in new ≡ slice_set (serials_in old) m
     (slice_set (serials_at (serials_in old) m) p (Some next)))
     × (new ≡ slice_set old m (with_since (kept_at old m) p
     (given_now next (since_in (kept_at old m).since p))))
     × (more ≡ next + 1)
 
-abbrev pub Takes : ℕ → Option ℕ → List PlaceOrder → List PlaceOrder → Type 0
-Takes m None old new = new ≡ old
-Takes m (Some p) old new =
+abbrev pub TakesSerial : ℕ → Option ℕ → List PlaceOrder → List PlaceOrder → Type 0
+TakesSerial m None old new = new ≡ old
+TakesSerial m (Some p) old new =
     (serials_in new ≡ slice_set (serials_in old) m
     (slice_set (serials_at (serials_in old) m) p None))
     × (new ≡ slice_set old m (with_since (kept_at old m) p

@@ -3,7 +3,7 @@
 ghost use Rattle.std.specs.Prelude.{◌≡◌, ◌<◌, ◌^◌, ℕ, length, IfOk, IfSome, Some, None, slice_set, vec_len, vec_capacity};
 ghost use Rattle.std.specs.List.{position};
 ghost use Rattle.live_maps.specs.PlaceOrders.{AreFresh, AreOrdersOf, ArePlacesBelow, given_now, kept_at, serials_in, since_in, taken_now, with_since};
-ghost use Rattle.live_maps.specs.Giving.{Gives, Takes};
+ghost use Rattle.live_maps.specs.Giving.{GivesSerial, TakesSerial};
 ghost use Rattle.live_maps.specs.Live.{serial_in, serials_at, has_serial};
 ghost use Rattle.live_maps.specs.Numbering.{AreDistinct};
 
@@ -73,7 +73,7 @@ pub fn give_next(all: &mut Vec<PlaceSerials>, index: usize, place: Option<usize>
     requires place { IfSome place
         (λ p. p < length (serials_at (serials_in all.old.items) index)) }
     requires next { next < 2 ^ 63 }
-    ensures given { Gives index place next result all.old.items all.new.items }
+    ensures given { GivesSerial index place next result all.old.items all.new.items }
     ensures room { vec_capacity all.new ≡ vec_capacity all.old }
 {
     match place {
@@ -108,7 +108,7 @@ pub fn take_from(all: &mut Vec<PlaceSerials>, index: usize, place: Option<usize>
         (λ p. p < length (serials_at (serials_in all.old.items) index)) }
     requires fresh { AreFresh (kept_at all.old.items index).since
         (kept_at all.old.items index).order }
-    ensures taken { Takes index place all.old.items all.new.items }
+    ensures taken { TakesSerial index place all.old.items all.new.items }
     ensures room { vec_capacity all.new ≡ vec_capacity all.old }
 {
     match place {

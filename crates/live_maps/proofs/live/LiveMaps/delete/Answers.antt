@@ -24,7 +24,8 @@ find-found-requires-clause-key_size c =
     (known (goal.at.find-found-requires-clause-key_size c).After-self).1
 
 pub delete-answer-requires-clause-map : goal.delete-answer-requires-clause-map
-delete-answer-requires-clause-map c = (known (goal.at.delete-answer-requires-clause-map c).After-self).0
+delete-answer-requires-clause-map c =
+    (known (goal.at.delete-answer-requires-clause-map c).After-self).0
 
 pub delete-answer-requires-clause-key_size : goal.delete-answer-requires-clause-key_size
 delete-answer-requires-clause-key_size c =

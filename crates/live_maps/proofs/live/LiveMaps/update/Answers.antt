@@ -26,7 +26,8 @@ find-found-requires-clause-key_size c =
     (known (goal.at.find-found-requires-clause-key_size c).After-self).1.0
 
 pub update-answer-requires-clause-map : goal.update-answer-requires-clause-map
-update-answer-requires-clause-map c = (known (goal.at.update-answer-requires-clause-map c).After-self).0
+update-answer-requires-clause-map c =
+    (known (goal.at.update-answer-requires-clause-map c).After-self).0
 
 pub update-answer-requires-clause-key_size : goal.update-answer-requires-clause-key_size
 update-answer-requires-clause-key_size c =
