@@ -6,11 +6,6 @@ use Rattle.std.proofs.KnownBytes.{Appends-trans}
 use Rattle.exact_io.specs.Transfers.{AppendsBeginning}
 use Rattle.exact_io.proofs.TransferLaws.{AppendsBeginning-first, AppendsBeginning-second}
 
--- a fact that holds, holds on an error
-pub on_err : {X E : Type 0} (P : Type 0) (r : Result X E) → P → OnErr r P
-on_err P (Ok x) h = tt
-on_err P (Err e) h = h
-
 -- a fact that follows from one on an error, holds on an error
 pub on_err_too : {X E : Type 0} (P Q : Type 0) (r : Result X E) → (P → Q) → OnErr r P → OnErr r Q
 on_err_too P Q (Ok x) f h = tt

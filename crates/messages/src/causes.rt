@@ -14,7 +14,7 @@ use std::io::{ErrorKind, Write};
 pub const STANDARD_OUTPUT: &str = "standard output";
 
 /// The end of a line that names a file, and then a line with the cause.
-fn cause_line(kind: ErrorKind) -> &'static str
+pub fn cause_line(kind: ErrorKind) -> &'static str
     ensures { result.now ≡ cause_line kind }
 {
     match kind {
@@ -64,7 +64,7 @@ fn cause_line(kind: ErrorKind) -> &'static str
 }
 
 /// The end of the line, and the line with the cause if it is known.
-fn line_after(cause: Option<ErrorKind>) -> &'static str
+pub fn line_after(cause: Option<ErrorKind>) -> &'static str
     ensures { result.now ≡ line_after cause }
 {
     match cause {
@@ -87,7 +87,7 @@ pub enum Conflict {
 }
 
 /// The end of a line that names such a file, and a line that says why.
-fn conflict_line(conflict: Conflict) -> &'static str
+pub fn conflict_line(conflict: Conflict) -> &'static str
     ensures { result.now ≡ conflict_line conflict }
 {
     match conflict {

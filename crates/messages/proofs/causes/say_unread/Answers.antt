@@ -1,7 +1,8 @@
 use Rattle.std.proofs.Common.{◌≡◌, ◌++◌, ◌∙◌, ap, codes, List, ℕ}
+use Rattle.image.proofs.Writing.{on_err}
 use Rattle.messages.specs.Causes.{cause_line}
 use Rattle.messages.specs.Names.{shown_name, dash_line}
-use Rattle.messages.proofs.Written.{on_err, ok_text, err_text, ok_behind, err_behind, first_failed}
+use Rattle.messages.proofs.Written.{ok_text, err_text, ok_behind, err_behind, first_failed}
 use Rattle.messages.proofs.causes.say_unread.Goals as goal
 
 pub returns-in_err-write_named-clause-err : goal.returns-in_err-write_named-clause-err

@@ -1,5 +1,5 @@
 use Rattle.std.proofs.Common.{◌<◌, length, rules}
-use Rattle.messages.proofs.Written.{on_err}
+use Rattle.image.proofs.Writing.{on_err}
 use Rattle.messages.proofs.ShownNames.{next_written, next_broken, next_failed}
 use Rattle.messages.proofs.names.write_escaped.Goals as goal
 

@@ -1,7 +1,8 @@
 use Rattle.std.proofs.Common.{◌++◌, codes, refl}
 use Rattle.std.specs.Prelude.{decimal}
 use Rattle.isa_model.specs.Text.CanonicalText.{line_of}
-use Rattle.messages.proofs.Written.{on_err, first_failed, ok_behind, err_behind}
+use Rattle.image.proofs.Writing.{on_err}
+use Rattle.messages.proofs.Written.{first_failed, ok_behind, err_behind}
 use Rattle.messages.proofs.rejections.say_insn.Goals as goal
 
 pub returns-in_err-say_slot-clause-err : goal.returns-in_err-say_slot-clause-err

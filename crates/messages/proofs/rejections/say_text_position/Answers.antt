@@ -1,5 +1,6 @@
 use Rattle.std.proofs.Common.{◌++◌, ℕ, List, codes, decimal, ap}
-use Rattle.messages.proofs.Written.{on_err, first_failed, err_text, err_behind}
+use Rattle.image.proofs.Writing.{on_err}
+use Rattle.messages.proofs.Written.{first_failed, err_text, err_behind}
 use Rattle.messages.proofs.rejections.say_text_position.Goals as goal
 
 pub returns-in_err-write_texts-clause-err : goal.returns-in_err-write_texts-clause-err

@@ -1,6 +1,7 @@
 use Rattle.std.proofs.Common.{◌++◌, subst}
 use Rattle.exact_io.specs.Transfers.{AppendsBeginning}
-use Rattle.messages.proofs.Written.{on_err, on_err_too, ok_text, ok_behind, first_failed, second_failed}
+use Rattle.image.proofs.Writing.{on_err}
+use Rattle.messages.proofs.Written.{on_err_too, ok_text, ok_behind, first_failed, second_failed}
 use Rattle.messages.proofs.texts.write_texts.Goals as goal
 
 pub returns-in_err-write_bytes-2-clause-err : goal.returns-in_err-write_bytes-2-clause-err
