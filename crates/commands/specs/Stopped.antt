@@ -1,5 +1,5 @@
 -- The message on standard error about packet frames whose runs ended without an action.
-use Rattle.std.specs.Prelude.{◌≡◌, ℕ, ◌+◌, ◌-◌, ◌==◌, nat_lt, List, [], ◌∷◌, ◌++◌, length, Option, Some, None, String, Result, Ok, Err, IfSome, codes, decimal, if◌then◌else◌}
+use Rattle.std.specs.Prelude.{◌≡◌, ℕ, ◌+◌, ◌-◌, ◌==◌, nat_lt, List, [], ◌∷◌, ◌++◌, length, sum_by, Option, Some, None, String, Result, Ok, Err, IfSome, codes, decimal, if◌then◌else◌}
 use Rattle.std.specs.declared.alloc.Global.{Global}
 use Rattle.std.specs.String.{string_bytes}
 use Rattle.isa_model.specs.declared.values.Value.{Value}
@@ -69,10 +69,9 @@ abbrev pub first_lines : List FrameStop → List ℕ
 first_lines [] = []
 first_lines (f ∷ fs) = stop_line f ++ first_lines fs
 
--- how many frames are counted with the first ones
-abbrev pub told_of : List FrameStop → ℕ
-told_of [] = 0
-told_of (f ∷ fs) = f.count + told_of fs
+-- how many frames are counted with one of the first ones
+abbrev pub told_at : FrameStop → ℕ
+told_at f = f.count
 
 -- how many more runs ended without an action
 abbrev pub more_line : ℕ → List ℕ
@@ -80,7 +79,7 @@ more_line more = if more == 0 then []
     else codes "and " ++ (decimal more ++ codes " more frames that ended without an action\n")
 
 abbrev pub stop_lines : Noted → List ℕ
-stop_lines noted = first_lines noted.first ++ more_line (noted.count - told_of noted.first)
+stop_lines noted = first_lines noted.first ++ more_line (noted.count - sum_by told_at noted.first)
 
 -- ---- the message of a trace
 

@@ -2,11 +2,14 @@
 
 ghost use Rattle.std.specs.Prelude.{◌≡◌, ◌++◌, codes, decimal, IfOk};
 ghost use Rattle.std.specs.String.{string_bytes};
-ghost use Rattle.commands.specs.InvalidRuns.{answer_line, linux_line, invalid_lines, TellsInvalidOf};
+ghost use Rattle.commands.specs.InvalidRuns.{answer_line, invalid_lines, TellsInvalidOf};
 
-use super::stopped::{no_action_line, others_words};
+use super::stopped::{NO_ACTION, others_words};
 use host::{HostError, InvalidFrame, Ran};
 use std::alloc::{AllocError, Global};
+
+/// What Linux does, and who says more.
+const LINUX: &str = "Linux takes INVALID as ABORTED; xdpvm trace names the slot\n";
 
 // What the first of these frames answered.
 fn answer_line(alloc: Global, answer: u64) -> Result<String, AllocError>
@@ -14,13 +17,6 @@ fn answer_line(alloc: Global, answer: u64) -> Result<String, AllocError>
 {
     let number = answer.cast_signed();
     format!(in alloc; "r0: number {number}\n")
-}
-
-// What Linux does, and who says more.
-fn linux_line() -> &'static str
-    ensures { result.now ≡ linux_line }
-{
-    "Linux takes INVALID as ABORTED; xdpvm trace names the slot\n"
 }
 
 // The lines for a frame with this number, of these parts.
@@ -45,9 +41,7 @@ fn invalid_lines(alloc: Global, first: InvalidFrame, count: u32) -> Result<Strin
 {
     let others = others_words(alloc, count)?;
     let answer = answer_line(alloc, first.answer)?;
-    let hint = no_action_line();
-    let linux = linux_line();
-    lines_of_parts(alloc, first.frame, others, answer, hint, linux)
+    lines_of_parts(alloc, first.frame, others, answer, NO_ACTION, LINUX)
 }
 
 /// The message about the packet frames of a run that ended with INVALID, if its report was

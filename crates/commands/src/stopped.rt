@@ -1,10 +1,10 @@
 //! The message about packet frames whose runs ended without an action.
 
-ghost use Rattle.std.specs.Prelude.{◌≡◌, ◌<◌, ◌^◌, None, IfOk, IfSome, length};
+ghost use Rattle.std.specs.Prelude.{◌≡◌, ◌<◌, ◌^◌, None, IfOk, IfSome, length, sum_by};
 ghost use Rattle.std.specs.String.{string_bytes};
 ghost use Rattle.isa_model.specs.Text.CanonicalText as canonical;
 ghost use Rattle.host.specs.Stops.{noted_of};
-ghost use Rattle.commands.specs.Stopped.{insn_lines, trap_line, no_action_line, end_line, others_words, stop_line, first_lines, told_of, more_line, stop_lines, TellsStopsOf, at_end};
+ghost use Rattle.commands.specs.Stopped.{insn_lines, trap_line, end_line, others_words, stop_line, first_lines, told_at, more_line, stop_lines, TellsStopsOf, at_end};
 
 use super::outcomes::TaskOutcome;
 use disassembler::write_insn;
@@ -12,6 +12,9 @@ use explanations::value_lines;
 use host::{FrameStop, HostError, Stops, Traced};
 use isa_model::{End, Insn, TrapReason, Value};
 use std::alloc::{AllocError, Global};
+
+/// A hint for an answer that names no action.
+pub const NO_ACTION: &str = "r0 names no action: 0 ABORTED, 1 DROP, 2 PASS, 3 TX, 4 REDIRECT\n";
 
 // The text of an instruction.
 fn insn_text(alloc: Global, insn: &Insn) -> Result<String, AllocError>
@@ -72,19 +75,12 @@ fn trap_line(reason: TrapReason) -> &'static str
     }
 }
 
-/// A hint for an answer that names no action.
-pub fn no_action_line() -> &'static str
-    ensures { result.now ≡ no_action_line }
-{
-    "r0 names no action: 0 ABORTED, 1 DROP, 2 PASS, 3 TX, 4 REDIRECT\n"
-}
-
 // A hint for how a run ended.
 fn end_line(end: End) -> &'static str
     ensures { result.now ≡ end_line end }
 {
     match end {
-        End::Exit(_, _) => no_action_line(),
+        End::Exit(_, _) => NO_ACTION,
         End::Trap(reason, _) => trap_line(reason),
         End::Limit => "the limit of steps is reached: give more by --limit, or end a loop\n",
     }
@@ -129,11 +125,11 @@ fn first_lines(alloc: Global, first: &[FrameStop]) -> Result<String, AllocError>
 // How many frames are counted with the first ones.
 fn told_of(first: &[FrameStop]) -> u64
     requires { length first.now < 2 ^ 32 }
-    ensures { result ≡ told_of first.now }
+    ensures { result ≡ sum_by told_at first.now }
 {
     let mut count = 0;
-    for index in 0..first.len() {
-        count += u64::from(first[index].count);
+    for found in first {
+        count += u64::from(found.count);
     }
     count
 }

@@ -1,4 +1,4 @@
-use Rattle.std.proofs.Common.{◌≡◌, ℕ, List, ◌++◌, Result, Ok, Err, String, IfOk, ap, ◌∙◌, codes}
+use Rattle.std.proofs.Common.{◌≡◌, ℕ, List, ◌++◌, Result, Ok, Err, String, IfOk, refl, ap, ◌∙◌, codes}
 use Rattle.std.specs.Prelude.{decimal}
 use Rattle.std.specs.String.{string_bytes}
 use Rattle.std.specs.declared.alloc.AllocError.{AllocError}
@@ -30,5 +30,4 @@ parts (Ok text) first count others answer hint linux o a h l is =
 pub returns : goal.returns
 returns c =
     parts c.lines_of_parts.result c.args.first c.args.count _ _ _ _ c.in_ok-others.ensures
-    c.in_ok-answer.ensures c.no_action_line-hint.ensures c.linux_line-linux.ensures
-    c.lines_of_parts.ensures
+    c.in_ok-answer.ensures refl refl c.lines_of_parts.ensures

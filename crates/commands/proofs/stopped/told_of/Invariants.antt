@@ -1,8 +1,9 @@
-use Rattle.std.proofs.Common.{◌≡◌, ◌+◌, ◌-◌, ◌*◌, ◌^◌, ◌≤◌, drop}
-use Rattle.commands.specs.Stopped.{told_of}
+use Rattle.std.proofs.Common.{◌≡◌, ◌-◌, ◌*◌, ◌^◌, ◌≤◌, take}
+use Rattle.std.specs.Prelude.{sum_by}
+use Rattle.commands.specs.Stopped.{told_at}
 use Rattle.commands.proofs.stopped.told_of.Given as goal
 
-abbrev pub invariant-loop-index : goal.invariant-loop-index
-invariant-loop-index l =
-    (l.count + told_of (drop l.index l.first) ≡ told_of l.first)
-    × (l.count ≤ l.index * (2 ^ 32 - 1))
+abbrev pub invariant-loop-found : goal.invariant-loop-found
+invariant-loop-found l =
+    (l.count ≡ sum_by told_at (take l.found-index l.first))
+    × (l.count ≤ l.found-index * (2 ^ 32 - 1))
