@@ -4,7 +4,7 @@ pub mod FilesLaws
 pub mod FilesSilence
 mod FirstBytes
 mod Knowing
-mod Loading
+pub mod Loading
 mod Refusing
 mod Served
 mod SettledBytes

@@ -3,10 +3,7 @@ use Rattle.std.proofs.Common.{◌≡◌, ◌∙◌, ℕ, List, Option, None, Res
 use Rattle.isa_model.specs.{Program}
 use Rattle.isa_model.specs.Machine.States.{KeyValues}
 use Rattle.image.specs.Images.{IsImage}
-use Rattle.bounds.specs.Bounds.{Bounded, IsVerified}
-use Rattle.stack_state.specs.Starts.{start}
-use Rattle.walks.specs.Accepting.{BoundsAll}
-use Rattle.walks.specs.Counts.{HasNumber}
+use Rattle.bounds.specs.Bounds.{Bounded}
 use Rattle.host.specs.declared.traced.Counted.{Counted}
 use Rattle.frames.specs.Sources.{Origin}
 use Rattle.messages.specs.declared.forms.FileForm.{FileForm}
@@ -87,16 +84,6 @@ checked_run request p limit old mid new r e fits h =
     let here : FiltersOn (Tested p limit) request old new r.outcome =
     subst (λ (x : Option (List ℕ)). FiltersOn (Tested p limit) request x new r.outcome) e h.0 in
     inr (p, fits, (limit, refl, (here, h.1)))
-
--- the bound that the verifier found
-pub bound-of : (p : Program) (v : Bounded) → v.program ≡ p → IsVerified v
-    → HasNumber p start v.bound → BoundsAll p v.bound → IsBoundOf v.program v.bound
-bound-of p v is verified number bounds =
-    record {
-      verified = verified;
-      number = subst (λ (x : Program). HasNumber x start v.bound) (sym is) number;
-      bounds = subst (λ (x : Program). BoundsAll x v.bound) (sym is) bounds;
-    }
 
 -- ---- a program that is ready
 

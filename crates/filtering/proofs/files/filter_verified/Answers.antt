@@ -1,5 +1,6 @@
 use Rattle.words.specs.FilterRequests.{filter_request_of}
-use Rattle.filtering.proofs.FilesLaws.{bound-of, verified_refused, verified_run, verified_unloaded}
+use Rattle.commands.proofs.Loading.{bound_of_verified}
+use Rattle.filtering.proofs.FilesLaws.{verified_refused, verified_run, verified_unloaded}
 use Rattle.filtering.proofs.files.filter_verified.Goals as goal
 
 pub returns-in-Err : goal.returns-in-Err
@@ -17,6 +18,6 @@ returns-in-Ok-judge g c =
     verified_run (filter_request_of c.args.task) c.in-Ok.image c.in-Ok-judge.verified _ _ _ _ _
     c.in-Ok.ensures.ok c.in-Ok-judge.ensures.ok c.in-Ok.ensures.fits
     c.in-Ok-judge.ensures.program
-    (bound-of c.in-Ok.image c.in-Ok-judge.verified c.in-Ok-judge.ensures.program
+    (bound_of_verified c.in-Ok.image c.in-Ok-judge.verified c.in-Ok-judge.ensures.program
     c.in-Ok-judge.ensures.verified c.in-Ok-judge.ensures.number c.in-Ok-judge.ensures.bounds)
     c.run_and_tell.ensures
