@@ -1,17 +1,9 @@
 -- Why the program ends early, and its status then.
-use Rattle.std.specs.Prelude.{◌≡◌, ◌==◌, ℕ, List, length, codes, if◌then◌else◌}
+use Rattle.std.specs.Prelude.{◌≡◌, ℕ, List}
 use Rattle.std.specs.String.{string_bytes}
 use Rattle.std.specs.declared.io.ErrorKind.{ErrorKind}
 use Rattle.survey_commands.specs.declared.failures.SurveyError.{SurveyError}
 use Rattle.survey_commands.specs.declared.failures.SurveyError.TheVariants.{Words, NotUnicode, Unread, Unwritten, File, Memory}
-
-abbrev pub usage : List ℕ
-usage = codes
-    "usage: xdpvm_survey IMAGE|FOLDER .. | log IMAGE | dis IMAGE | hits IMAGE FRAMES | steps IMAGE FRAMES --frame K\n"
-
--- what is said of arguments: the text on them, or where it is empty the usage
-abbrev pub words_text : List ℕ → List ℕ
-words_text text = if length text == 0 then usage else text
 
 -- the program's status
 abbrev pub failure_status : SurveyError → ℕ

