@@ -1,5 +1,5 @@
-//! What xdpvm_survey can be asked for: a survey, or a log, a listing or a graph of one image, or what
-//! its runs on packet frames did.
+//! What xdpvm_survey can be asked for: a survey, or a log, a listing or a graph of one image, or
+//! what its runs on packet frames did.
 
 use super::tasks::StepLimit;
 use survey_rows::Column;

@@ -3,7 +3,8 @@ use Rattle.words.proofs.Words.{command-added}
 use Rattle.words.proofs.command_line.program.Goals as goal
 
 pub returns : goal.returns
-unfolding line.program line.asm line.dis line.verify line.run line.trace line.prove line.recheck line.explain
+unfolding line.program line.asm line.dis line.verify line.run line.trace line.prove line.recheck
+    line.explain
 returns c =
     let with-asm =
     command-added _ _ _ line.asm c.with_command-with_asm.ensures c.empty_program-empty.ensures in
