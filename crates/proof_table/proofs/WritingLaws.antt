@@ -160,7 +160,8 @@ GainsEntries-more p insns i old mid new e bytes insn found is g s written =
     }
 
 -- after some entries a part of the next one was written
-BeginsEntries-at : (p : Program) (insns : List ExploredInsn) (i count : ℕ) (old mid new : Option (List ℕ)) (e : Entry)
+BeginsEntries-at : (p : Program) (insns : List ExploredInsn) (i count : ℕ)
+    (old mid new : Option (List ℕ)) (e : Entry)
     → IsImage p → i < count → GainsEntries p insns i old mid → EntryFits p e
     → AppendsBeginning mid new (entry_bytes e) → BeginsEntries p count old new
 BeginsEntries-at p insns i count old mid new e image less g fits part =

@@ -5,11 +5,8 @@ use Rattle.std.specs.Io.KnownBytes.{Appends}
 use Rattle.isa_model.specs.Code.Instructions.{Program}
 use Rattle.isa_model.specs.declared.limits.TheConstants.{MAX_EXPLORED}
 use Rattle.exact_io.specs.Transfers.{AppendsBeginning}
-use Rattle.control_flow.specs.declared.errors.FlowError.TheVariants as flow
 use Rattle.stack_state.specs.Starts.{start}
 use Rattle.walks.specs.Counts.{HasNumber}
-use Rattle.walks.specs.declared.refusals.Refusal.{Refusal}
-use Rattle.walks.specs.declared.refusals.Refusal.TheVariants as refusal
 use Rattle.listeners.specs.declared.listing.ExploredInsn.{ExploredInsn}
 use Rattle.listeners.specs.Listed.{OfStart}
 use Rattle.table_entries.specs.declared.errors.WriteTableError.{WriteTableError}
@@ -49,7 +46,8 @@ abbrev pub table_length : List Entry → ℕ
 table_length entries = min (length (table_bytes entries)) (2 ^ 64 - 1)
 
 -- a table of these entries, which is read as them; the first one has the number of the start
-pub record GainsTableOf (p : Program) (entries : List Entry) (old new : Option (List ℕ)) : Type 0 where
+pub record GainsTableOf (p : Program) (entries : List Entry)
+    (old new : Option (List ℕ)) : Type 0 where
   pub read : table_read p (table_bytes entries) ≡ Ok entries
   pub number : OfFirst entries (HasNumber p start)
   pub gained : Appends old new (table_bytes entries)
@@ -104,12 +102,7 @@ pub record SpellsEntry (p : Program) (e : Entry) (bytes : List ℕ) : Type 0 whe
 
 -- ---- causes
 
--- why no table is written of a program that the verifier refuses
-abbrev pub error_of : Refusal → WriteTableError
-error_of refusal.Memory = Memory
-error_of (refusal.Flow flow.Memory) = Memory
-error_of r = Explored
-
+-- the writer failed
 abbrev pub IsWriters : WriteTableError → Type 0
 IsWriters (Writer kind) = Unit {0}
 IsWriters error = ⊥

@@ -4,7 +4,7 @@ ghost use Rattle.std.specs.Prelude.{◌≡◌, ◌≤◌, ◌⊎◌, OnOk, OnErr
 ghost use Rattle.std.specs.Io.KnownBytes.{Appends};
 ghost use Rattle.exact_io.specs.Transfers.{AppendsBeginning};
 ghost use Rattle.proof_table.specs.Spelling.{head_bytes};
-ghost use Rattle.proof_table.specs.Writing.{IsForTable, IsTableSize, GainsTable, GainsTableOf, BeginsTable, GainsEntries, BeginsEntries, SpellsEntry, Lacks, IsWriters, error_of, entries_for, table_length};
+ghost use Rattle.proof_table.specs.Writing.{IsForTable, IsTableSize, GainsTable, GainsTableOf, BeginsTable, GainsEntries, BeginsEntries, SpellsEntry, Lacks, IsWriters, entries_for, table_length};
 ghost use Rattle.proof_table.specs.Fitting.{entry_said};
 
 use crate::entries::spell_entry;
@@ -105,9 +105,8 @@ fn write_entries<W: Write>(
     Ok(())
 }
 
-fn error_of(refusal: Refusal) -> WriteTableError
-    ensures { result ≡ error_of refusal }
-{
+/// Why no table is written of a program that the verifier refuses.
+fn error_of(refusal: Refusal) -> WriteTableError {
     match refusal {
         Refusal::Memory | Refusal::Flow(FlowError::Memory) => WriteTableError::Memory,
         _ => WriteTableError::Explored,

@@ -20,14 +20,14 @@ returns-clause-ok g c =
 
 pub returns-in_default-clause-err : goal.returns-in_default-clause-err
 returns-in_default-clause-err g c =
-    BeginsEntries-some c.args.image.now c.args.explored.now c.loop-index.index c.args.count _ _ c.recall.ensures
-    c.loop-index-test.true c.loop-index.invariant
+    BeginsEntries-some c.args.image.now c.args.explored.now c.loop-index.index c.args.count _ _
+    c.recall.ensures c.loop-index-test.true c.loop-index.invariant
 
 pub returns-in_err-spell_explored-clause-err : goal.returns-in_err-spell_explored-clause-err
 returns-in_err-spell_explored-clause-err g c =
     on_err _ c.from_residual.result
-    (BeginsEntries-some c.args.image.now c.args.explored.now c.loop-index.index c.args.count _ _ c.recall.ensures
-    c.loop-index-test.true c.loop-index.invariant)
+    (BeginsEntries-some c.args.image.now c.args.explored.now c.loop-index.index c.args.count _ _
+    c.recall.ensures c.loop-index-test.true c.loop-index.invariant)
 
 pub returns-in_err-write_all-clause-err : goal.returns-in_err-write_all-clause-err
 returns-in_err-write_all-clause-err g c =

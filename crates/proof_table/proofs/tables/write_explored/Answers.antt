@@ -45,8 +45,9 @@ returns-clause-ok g c =
     (GainsTableOf p (entries_for c.args.explored.now) old new))
     c.image-image.ensures.program
     (on_ok_weaker c.write_entries.result
-    (λ (h : GainsEntries c.image-image.result.now c.args.explored.now n mid new). GainsTableOf-entries
-    c.image-image.result.now c.args.explored.now n old mid new c.len-count.ensures
+    (λ (h : GainsEntries c.image-image.result.now c.args.explored.now n mid new).
+    GainsTableOf-entries c.image-image.result.now c.args.explored.now n old mid new
+    c.len-count.ensures
     (omega (arith, c.requires.some, c.len-count.ensures))
     (omega (arith, c.requires.few, c.len-count.ensures))
     (subst (λ (p : Program). OfStart c.args.explored.now (HasNumber p start))
