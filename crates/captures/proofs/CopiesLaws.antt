@@ -107,7 +107,8 @@ module _ (form : FrameForm) (placing : Placing) (v : Version) (source : Origin)
         (subst (λ (x : Version). AppendsBeginning before now (start_as form x)) u.first b);
   }
 
-  module _ (frames : List PacketFrame) (known new : Option (List ℕ)) (p q : Position) (counts : CopyCounts)
+  module _ (frames : List PacketFrame) (known new : Option (List ℕ)) (p q : Position)
+      (counts : CopyCounts)
       (now flushed after : Option (List ℕ))
       (so : CopiedSoFar form placing v source before frames known p counts now)
       (kept : Keeps now flushed) where
@@ -132,7 +133,8 @@ module _ (form : FrameForm) (placing : Placing) (v : Version) (source : Origin)
           )
 
       -- one more frame was found and written
-      pub one_copied : (next : CopyCounts) → Appends flushed after (frame_as form v (placed placing f))
+      pub one_copied : (next : CopyCounts)
+          → Appends flushed after (frame_as form v (placed placing f))
           → next ≡ counts_after form counts f.body f.reason
           → CopiedSoFar form placing v source before (frames ++ f ∷ []) new q next after
       one_copied next w is =
@@ -144,7 +146,8 @@ module _ (form : FrameForm) (placing : Placing) (v : Version) (source : Origin)
                 ∙ counts_of-push form frames f;
             wrote =
                 subst (Appends before after) (sym (frames_as-push form placing v frames f))
-                (Appends-trans before flushed after _ (frame_as form v (placed placing f)) whole_flushed w);
+                (Appends-trans before flushed after _ (frame_as form v (placed placing f))
+                whole_flushed w);
           }
 
       -- one more frame was found, and written in part
@@ -159,7 +162,8 @@ module _ (form : FrameForm) (placing : Placing) (v : Version) (source : Origin)
                 inl (HasFound-begins source.may_fail v (frames ++ f ∷ []) source.bytes new q found);
             wrote =
                 subst (AppendsBeginning before after) (sym (frames_as-push form placing v frames f))
-                (AppendsBeginning-second before flushed after _ (frame_as form v (placed placing f)) whole_flushed
+                (AppendsBeginning-second before flushed after _ (frame_as form v (placed placing f))
+                whole_flushed
                 w);
           }
 

@@ -142,7 +142,8 @@ begun_part reasons head form size fits h = go (block_size form.order head) refl
     go (Ok n) is =
         let sized = block_size-is form.order head n is in
         let least = sized.2.least in
-        let kind = section_kind sized.0 head fits (begun_section reasons head form (omega arith) h) in
+        let kind =
+        section_kind sized.0 head fits (begun_section reasons head form (omega arith) h) in
         let many : 28 ≤ n =
         subst (λ k. least_size k ≤ n) kind least in
         omega arith

@@ -316,7 +316,8 @@ module _ (form : PcapngForm) (interfaces : List Interface) (block : List ℕ) wh
   abbrev section : PcapngSection
   section = record { form = form; interfaces = interfaces }
 
-  pub block_said-none : block_order form.order block ≡ None → block_said section block ≡ Err BadBlock
+  pub block_said-none : block_order form.order block ≡ None
+      → block_said section block ≡ Err BadBlock
   unfolding block_said
   block_said-none h = ap (said_by section block) h
 

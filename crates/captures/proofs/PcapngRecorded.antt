@@ -261,7 +261,8 @@ said-by_fields : (reasons : Reasons) (interfaces : List Interface) (bytes : List
       packets = packet ∷ [];
     })
 unfolding block_said
-said-by_fields reasons interfaces bytes number interface packet ordered ends section kind names found timed =
+said-by_fields reasons interfaces bytes number interface packet ordered ends section kind names
+    found timed =
     let same : (field LowFirst (length bytes - 4) bytes == length bytes) ≡ true =
     eq-eqb _ _ ends in
     rw (ordered, same, section, kind, names, found, timed) refl
@@ -316,8 +317,11 @@ module _ (f : PacketFrame) (short : length f.body ≤ max_packet) (small : f.rea
       × (block_length f ≤ max_block)
   total-range =
       let pads = padded-range size in
-      let options = options-range f.reason small in
-      (omega (arith, pads.0), omega (arith, pads.2, options.0), omega (arith, pads.1, options.1, short))
+      let options = options-range f.reason small in (
+        omega (arith, pads.0),
+        omega (arith, pads.2, options.0),
+        omega (arith, pads.1, options.1, short),
+      )
 
   length-first : length first ≡ 28
   unfolding block_head
@@ -327,7 +331,8 @@ module _ (f : PacketFrame) (short : length f.body ≤ max_packet) (small : f.rea
   length-block =
       let a = length-append first (f.body ++ tail) in
       let b = length-append f.body tail in
-      let c = length-append (padding size) (packet_options f.reason ++ little_bytes 4 (block_length f)) in
+      let c =
+      length-append (padding size) (packet_options f.reason ++ little_bytes 4 (block_length f)) in
       let d : length (packet_options f.reason ++ little_bytes 4 (block_length f))
       ≡ length (packet_options f.reason) + 4 =
       length-append (packet_options f.reason) (little_bytes 4 (block_length f)) in

@@ -13,7 +13,8 @@ pub five_pieces : (two three four five a b c d e : List ℕ) → two ≡ a ++ b 
     → four ≡ three ++ d → five ≡ four ++ e → five ≡ a ++ (b ++ (c ++ (d ++ e)))
 five_pieces two three four five a b c d e ab bc cd de =
     de
-    ∙ ap (λ (l : List ℕ). l ++ e) (cd ∙ ap (λ (l : List ℕ). l ++ d) (bc ∙ ap (λ (l : List ℕ). l ++ c) ab))
+    ∙ ap (λ (l : List ℕ). l ++ e)
+    (cd ∙ ap (λ (l : List ℕ). l ++ d) (bc ∙ ap (λ (l : List ℕ). l ++ c) ab))
     ∙ append_assoc (a ++ b ++ c) d e
     ∙ append_assoc (a ++ b) c (d ++ e)
     ∙ append_assoc a b (c ++ (d ++ e))

@@ -16,7 +16,8 @@ Read = List CapturedPacket × PacketEnd
 -- the packets of these bytes, wherever they are in a capture
 abbrev pub Reads : CaptureFormat → List Interface → List ℕ → Read → Type 0
 Reads format interfaces bytes read =
-    (fuel offset : ℕ) → length bytes < fuel → packets_from fuel format interfaces offset bytes ≡ read
+    (fuel offset : ℕ) → length bytes < fuel
+    → packets_from fuel format interfaces offset bytes ≡ read
 
 pub reads-end : (format : CaptureFormat) (interfaces : List Interface)
     → Reads format interfaces [] ([], ending.End)

@@ -80,7 +80,8 @@ written-block a b c n m d piece block e is one two =
 -- the interfaces were written, and then an error came
 pub failed-block : {X E : Type 0} (r : Result X E) (a b c : Option (List ℕ)) (n m d : ℕ)
     (piece block : List ℕ) → n ≡ m → piece ≡ block → Appends a b (interface_blocks (n - d))
-    → AppendsBeginning b c piece → OnErr r (AppendsBeginning a c (interface_blocks (m - d) ++ block))
+    → AppendsBeginning b c piece
+    → OnErr r (AppendsBeginning a c (interface_blocks (m - d) ++ block))
 failed-block (Ok x) a b c n m d piece block e is one two = tt
 failed-block (Err x) a b c n m d piece block e is one two =
     subst (λ (k : ℕ). AppendsBeginning a c (interface_blocks (k - d) ++ block)) e
@@ -126,7 +127,8 @@ pub so_far-more : (form : CaptureForm) (failure : Option ErrorKind) (version : O
     → Appends handed handed' more
     → IsWrittenSoFar form failure version part d l origin handed before reached
     → IsWrittenSoFar form failure version (part ++ more) d l origin handed' before reached
-so_far-more form (Some kind) version part more d l origin handed handed' before reached n h w = absurd (cc n)
+so_far-more form (Some kind) version part more d l origin handed handed' before reached n h w =
+    absurd (cc n)
 so_far-more form None version part more d l origin handed handed' before reached n h w =
     record {
       frames = w.frames;
@@ -167,7 +169,8 @@ begun_by : (form : CaptureForm) (failure : Option ErrorKind) (version : Option V
     → TakesPart form version d l part reached reached' (Ok (taken.Begun v))
     → IsWrittenSoFar form failure version part d l origin handed before reached
     → IsWrittenSoFar form failure (Some v) [] d l origin handed before reached'
-begun_by form (Some kind) version v part d l origin handed before reached reached' n t w = absurd (cc n)
+begun_by form (Some kind) version v part d l origin handed before reached reached' n t w =
+    absurd (cc n)
 begun_by form None (Some x) v part d l origin handed before reached reached' n t w = absurd (cc t.0)
 begun_by form None None v part d l origin handed before reached reached' n t w =
     let none = no_frames form in
@@ -198,8 +201,10 @@ written_by : (form : CaptureForm) (failure : Option ErrorKind) (version : Option
     → TakesPart form version d l part reached reached' (Ok (taken.Written after loses))
     → IsWrittenSoFar form failure version part d l origin handed before reached
     → IsWrittenSoFar form failure version [] after loses origin handed before reached'
-written_by form (Some kind) version part d after l loses origin handed before reached reached' n t w = absurd (cc n)
-written_by form None None part d after l loses origin handed before reached reached' n t w = absurd (cc t.has_version)
+written_by form (Some kind) version part d after l loses origin handed before reached reached' n t w
+    = absurd (cc n)
+written_by form None None part d after l loses origin handed before reached reached' n t w =
+    absurd (cc t.has_version)
 written_by form None (Some v) part d after l loses origin handed before reached reached' n t w =
     let f = t.frame in
     let c = capture_of form w.frames in
@@ -218,7 +223,8 @@ written_by form None (Some v) part d after l loses origin handed before reached 
           (subst (λ (p : List ℕ). Appends origin handed (handed_bytes (Some v) w.frames p))
           (t.is_record ∙ ap (λ (x : Version). record_bytes x f) own) w.stream);
       describes = t.describes ∙ ap (λ (x : CaptureSoFar). (with_frame form x f).described) parts
-          ∙ sym (described_by form c f _ refl) ∙ ap (λ (x : CaptureSoFar). x.described) (sym pushed);
+          ∙ sym (described_by form c f _ refl)
+          ∙ ap (λ (x : CaptureSoFar). x.described) (sym pushed);
       loses = t.lost_is ∙ ap (λ (x : CaptureSoFar). (with_frame form x f).lost) parts
           ∙ sym (lost_by form c f _ refl) ∙ ap (λ (x : CaptureSoFar). x.lost) (sym pushed);
       wrote = subst (Appends before reached') bytes
@@ -233,7 +239,8 @@ pub so_far-written : (form : CaptureForm) (failure : Option ErrorKind) (version 
     → TakesPart form version d l part reached reached' (Ok r)
     → IsWrittenSoFar form failure version part d l origin handed before reached
     → IsWrittenSoFar form failure version [] after loses origin handed before reached'
-so_far-written form failure version part d after l loses origin handed before reached reached' n r is h w =
+so_far-written form failure version part d after l loses origin handed before reached reached' n r
+    is h w =
     written_by form failure version part d after l loses origin handed before reached reached' n
     (subst (λ (x : PartTaken). TakesPart form version d l part reached reached' (Ok x)) is h) w
 
@@ -244,7 +251,8 @@ pub so_far-failed : (form : CaptureForm) (failure : Option ErrorKind) (version :
     → TakesPart form version d l part reached reached' (Err kind)
     → IsWrittenSoFar form failure version part d l origin handed before reached
     → HasWrittenPart form origin handed before reached'
-so_far-failed form (Some k) version part d l kind origin handed before reached reached' n t w = absurd (cc n)
+so_far-failed form (Some k) version part d l kind origin handed before reached reached' n t w =
+    absurd (cc n)
 so_far-failed form None None part d l kind origin handed before reached reached' n t w =
     record {
       frames = [];
@@ -265,7 +273,8 @@ so_far-failed form None (Some v) part d l kind origin handed before reached reac
     ≡ (capture_of form (w.frames ++ (f ∷ []))).bytes =
     ap (λ (x : CaptureSoFar). c.bytes ++ (with_frame form x f).bytes) parts
     ∙ sym (with_frame-bytes form c f)
-    ∙ ap (λ (x : CaptureSoFar). x.bytes) (sym (with_frames-push form (empty_capture form) w.frames f)) in
+    ∙ ap (λ (x : CaptureSoFar). x.bytes)
+    (sym (with_frames-push form (empty_capture form) w.frames f)) in
     record {
       frames = w.frames;
       more = f ∷ [];
@@ -283,7 +292,8 @@ pub so_far-stopped : (form : CaptureForm) (failure : Option ErrorKind) (version 
     → Keeps reached reached'
     → IsWrittenSoFar form failure version part d l origin handed before reached
     → HasWrittenPart form origin handed before reached'
-so_far-stopped form (Some k) version part d l origin handed before reached reached' n kept w = absurd (cc n)
+so_far-stopped form (Some k) version part d l origin handed before reached reached' n kept w =
+    absurd (cc n)
 so_far-stopped form None None part d l origin handed before reached reached' n kept w =
     record {
       frames = [];
@@ -300,7 +310,8 @@ so_far-stopped form None (Some v) part d l origin handed before reached reached'
       version = Some v;
       part = part;
       stream = w.stream;
-      wrote = subst (λ (fs : List PacketFrame). AppendsFront before reached' (capture_of form fs).bytes)
+      wrote =
+          subst (λ (fs : List PacketFrame). AppendsFront before reached' (capture_of form fs).bytes)
           (sym (append-nil w.frames))
           (Front-all before reached' _ (Appends-kept before reached reached' _ w.wrote kept));
     }

@@ -114,7 +114,8 @@ front_more e front last registers slots i d f below made h =
             ∙ get_or-set_same front.callers.items i f no_frame inside in
             let was : get_or front.callers.items i d ≡ get_or e.callers.items i no_frame =
             get_or_default front.callers.items i d no_frame inside ∙ h.rest i (omega arith) in
-            subst (λ x. IsPart last registers slots j (get_or e.callers.items j no_frame) x) (sym own)
+            subst (λ x. IsPart last registers slots j (get_or e.callers.items j no_frame) x)
+            (sym own)
             (subst (λ (n : ℕ). IsPart last registers slots n (get_or e.callers.items n no_frame) f)
             (sym same) (subst (λ x. IsPart last registers slots i x f) was made))
         | inr apart ↦

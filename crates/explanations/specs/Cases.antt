@@ -172,8 +172,8 @@ hint_line NullNotTested =
     codes "test it first, as by if r0 == 0 goto .., and use it where it is not 0\n"
 hint_line PointerStored =
     codes "store it with 8 bytes into the function's own stack: *(u64 *)(r10 - 8) = r1\n"
-hint_line Comparison =
-    codes "compare a packet pointer with the packet end by < <= > >=, a value pointer with 0, at 64 bits\n"
+hint_line Comparison = codes
+    "compare a packet pointer with the packet end by < <= > >=, a value pointer with 0, at 64 bits\n"
 hint_line TooManyFrames = codes
     "write the function's instructions in place of the call; in place of a recursion, a loop\n"
 hint_line PacketAtomic = codes "load, compute and store instead\n"

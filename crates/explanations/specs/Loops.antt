@@ -40,8 +40,8 @@ again_line jump turns =
     ++ codes " times on this path: limit what ends that (r2 &= 15)\n")))))
 
 abbrev pub no_loop_line : List ℕ
-no_loop_line =
-    codes "this path ends in no loop, there are too many paths: let them meet with the same knowledge\n"
+no_loop_line = codes
+    "this path ends in no loop, there are too many paths: let them meet with the same knowledge\n"
 
 -- the loop from its first slot, to which its jump goes back, to that jump, and how often the path
 -- comes to its first slot

@@ -57,7 +57,8 @@ operand_line a i =
 abbrev pub offset_by : Kind → List ℕ
 offset_by (kind.Stack frame offset) = codes
     "a frame pointer moves by constants: keep what a number selects in a map's value\n"
-offset_by k = codes "limit the number first (r3 &= 1023): a pointer moves by at most 536870912 bytes\n"
+offset_by k = codes
+    "limit the number first (r3 &= 1023): a pointer moves by at most 536870912 bytes\n"
 
 abbrev pub offset_line : State → Insn → List ℕ
 offset_line a (Alu w op d source) = offset_by (kind_of a d)
@@ -65,8 +66,10 @@ offset_line a i = []
 
 -- what reaches memory, in place of a value of this kind
 abbrev pub memory_by : Kind → List ℕ
-memory_by (kind.Map m) = codes "a map is no memory: look a key up (call 1), and use r0 where it is not 0\n"
-memory_by kind.PacketEnd = codes "read through the packet pointer, the load at r1 + 0, and compare it with this\n"
+memory_by (kind.Map m) = codes
+    "a map is no memory: look a key up (call 1), and use r0 where it is not 0\n"
+memory_by kind.PacketEnd = codes
+    "read through the packet pointer, the load at r1 + 0, and compare it with this\n"
 memory_by (kind.Number numbers) = codes
     "a number is no address, and 0 is a look-up that found nothing: use a pointer, or the other branch\n"
 memory_by k = codes "memory is reached by r1 of the start, r10, a packet or a value pointer\n"

@@ -22,7 +22,8 @@ refused_with r e slot fact same h = subst (λ x. IfErr x (λ h. IfRefused h fact
 -- a program that must be accepted does not get the refusal
 pub rejected_accepts : {S : Type 0} (stop : Unverified S) (p : Program) → IsProgram p
     → IfRejected stop (IsRefused p) → IfRejected stop (λ e _. AcceptsAll p e)
-rejected_accepts (Rejected r) p program refused = AcceptsAll-refused p r.refusal r.slot program refused
+rejected_accepts (Rejected r) p program refused =
+    AcceptsAll-refused p r.refusal r.slot program refused
 rejected_accepts (Stopped stop) p program refused = tt
 
 -- ---- what may be missing

@@ -18,11 +18,13 @@ returns-in_default-clause-said c =
 
 pub overflow_sub-size : goal.overflow_sub-size
 overflow_sub-size c =
-    let long = block_size-least c.args.form.order c.args.block.now _ c.requires in omega (arith, long)
+    let long = block_size-least c.args.form.order c.args.block.now _ c.requires in
+    omega (arith, long)
 
 pub number_at-requires : goal.number_at-requires
 number_at-requires c =
-    let long = block_size-least c.args.form.order c.args.block.now _ c.requires in omega (arith, long)
+    let long = block_size-least c.args.form.order c.args.block.now _ c.requires in
+    omega (arith, long)
 
 pub overflow_cast-number_at : goal.overflow_cast-number_at
 overflow_cast-number_at c = omega (arith, c.number_at.type_inv)
@@ -40,7 +42,8 @@ returns-then-number_at-size-clause-said c =
 
 pub is_section-requires : goal.is_section-requires
 is_section-requires c =
-    let long = block_size-least c.args.form.order c.args.block.now _ c.requires in omega (arith, long)
+    let long = block_size-least c.args.form.order c.args.block.now _ c.requires in
+    omega (arith, long)
 
 pub returns-then-is_section-clause-said : goal.returns-then-is_section-clause-said
 returns-then-is_section-clause-said c =
@@ -62,7 +65,8 @@ returns-then-is_section-clause-said c =
 
 pub number_at-requires-2 : goal.number_at-requires-2
 number_at-requires-2 c =
-    let long = block_size-least c.args.form.order c.args.block.now _ c.requires in omega (arith, long)
+    let long = block_size-least c.args.form.order c.args.block.now _ c.requires in
+    omega (arith, long)
 
 pub take_in-requires : goal.take_in-requires
 take_in-requires c =

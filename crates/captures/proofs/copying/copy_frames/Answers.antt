@@ -21,7 +21,8 @@ pub frames-preserved : goal.frames-preserved
 frames-preserved g c =
     let (frames, s) = c.frames.invariant in (
       _,
-      one_copied c.args.form c.args.placing _ _ _ frames _ _ _ _ _ _ _ _ s c.hand_on.ensures _ c.in-Frame.ensures.finds
+      one_copied c.args.form c.args.placing _ _ _ frames _ _ _ _ _ _ _ _ s c.hand_on.ensures _
+          c.in-Frame.ensures.finds
           _ (rw c.placed-own.ensures at c.in-Ok-write_as.ensures.ok)
           c.after-counts.ensures,
     )
@@ -29,17 +30,20 @@ frames-preserved g c =
 pub returns-in-Err-write_as : goal.returns-in-Err-write_as
 returns-in-Err-write_as g c =
     let (frames, s) = c.frames.invariant in
-    one_failed c.args.form c.args.placing _ _ _ frames _ _ _ _ _ _ _ _ s c.hand_on.ensures _ c.in-Frame.ensures.finds
+    one_failed c.args.form c.args.placing _ _ _ frames _ _ _ _ _ _ _ _ s c.hand_on.ensures _
+    c.in-Frame.ensures.finds
     (rw c.placed-own.ensures at c.in-Err-write_as.ensures.err)
 
 pub returns-in-End : goal.returns-in-End
 returns-in-End g c =
     let (frames, s) = c.frames.invariant in
-    all_copied c.args.form c.args.placing _ _ _ frames _ _ _ _ _ _ _ (g.W.Write.contents c.hand_on.new.out) s
+    all_copied c.args.form c.args.placing _ _ _ frames _ _ _ _ _ _ _
+    (g.W.Write.contents c.hand_on.new.out) s
     c.hand_on.ensures _ _ c.in-End.ensures.finds refl
 
 pub returns-in-Fault : goal.returns-in-Fault
 returns-in-Fault g c =
     let (frames, s) = c.frames.invariant in
-    all_copied c.args.form c.args.placing _ _ _ frames _ _ _ _ _ _ _ (g.W.Write.contents c.hand_on.new.out) s
+    all_copied c.args.form c.args.placing _ _ _ frames _ _ _ _ _ _ _
+    (g.W.Write.contents c.hand_on.new.out) s
     c.hand_on.ensures _ _ c.in-Fault.ensures.finds refl

@@ -9,7 +9,8 @@ returns-in-Cooked-clause-frame c =
     let start = c.args.start in
     let end = c.args.end in
     let block = c.args.block.now in
-    frame_settled start end c.settle_cooked.result block c.settle_cooked.new.packet c.requires.ordered
+    frame_settled start end c.settle_cooked.result block c.settle_cooked.new.packet
+    c.requires.ordered
     c.requires.inside
     (c.settle_cooked.auto.packet
     ∙ length-range start end block c.requires.ordered c.requires.inside)
@@ -22,7 +23,8 @@ returns-in-Cooked2-clause-frame c =
     let start = c.args.start in
     let end = c.args.end in
     let block = c.args.block.now in
-    frame_settled start end c.settle_cooked2.result block c.settle_cooked2.new.packet c.requires.ordered
+    frame_settled start end c.settle_cooked2.result block c.settle_cooked2.new.packet
+    c.requires.ordered
     c.requires.inside
     (c.settle_cooked2.auto.packet
     ∙ length-range start end block c.requires.ordered c.requires.inside)
@@ -48,7 +50,8 @@ returns-in-Loop-clause-frame c =
     let end = c.args.end in
     let block = c.args.block.now in
     c.headed-in-Loop.ensures.frame
-    ∙ ap (λ n. ethernet_head n ++ slice_range block c.min-in-Loop.result end) c.loop_type-kind.ensures
+    ∙ ap (λ n. ethernet_head n ++ slice_range block c.min-in-Loop.result end)
+    c.loop_type-kind.ensures
     ∙ ap (λ l. ethernet_head (loop_type (slice_range block start end)) ++ l)
     (ap (λ n. slice_range block n end) c.min-in-Loop.ensures
     ∙ behind_family start end block c.requires.ordered c.requires.inside)

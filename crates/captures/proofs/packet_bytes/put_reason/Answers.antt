@@ -26,7 +26,8 @@ returns-clause-front c =
     (same-piece _ _ _ _ c.put-at-4.ensures.front pads)
     c.put.ensures.front
     ∙ ap (λ (l : List ℕ). little_bytes 2 1 ++ little_bytes 2 (length comment) ++ l)
-    (sym (append_assoc (codes "reason ") (decimal reason) (padding (length comment) ++ replicate 4 0)))
+    (sym (append_assoc (codes "reason ") (decimal reason)
+    (padding (length comment) ++ replicate 4 0)))
     ∙ append_assoc (little_bytes 2 1) (little_bytes 2 (length comment)) _
 
 pub returns-clause-size : goal.returns-clause-size

@@ -27,7 +27,8 @@ returns-in-Some c =
     ∙ reason_in-found order rest (4 + padded (short_field order 2 rest)) some
     (grind (arith, nat_tests, kind, c.if-kind-eq0.false)) refl (omega arith) c.in-Some.reason
     (ap (option_reason (short_field order 0 rest)) (sym value)
-    ∙ ap (λ n. option_reason n (take (c.min-end.result - 4) (drop 4 rest))) (sym kind) ∙ sym c.option_reason.ensures ∙ c.in-Some.is))
+    ∙ ap (λ n. option_reason n (take (c.min-end.result - 4) (drop 4 rest))) (sym kind)
+    ∙ sym c.option_reason.ensures ∙ c.in-Some.is))
 
 pub loop-rest-smaller : goal.loop-rest-smaller
 loop-rest-smaller c =
@@ -53,7 +54,8 @@ loop-rest-preserved c =
     ∙ ap (λ n. min (length rest) (4 + (n + 3) / 4 * 4)) size))
     (omega (arith, some, c.min-next.ensures))
     (ap (option_reason (short_field order 0 rest)) (sym value)
-    ∙ ap (λ n. option_reason n (take (c.min-end.result - 4) (drop 4 rest))) (sym kind) ∙ sym c.option_reason.ensures ∙ c.in_default.is)
+    ∙ ap (λ n. option_reason n (take (c.min-end.result - 4) (drop 4 rest))) (sym kind)
+    ∙ sym c.option_reason.ensures ∙ c.in_default.is)
     ∙ ap (reason_in order) (sym c.split_at.ensures.back)
 
 pub returns : goal.returns

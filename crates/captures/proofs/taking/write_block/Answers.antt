@@ -23,7 +23,8 @@ returns-clause-ok g c =
     record { head = c.args.head.now; body = c.args.body.now; reason = c.args.reason } in
     let described = c.args.described in
     let e : c.max-after.result ≡ max described (named_interface f.head.interface + 1) =
-    c.max-after.ensures ∙ ap (λ (n : ℕ). max described (n + 1)) c.named_interface.ensures.number in (
+    c.max-after.ensures
+    ∙ ap (λ (n : ℕ). max described (n + 1)) c.named_interface.ensures.number in (
       e,
       written-block (g.W.Write.contents c.args.output.now)
           (g.W.Write.contents c.write_interfaces.new.output)

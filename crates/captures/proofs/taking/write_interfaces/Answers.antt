@@ -11,7 +11,8 @@ loop-init g c = Appends-nil (g.W.Write.contents c.args.output.now)
 
 pub returns-in_err-write_bytes-clause-err : goal.returns-in_err-write_bytes-clause-err
 returns-in_err-write_bytes-clause-err g c =
-    interface_blocks-part c.from_residual.result _ _ _ c.loop.counter c.args.count (omega (arith, c.loop-test.true))
+    interface_blocks-part c.from_residual.result _ _ _ c.loop.counter c.args.count
+    (omega (arith, c.loop-test.true))
     c.loop.invariant c.in_err-write_bytes.ensures.err
 
 pub loop-preserved : goal.loop-preserved

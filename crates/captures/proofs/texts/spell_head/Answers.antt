@@ -10,7 +10,8 @@ unfolding head_line
 returns-clause-front c =
     let head = c.args.head.now in
     let two = then-piece _ _ _ _ c.put-at.ensures.front
-    (same-piece _ _ _ _ c.put-at-2.ensures.front (c.as_bytes.ensures.value ∙ c.format.ensures.text)) in
+    (same-piece _ _ _ _ c.put-at-2.ensures.front
+    (c.as_bytes.ensures.value ∙ c.format.ensures.text)) in
     let three = then-piece _ _ _ _ two c.put-at-3.ensures.front in
     let four = then-piece _ _ _ _ three
     (same-piece _ _ _ _ c.put-at-4.ensures.front

@@ -9,11 +9,13 @@ returns-in-Ended g c =
 
 pub returns-in-Err : goal.returns-in-Err
 returns-in-Err g c =
-    opens_refused c.args.reasons g.R.Source.remaining _ _ c.fill.new.buffer c.in-Err.refusal c.fill.auto.buffer
+    opens_refused c.args.reasons g.R.Source.remaining _ _ c.fill.new.buffer c.in-Err.refusal
+    c.fill.auto.buffer
     c.in-Whole.ensures.fills (sym c.capture_format.ensures ∙ c.in-Err.is)
 
 pub returns-in-Ok-begun : goal.returns-in-Ok-begun
 returns-in-Ok-begun g c =
-    opens_read c.args.reasons g.R.Source.remaining _ c.fill.new.buffer c.fill.new.source c.in-Ok.format _
+    opens_read c.args.reasons g.R.Source.remaining _ c.fill.new.buffer c.fill.new.source
+    c.in-Ok.format _
     c.fill.auto.buffer c.in-Whole.ensures.fills (sym c.capture_format.ensures ∙ c.in-Ok.is)
     c.in-Ok-begun.ensures

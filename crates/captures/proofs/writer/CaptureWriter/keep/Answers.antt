@@ -13,7 +13,8 @@ invariant_of-self g c =
     let size = c.min-size.result in
     let more = take size c.args.bytes.now in
     let piece = c.copy_from_slice.new.self in
-    let long : s.count + size ≡ s.count + length piece = omega (arith, c.copy_from_slice.ensures.len) in
+    let long : s.count + size ≡ s.count + length piece =
+    omega (arith, c.copy_from_slice.ensures.len) in
     let grown : take (s.count + size) (put_mid s.count (s.count + size - s.count) s.part piece)
     ≡ take s.count s.part ++ more =
     take-put_mid s.count (s.count + size - s.count) s.part piece (s.count + size) long
@@ -31,6 +32,7 @@ invariant_of-self g c =
           (held g.W.Write.contents s.output)) (sym grown)
           (so_far-more s.written.form s.failure s.written.version (take s.count s.part) more
           s.written.described s.written.lost g.T.Followed.origin (g.T.Followed.handed s.trail)
-          (g.T.Followed.handed c.note.new.self) g.T.Followed.before (held g.W.Write.contents s.output)
+          (g.T.Followed.handed c.note.new.self) g.T.Followed.before
+          (held g.W.Write.contents s.output)
           c.requires c.note.ensures w));
     }

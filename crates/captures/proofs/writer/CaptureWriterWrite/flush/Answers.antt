@@ -12,7 +12,8 @@ invariant_of-self g c =
       inside = s.inside;
       headed = s.headed;
       formed = s.formed;
-      so_far = ∥∥₁_map s.so_far (λ w. so_far-kept s.written.form s.failure s.written.version (take s.count s.part)
+      so_far = ∥∥₁_map s.so_far
+          (λ w. so_far-kept s.written.form s.failure s.written.version (take s.count s.part)
           s.written.described s.written.lost g.T.Followed.origin (g.T.Followed.handed s.trail)
           g.T.Followed.before (held g.W.Write.contents s.output)
           (held g.W.Write.contents c.flush.new.self) c.flush.ensures.bytes w);
@@ -26,7 +27,8 @@ invariant_of-self-in-Err-flush g c =
       inside = s.inside;
       headed = s.headed;
       formed = s.formed;
-      so_far = ∥∥₁_map s.so_far (λ w. so_far-stopped s.written.form s.failure s.written.version (take s.count s.part)
+      so_far = ∥∥₁_map s.so_far
+          (λ w. so_far-stopped s.written.form s.failure s.written.version (take s.count s.part)
           s.written.described s.written.lost g.T.Followed.origin (g.T.Followed.handed s.trail)
           g.T.Followed.before (held g.W.Write.contents s.output)
           (held g.W.Write.contents c.flush.new.self) c.in-Ok.ensures.failure

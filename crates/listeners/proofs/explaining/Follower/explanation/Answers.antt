@@ -7,7 +7,8 @@ use Rattle.listeners.proofs.explaining.Follower.explanation.Goals as goal
 pub returns-in-Ok : goal.returns-in-Ok
 returns-in-Ok c = λ how p before s h at.
     let self = c.args.self.now in
-    let count = count_of how self.image.now p self.slots.items self.slot self.turns (s ∷ before) s h in
+    let count =
+    count_of how self.image.now p self.slots.items self.slot self.turns (s ∷ before) s h in
     let further =
     earlier_found _ _ (s ∷ before) s self.turns c.earlier_before.result c.earlier_before.ensures at
     (search rules) h.turns_are in
