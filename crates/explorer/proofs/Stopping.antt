@@ -74,16 +74,6 @@ halted (Stopped stop) e slot P same h = tt
 
 -- ---- searches that are not made again
 
-stops_exactly : (p : Program) (kept : Option KeptNumbers) (e : Refusal) (slot : ℕ)
-    → (IsForNumbers e → kept ≡ None) → StopsAt (precision_in kept) p e slot → StopsAt Exact p e slot
-stops_exactly p kept (Flow e) slot none h = h
-stops_exactly p kept (Step e) slot none h =
-    subst (λ k. StopsAt (precision_in k) p (Step e) slot) (none tt) h
-stops_exactly p kept Repeats slot none h =
-    subst (λ k. StopsAt (precision_in k) p Repeats slot) (none tt) h
-stops_exactly p kept TooLong slot none h = h
-stops_exactly p kept Memory slot none h = h
-
 ends_as_precise : (p : Program) (kept : Option KeptNumbers)
     (tales : Precision → List State → State → Type 0) (e : Refusal) (slot : ℕ)
     → (IsForNumbers e → kept ≡ None) → InEach kept (λ how. EndsIn p (tales how) e slot)
@@ -101,14 +91,6 @@ none_open : (S : Type 0) (e : Refusal) (slot : ℕ) (kept : Option KeptNumbers)
     → (IsSearchedAgain {S = S} (Err (Refused e slot)) kept → ⊥) → IsForNumbers e → kept ≡ None
 none_open S e slot None closed for = refl
 none_open S e slot (Some k) closed for = absurd (closed for)
-
-pub closed_stops : {S : Type 0} (r : Result ℕ (Halt S)) (kept : Option KeptNumbers) (p : Program)
-    → (IsSearchedAgain r kept → ⊥) → IfErr r (λ h. IfRefused h (StopsAt (precision_in kept) p))
-    → IfErr r (λ h. IfRefused h (StopsAt Exact p))
-closed_stops (Ok n) kept p closed stops = tt
-closed_stops (Err (Stopped stop)) kept p closed stops = tt
-closed_stops {S = S} (Err (Refused e slot)) kept p closed stops =
-    stops_exactly p kept e slot (none_open S e slot kept closed) stops
 
 pub closed_ends : {S : Type 0} (r : Result ℕ (Halt S)) (kept : Option KeptNumbers) (p : Program)
     (tales : Precision → List State → State → Type 0) → (IsSearchedAgain r kept → ⊥)

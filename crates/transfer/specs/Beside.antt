@@ -3,15 +3,8 @@ use Rattle.std.specs.Prelude.{Bool, true, false, Result, Ok, Err}
 use Rattle.isa_model.specs.declared.instructions.Insn.{Insn}
 use Rattle.isa_model.specs.declared.instructions.Insn.TheVariants.{Alu, Neg, MovSx, ByteSwap, LoadNumber, LoadMap, LoadMapValue, Load, LoadSx, Jump, JumpLong}
 use Rattle.stack_state.specs.declared.states.State.{State}
-use Rattle.branch_refine.specs.declared.outcomes.BranchOutcome.{BranchOutcome}
-use Rattle.branch_refine.specs.declared.outcomes.BranchOutcome.TheVariants.{Learned}
 use Rattle.transfer.specs.declared.Ways.{Ways}
 use Rattle.transfer.specs.declared.refusals.Refusal.{Refusal}
-
--- the outcome shows something of all values of an identity, those of callers too
-abbrev pub learns : BranchOutcome → Bool
-learns (Learned fact) = true
-learns o = false
 
 -- the form sets a register, or jumps always
 abbrev pub keeps_callers : Insn → Bool

@@ -7,7 +7,7 @@ ghost use Rattle.branch_refine.specs.Comparing.{compared_by, IsDefined};
 ghost use Rattle.branch_refine.specs.Leaving.{goes, left_in, MayBePut};
 ghost use Rattle.transfer.specs.Refusing.{is_untested, is_untested_operand, comparison_refusal};
 ghost use Rattle.transfer.specs.Exact.{Sides, BranchesOr};
-ghost use Rattle.transfer.specs.Beside.{learns, beside, ways_in, beside_in};
+ghost use Rattle.transfer.specs.Beside.{beside, ways_in, beside_in};
 
 use crate::Ways;
 use crate::refusals::Refusal;
@@ -55,13 +55,6 @@ fn comparison_refusal(cond: Cond, state: &State) -> Refusal
     }
 }
 
-/// Returns whether an outcome shows something of values that callers may have too.
-fn learns(outcome: BranchOutcome) -> bool
-    ensures { result ≡ learns outcome }
-{
-    matches!(outcome, BranchOutcome::Learned(_))
-}
-
 /// The two sides of a conditional jump: `state` becomes the fall-through's, at `next`, and `other`
 /// the jump's, at `target`. If only one side is taken, `state` becomes that side's, and no state is
 /// copied. True: the callers stay as they are, and of a second side they are not copied either.
@@ -82,9 +75,11 @@ fn split(
 {
     let (stay, go) = outcomes;
     let (next, target) = destinations;
+    let stay_learns = matches!(stay, BranchOutcome::Learned(_));
+    let go_learns = matches!(go, BranchOutcome::Learned(_));
     match (stay.goes(), go.goes()) {
         (true, true) => {
-            let shares = !learns(stay) && !learns(go);
+            let shares = !stay_learns && !go_learns;
             match shares {
                 true => other.innermost.copy_from(&state.innermost),
                 false => other.copy_from(state),
@@ -98,12 +93,12 @@ fn split(
         (true, false) => {
             stay.put(cond, state);
             state.slot = next;
-            (Ways::One, !learns(stay))
+            (Ways::One, !stay_learns)
         }
         (false, true) => {
             go.put(cond, state);
             state.slot = target;
-            (Ways::One, !learns(go))
+            (Ways::One, !go_learns)
         }
         (false, false) => (Ways::None, false),
     }
