@@ -51,7 +51,8 @@ class Module:
         self.items: dict[str, Item] = {}
         self.of_constructor: dict[str, str] = {}
         for line in self.lines:
-            self.import_line(line)
+            if "use Rattle." in line:
+                self.import_line(line)
 
     def import_line(self, line: str) -> None:
         found = USE.match(line)
@@ -155,9 +156,9 @@ class Base:
         """The file of code of a type or of the constants of a module."""
         crate, rest = module.split(".specs.declared.")
         path = f"crates/{crate}/src/{rest.split('.')[0]}.rt"
-        if os.path.exists(os.path.join(self.top, path)):
-            return self.code.setdefault(path, Code(path, self.top))
-        return None
+        if path not in self.code and os.path.exists(os.path.join(self.top, path)):
+            self.code[path] = Code(path, self.top)
+        return self.code.get(path)
 
     def follow(self, module: str, name: str) -> Place | None:
         """Where a name of a module is declared. None: in the kit, or nowhere."""

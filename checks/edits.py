@@ -4,6 +4,7 @@ An edit is a file of lines 'file: PATH', below the crate, and of pairs 'old: TEX
 that is replaced is in its file once. Where no changed line is in a function, as if a constant is changed, a line
 '# refused in: FUNCTION' names the one that must be refused.
 """
+import functools
 import os
 import re
 from collections.abc import Iterator
@@ -69,9 +70,14 @@ def is_end(line: str, indent: str) -> bool:
     return line == indent + "}" or re.match(indent + r"[^ ].*(;|\})$", line) is not None
 
 
-def functions(text: str) -> Iterator[Function]:
+@functools.cache
+def functions(text: str) -> tuple[Function, ...]:
     """The functions of a file. Lines begin at 0; in the block of a trait this is the type."""
-    lines, block = text.split("\n"), None
+    return tuple(found_functions(text.split("\n")))
+
+
+def found_functions(lines: list[str]) -> Iterator[Function]:
+    block = None
     for at, line in enumerate(lines):
         if line.startswith("}"):
             block = None

@@ -18,9 +18,10 @@ needless   those of them whose definition no other definition, no other clause a
 --each KIND prints each of a kind with its place. The exit status is 1 if there are more of a kind than LIMITS says. In the gate.
 """
 import collections
+import functools
 import re
 import sys
-from collections.abc import Iterator
+from collections.abc import Iterable, Iterator
 from pathlib import Path
 from typing import NamedTuple
 
@@ -34,7 +35,9 @@ HEAD = re.compile(r"(?:pub )?([^\W\d][^\s:(){}.]*) :(?: |$)")
 BINDER = re.compile(r"[({]([^():{}]+) :")
 BLANKS = re.compile(r"(?:(?<![^\s(])_\s+){4,}_(?![^\s)])")
 FUNCTION = re.compile(r"^( *)(pub(?:\(\w+\))? )?(?:const )?fn (\w+)", re.MULTILINE)
+RESULT = re.compile(r"\bresult(?:\.now)? ≡ (?:spec\.)?(\w+)")
 CLAUSE = re.compile(r"\bensures(?: \w+)? \{")
+IMPORT = re.compile(r"use Rattle\.(\w+)\.")
 DEFINITION = re.compile(r"(?:(?:abbrev|unfoldable|pub) )+([^\W\d][^\s:(){}.]*) :(?: |$)")
 NO_LEMMA = re.compile(r"Examples\.antt:|/The[A-Z]\w*/")  # computed examples, and what a trait asks for
 
@@ -48,21 +51,43 @@ class Lemma(NamedTuple):
     lines: list[str]
 
 
+@functools.cache
+def every_file() -> list[Path]:
+    """The files of the crates that no build made."""
+    return [path for path in sorted(CRATES.rglob("*.*")) if "out" not in path.relative_to(CRATES).parts]
+
+
 def files(*endings: str) -> Iterator[Path]:
-    """The files of the crates by these endings, which no build made."""
-    for path in sorted(CRATES.rglob("*")):
-        if path.suffix in endings and "out" not in path.relative_to(CRATES).parts:
-            yield path
+    """Those of them by these endings."""
+    return (path for path in every_file() if path.suffix in endings)
+
+
+@functools.cache
+def lines_of(path: Path) -> list[str]:
+    return path.read_text(encoding="utf-8").split("\n")
+
+
+def words_of(lines: Iterable[str]) -> list[str]:
+    """The words of lines that are no remarks."""
+    return WORD.findall("\n".join(line for line in lines if not line.lstrip().startswith(("--", "//"))))
+
+
+@functools.cache
+def counts_of(path: Path) -> collections.Counter[str]:
+    """How often a file has each word, remarks aside."""
+    return collections.Counter(words_of(lines_of(path)))
 
 
 def lemmas(path: Path, head: re.Pattern[str] = HEAD) -> Iterator[Lemma]:
     """The statements of a file of proofs, or the definitions of one of specs/, which begin at its margin."""
-    lines = path.read_text(encoding="utf-8").split("\n")
+    lines = lines_of(path)
     for at, line in enumerate(lines):
         found = head.match(line)
         if found:
-            own = rf"(?: |unfolding|{re.escape(found[1])}(?: |$))"
-            end = next((it for it in range(at + 1, len(lines)) if not re.match(own, lines[it])), len(lines))
+            own = (" ", "unfolding", f"{found[1]} ")
+            end = next(
+                (it for it in range(at + 1, len(lines)) if not (lines[it].startswith(own) or lines[it] == found[1])), len(lines)
+            )
             begin = next((it for it in range(at + 1, end) if not lines[it].startswith("   ")), end)
             stated = " ".join(" ".join(lines[at:begin]).split()).partition(" : ")[2]
             yield Lemma(f"{path.relative_to(CRATES)}:{at + 1}", found[1], stated, lines[at:end])
@@ -83,12 +108,10 @@ def unnamed(every: list[Lemma]) -> list[str]:
     """Lemmas that nothing names, themselves aside."""
     seen: collections.Counter[str] = collections.Counter()
     for path in files(".antt", ".rt", ".edit"):
-        for line in path.read_text(encoding="utf-8").split("\n"):
-            if not line.lstrip().startswith(("--", "//")):
-                seen.update(WORD.findall(line))
+        seen.update(counts_of(path))
     own: collections.Counter[str] = collections.Counter()
     for it in every:
-        own[it.name] += sum(WORD.findall(line).count(it.name) for line in it.lines if not line.lstrip().startswith("--"))
+        own[it.name] += words_of(it.lines).count(it.name)
     for page in [Path(TOP, "docs/PROOFS.md"), *CRATES.glob("*/README.md")]:
         seen.update(WORD.findall(page.read_text(encoding="utf-8").replace("`", " ")))
     return [f"{it.place}: {it.name}" for it in every if seen[it.name] <= own[it.name] and not NO_LEMMA.search(it.place)]
@@ -105,7 +128,7 @@ class Function(NamedTuple):
 
 def functions(path: Path) -> Iterator[Function]:
     """The functions of a source file; the head of one ends where its body begins."""
-    text = path.read_text(encoding="utf-8")
+    text = "\n".join(lines_of(path))
     for found in FUNCTION.finditer(text):
         head = re.split(rf"\n{found[1]}[^\s)>]", text[found.start() :], maxsplit=1)[0]
         place = f"{path.relative_to(CRATES)}:{text.count(chr(10), 0, found.start()) + 1}"
@@ -115,30 +138,29 @@ def functions(path: Path) -> Iterator[Function]:
 def copies() -> Iterator[tuple[str, bool]]:
     """The private functions whose one clause names the definition that has their name, each with its place, and whether nothing
     else names that definition."""
-    named: collections.Counter[tuple[str, str]] = collections.Counter()  # by crate
+    named: dict[str, collections.Counter[str]] = collections.defaultdict(collections.Counter)  # by crate
     own: collections.Counter[tuple[str, str]] = collections.Counter()
     found: list[tuple[str, Function]] = []
     for path in files(".antt", ".rt"):
         crate = path.relative_to(CRATES).parts[0]
         if path.suffix == ".rt":
             for it in functions(path):
-                named.update((crate, word) for word in {*WORD.findall(it.head)})
-                same = re.search(rf"\bresult(?:\.now)? ≡ (?:spec\.)?{it.name}\b", it.head)
-                if it.private and same and len(CLAUSE.findall(it.head)) == 1:
+                named[crate].update({*WORD.findall(it.head)})
+                if it.private and it.name in RESULT.findall(it.head) and len(CLAUSE.findall(it.head)) == 1:
                     found.append((crate, it))
             continue
-        for line in path.read_text(encoding="utf-8").split("\n"):
-            used = re.match(r"use Rattle\.(\w+)\.", line)
-            if used and used[1] != crate:
-                named.update((used[1], word) for word in WORD.findall(line))
-            elif not used and not line.lstrip().startswith("--"):
-                named.update((crate, word) for word in WORD.findall(line))
+        named[crate].update(counts_of(path))
+        for used in filter(None, map(IMPORT.match, lines_of(path))):
+            words = WORD.findall(used.string)
+            named[crate].subtract(words)
+            if used[1] != crate:
+                named[used[1]].update(words)
         if "specs" in path.parts:
             for definition in lemmas(path, DEFINITION):
-                own[crate, definition.name] += sum(WORD.findall(line).count(definition.name) for line in definition.lines)
+                own[crate, definition.name] += WORD.findall("\n".join(definition.lines)).count(definition.name)
     for crate, it in found:
         if own[crate, it.name]:
-            yield f"{it.place}: {it.name}", named[crate, it.name] <= own[crate, it.name] + 1
+            yield f"{it.place}: {it.name}", named[crate][it.name] <= own[crate, it.name] + 1
 
 
 def counted() -> dict[str, list[str]]:
@@ -157,7 +179,7 @@ def counted() -> dict[str, list[str]]:
             every += found
             for it in found:
                 texts[it.type].append(it)
-        for at, line in enumerate(path.read_text(encoding="utf-8").split("\n"), 1):
+        for at, line in enumerate(lines_of(path), 1):
             blanks += [f"{place}:{at}"] * len(BLANKS.findall(line))
     twice = [
         f"{it.place}: {it.name}" for same in texts.values() for it in same[1:] if len({x.place.split(":")[0] for x in same}) > 1

@@ -84,33 +84,37 @@ EXCEPTIONS = (
 )
 
 
+CHARACTER, TEXT = r"""'(?:[^'\\\n]|\\.)'""", r'''"[^"\\]*(?:\\.[^"\\]*)*"'''
+ASIDE = {antt: re.compile(rf"{CHARACTER}|{TEXT}|{comment}[^\n]*", re.S) for antt, comment in ((True, "--"), (False, "//"))}
+NUMBER = re.compile(r"(?<![\w.'])(0x[0-9a-fA-F_]+|0b[01_]+|[0-9][0-9_]*)(?:[ui](?:8|16|32|64|128|size))?(?!\w)")
+POWER = re.compile(r"(?<![\w.'])2 \^ (24|29)\b")
+IMPORT = re.compile(r"\s*(pub )?use ")
+PATTERNS = [(n, str(n), what, re.compile("|".join(forms).replace("{n}", str(n)))) for n, what, forms in FORMS]
+
+
 def bare(text: str, antt: bool) -> list[str]:
     """The text without comments and strings, with the same lines."""
 
     def without(m: re.Match[str]) -> str:
-        part = m[0].removeprefix("b")
+        part = m[0]
         if part.startswith("'"):
-            return m[0]
+            return part
         return '""' + "\n" * part.count("\n") if part.startswith('"') else ""
 
     # a string may go on in the next line, and may have what looks like a comment
-    comment = "--" if antt else "//"
-    text = re.sub(rf"""b?'(?:[^'\\\n]|\\.)'|b?"(?:[^"\\]|\\.)*"|{comment}[^\n]*""", without, text, flags=re.S)
-    lines = text.split("\n")
-    if antt:
-        lines = ["" if re.match(r"\s*(pub )?use ", line) else line for line in lines]
-    return lines
+    lines = ASIDE[antt].sub(without, text).split("\n")
+    return ["" if "use " in line and IMPORT.match(line) else line for line in lines] if antt else lines
 
 
 def numbers(line: str) -> Iterator[int]:
     """The numbers of a line, in any base."""
-    kind = r"(?:[ui](?:8|16|32|64|128|size))?"
-    for m in re.finditer(r"(?<![\w.'])(0x[0-9a-fA-F_]+|0b[01_]+|[0-9][0-9_]*)" + kind + r"(?!\w)", line):
+    for m in NUMBER.finditer(line):
         # 0x1_0000 is how arithmetic on bytes spells 2 ^ 16
         if m.group(1) != "0x1_0000":
             yield int(m.group(1).replace("_", ""), 0)
-    for m in re.finditer(r"(?<![\w.])2 \^ (24|29)\b", line):
-        yield 2 ** int(m.group(1))
+    if " ^ " in line:
+        for m in POWER.finditer(line):
+            yield 2 ** int(m.group(1))
 
 
 def found(line: str) -> Iterator[tuple[int, str]]:
@@ -118,11 +122,9 @@ def found(line: str) -> Iterator[tuple[int, str]]:
     for n in numbers(line):
         if n in VALUES:
             yield n, VALUES[n]
-    for n, what, forms in FORMS:
-        for form in forms:
-            if re.search(form.replace("{n}", str(n)), line):
-                yield n, what
-                break
+    for n, digits, what, pattern in PATTERNS:
+        if digits in line and pattern.search(line):
+            yield n, what
 
 
 def main() -> None:

@@ -17,6 +17,7 @@ the gate or not, that cannot be made is printed. The last line counts; the exit 
 be made, else 1.
 """
 import concurrent.futures
+import functools
 import glob
 import hashlib
 import os
@@ -102,6 +103,12 @@ def check(crate: str, texts: dict[str, str], tried: Collection[str], libraries: 
         return ran.stdout.decode(errors="replace").splitlines()
 
 
+@functools.cache
+def functions_of(crate: str) -> set[str]:
+    """The names of the functions of a crate."""
+    return edits.all_functions(f"{TOP}/crates/{crate}")
+
+
 def unfit(crate: str, paths: list[str]) -> tuple[dict[str, str], str | None]:
     """The texts of the files that these edits change together, and why they cannot be made, or None."""
     folder = f"{TOP}/crates/{crate}"
@@ -110,8 +117,8 @@ def unfit(crate: str, paths: list[str]) -> tuple[dict[str, str], str | None]:
         names = edits.changed_functions(folder, path)[0]
         if not names:
             why = "it changes no function, and no line '# refused in: FUNCTION' names one"
-        elif not names <= edits.all_functions(folder):
-            why = f"there is no function {min(names - edits.all_functions(folder))}"
+        elif not names <= functions_of(crate):
+            why = f"there is no function {min(names - functions_of(crate))}"
     return texts, why
 
 
