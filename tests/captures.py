@@ -5,20 +5,24 @@ usage: python3 tests/captures.py [XDPVM_FILTER] [--store]
 
 Each capture is made from a seed: a pcapng of up to four sections in either byte order, with interfaces of several resolutions
 and offsets of times, enhanced, simple and old packets, comments, and blocks of unknown types; or a pcap in one of its four forms.
-tests/captures.txt has the SHA-256 of the times and bytes of its packets as Wireshark's editcap copied them into a pcap with
-nanoseconds; --store writes it. Where editcap is installed, each capture is tried anew against that editcap. A resolution of
-10^-10 and finer is left out: there editcap multiplies beyond 64 bits.
+tests/captures.txt has the SHA-256 of the times and bytes of its packets as Wireshark's mergecap copied them into a pcap with
+nanoseconds; --store writes it. Where Wireshark is installed, each capture is tried anew against it. A resolution of 10^-10 and
+finer is left out: there Wireshark multiplies beyond 64 bits.
 
 The captures from seed 40 on have IP packets of other link types: Linux's `any` interface, raw IP, and BSD's loopback in either
 byte order; some packets are none of IP. Their rows have the SHA-256 of what Wireshark's tshark says of each: its time, addresses,
 UDP ports and payload, which are read here from the Ethernet frames.
 
 Each capture is also written, as a pcap, as a pcapng and as a frame stream: the packets of the pcap and of the stream, and those
-that editcap or tshark reads of the pcapng where it is installed, have to be the same, and each frame of the stream has the reason
-that its packet's comment says, or 0.
+that Wireshark reads of the pcap and the pcapng where it is installed, have to be the same, and each frame of the stream has the
+reason that its packet's comment says, or 0.
+
+A start of tshark takes half a second, so that Wireshark reads all captures one behind the other, which a pcapng may be; where it
+reads anything else than is stored, it is asked of each by itself.
 
 What differs is printed; the last line counts, and the status is 1 if anything differs.
 """
+import contextlib
 import hashlib
 import ipaddress
 import os
@@ -29,6 +33,8 @@ import struct
 import subprocess
 import sys
 import tempfile
+from collections.abc import Callable, Iterator
+from itertools import islice
 
 sys.path.insert(0, os.path.join(os.path.dirname(os.path.abspath(__file__)), "../checks"))
 from common import TOP, built, bytes_of, need, text_of, write
@@ -45,6 +51,7 @@ PCAPS = ((">", 0xA1B2C3D4), ("<", 0xA1B2C3D4), (">", 0xA1B23C4D), ("<", 0xA1B23C
 LINKS = (1, 113, 276, 101, 12, 228, 229, 0, 108)
 FAMILIES = {4: (2,), 6: (24, 28, 30)}
 FIELDS = "frame.time_epoch ip.src ip.dst ipv6.src ipv6.dst udp.srcport udp.dstport udp.payload".split()
+PCAPNG = b"\x0a\x0d\x0d\x0a"  # with which a pcapng begins
 Packet = tuple[int, bytes]  # its nanoseconds and its bytes
 
 
@@ -211,15 +218,6 @@ def reasons_of_stream(data: bytes) -> list[int]:
     return found
 
 
-def summed(packets: list[Packet]) -> str:
-    spelled = b"".join(struct.pack("<QI", time, len(data)) + data for time, data in packets)
-    return f"{len(packets)} {hashlib.sha256(spelled).hexdigest()}"
-
-
-def lines_summed(lines: list[str]) -> str:
-    return f"{len(lines)} {hashlib.sha256(chr(10).join(lines).encode()).hexdigest()}"
-
-
 def told(time: int, data: bytes) -> str:
     """The fields of an Ethernet frame, in the words of tshark."""
     sizes = {0x0800: (12, 4), 0x86DD: (8, 16)}
@@ -235,25 +233,66 @@ def told(time: int, data: bytes) -> str:
     return ",".join(seen)
 
 
+def items_of(seed: int, packets: list[Packet]) -> list[bytes]:
+    """What the row of a capture is a sum of, where it has these packets: one item for each."""
+    if seed >= LINKED:
+        return [told(*it).encode() for it in packets]
+    return [struct.pack("<QI", time, len(data)) + data for time, data in packets]
+
+
+def row_of(seed: int, items: list[bytes]) -> str:
+    whole = (b"\n" if seed >= LINKED else b"").join(items)
+    return f"{len(items)} {hashlib.sha256(whole).hexdigest()}"
+
+
 def summed_of(seed: int, packets: list[Packet]) -> str:
     """What the row of a capture has to say, where it has these packets."""
-    return lines_summed([told(*it) for it in packets]) if seed >= LINKED else summed(packets)
+    return row_of(seed, items_of(seed, packets))
 
 
-def from_outside(seed: int, folder: str, path: str) -> str | None:
-    """What editcap or tshark reads of a capture, or None where it is not installed."""
-    if not shutil.which("editcap") or not shutil.which("tshark"):
-        return None
-    if seed >= LINKED:
-        fields = [it for name in FIELDS for it in ("-e", name)]
-        ran = subprocess.run(
-            ["tshark", "-n", "-r", path, "-T", "fields", "-E", "separator=,", *fields], capture_output=True, text=True, check=True
-        )
-        # a simple packet has no time there, and 0 here
-        return lines_summed(["0.000000000" + it if it.startswith(",") else it for it in ran.stdout.splitlines()])
+def copied(folder: str, paths: list[str]) -> list[bytes]:
+    """The packets of captures of Ethernet frames, one capture after the other, as mergecap copies them."""
     out = os.path.join(folder, "copied.pcap")
-    subprocess.run(["editcap", "-F", "nsecpcap", path, out], check=True, stderr=subprocess.DEVNULL)
-    return summed(packets_of_pcap(bytes_of(out)))
+    subprocess.run(["mergecap", "-a", "-F", "nsecpcap", "-w", out, *paths], check=True, stderr=subprocess.DEVNULL)
+    return items_of(0, packets_of_pcap(bytes_of(out)))
+
+
+def dissected(folder: str, paths: list[str]) -> list[bytes]:
+    """What tshark says of the packets of captures, one capture after the other; editcap makes a pcapng of a pcap."""
+    whole, out = os.path.join(folder, "whole.pcapng"), os.path.join(folder, "one.pcapng")
+    with open(whole, "wb") as file:
+        for path in paths:
+            data = bytes_of(path)
+            if not data.startswith(PCAPNG):
+                subprocess.run(["editcap", "-F", "pcapng", path, out], check=True, stderr=subprocess.DEVNULL)
+                data = bytes_of(out)
+            file.write(data)
+    fields = [it for name in FIELDS for it in ("-e", name)]
+    words = ["tshark", "-n", "-r", whole, "-T", "fields", "-E", "separator=,", *fields]
+    ran = subprocess.run(words, capture_output=True, check=True)
+    # a simple packet has no time there, and 0 here
+    return [b"0.000000000" + it if it.startswith(b",") else it for it in ran.stdout.splitlines()]
+
+
+def reader_of(seed: int) -> Callable[[str, list[str]], list[bytes]]:
+    """What reads the packets of captures such as that of this seed."""
+    return dissected if seed >= LINKED else copied
+
+
+def from_outside(folder: str, asked: list[tuple[int, str]], stored: list[str]) -> dict[str, str]:
+    """The rows of captures, each a seed and a path, by their paths, as Wireshark reads them; empty where it is not installed."""
+    rows: dict[str, str] = {}
+    if not all(shutil.which(it) for it in ("mergecap", "editcap", "tshark")):
+        return rows
+    for some in ([it for it in asked if it[0] < LINKED], [it for it in asked if it[0] >= LINKED]):
+        items: Iterator[bytes] = iter(())
+        with contextlib.suppress(subprocess.CalledProcessError):
+            items = iter(reader_of(some[0][0])(folder, [path for _, path in some]))
+        found = [row_of(seed, [*islice(items, int(stored[seed].split()[0]))]) for seed, _ in some]
+        if found != [stored[seed] for seed, _ in some] or next(items, None) is not None:
+            found = [row_of(seed, reader_of(seed)(folder, [path])) for seed, path in some]
+        rows.update(zip((path for _, path in some), found))
+    return rows
 
 
 def read(program: str, folder: str, path: str, seed: int) -> str:
@@ -263,27 +302,34 @@ def read(program: str, folder: str, path: str, seed: int) -> str:
     return summed_of(seed, packets_of_stream(bytes_of(out))) if ran.returncode == 0 else ran.stderr.decode(errors="replace")
 
 
-def wrote(program: str, folder: str, path: str, seed: int, kept: str) -> list[str]:
-    """What differs in the captures that xdpvm_filter writes of a capture, and in the frame stream that it makes of one."""
-    out = os.path.join(folder, "converted.frames")
-    subprocess.run([program, "convert", "--reasons", path, out], capture_output=True, check=False)
-    seen = summed_of(seed, packets_of_stream(bytes_of(out)))
-    wrong = [] if seen == kept else [f"converted to a stream: {seen}"]
+def wrote(program: str, path: str, seed: int, kept: str) -> list[str]:
+    """What differs in the packets that xdpvm_filter writes of a capture; it makes a pcap and a pcapng beside it."""
+    wrong = []
     for ending in ("pcap", "pcapng"):
-        out = os.path.join(folder, f"written.{ending}")
-        subprocess.run([program, PASS, path, out], capture_output=True, check=False)
-        found = [from_outside(seed, folder, out)]
-        found += [summed_of(seed, packets_of_pcap(bytes_of(out)))] if ending == "pcap" else []
-        wrong += [f"written as a {ending}: {it}" for it in found if it not in (None, kept)]
+        subprocess.run([program, PASS, path, f"{path}.{ending}"], capture_output=True, check=False)
+    found = summed_of(seed, packets_of_pcap(bytes_of(f"{path}.pcap")))
+    if found != kept:
+        wrong.append(f"written as a pcap: {found}")
     return wrong
 
 
-def converted(program: str, folder: str, path: str, reasons: list[int]) -> list[str]:
-    """What differs in the reasons of the stream that xdpvm_filter makes of a capture."""
+def converted(program: str, folder: str, path: str, seed: int, kept: str, reasons: list[int]) -> list[str]:
+    """What differs in the frame stream that xdpvm_filter makes of a capture, and in its reasons."""
     out = os.path.join(folder, "converted.frames")
     subprocess.run([program, "convert", "--reasons", path, out], capture_output=True, check=False)
-    found = reasons_of_stream(bytes_of(out))
-    return [] if found == (reasons or [0] * len(found)) else ["xdpvm_filter convert reads other reasons"]
+    stream = bytes_of(out)
+    seen, found = summed_of(seed, packets_of_stream(stream)), reasons_of_stream(stream)
+    wrong = [] if seen == kept else [f"converted to a stream: {seen}"]
+    return wrong + ([] if found == (reasons or [0] * len(found)) else ["xdpvm_filter convert reads other reasons"])
+
+
+def differences(program: str, folder: str, path: str, seed: int, kept: str) -> list[str]:
+    """What differs in a capture, which is written to the path."""
+    reasons: list[int] = []
+    write(path, capture(seed, reasons))
+    ours = read(program, folder, path, seed)
+    found = [] if ours == kept else [f"read: {ours}"]
+    return found + wrote(program, path, seed, kept) + converted(program, folder, path, seed, kept, reasons)
 
 
 def main(words: list[str]) -> int:
@@ -291,24 +337,21 @@ def main(words: list[str]) -> int:
     program = os.path.abspath(named[0] if named else built("xdpvm_filter"))
     need(program)
     with tempfile.TemporaryDirectory() as folder:
-        path = os.path.join(folder, "a.capture")
+        paths = [os.path.join(folder, f"{seed}.capture") for seed in SEEDS]
         if "--store" in words:
-            rows = [from_outside(seed, folder, write(path, capture(seed))) for seed in SEEDS]
-            write(STORED, "\n".join(it or "" for it in rows) + "\n")
+            rows = [row_of(seed, reader_of(seed)(folder, [write(path, capture(seed))])) for seed, path in zip(SEEDS, paths)]
+            write(STORED, "\n".join(rows) + "\n")
             return 0
-        stored, wrong, packets = text_of(STORED).splitlines(), 0, 0
+        stored, wrong = text_of(STORED).splitlines(), []
         for seed, kept in zip(SEEDS, stored, strict=True):
-            reasons: list[int] = []
-            write(path, capture(seed, reasons))
-            ours, now = read(program, folder, path, seed), from_outside(seed, folder, path)
-            packets += int(kept.split()[0])
-            if ours != kept or now not in (None, kept):
-                print(f"seed {seed}: {ours}, stored {kept}, Wireshark {now}")
-                wrong += 1
-            for it in wrote(program, folder, path, seed, kept) + converted(program, folder, path, reasons):
-                print(f"seed {seed}: stored {kept}, {it}")
-                wrong += 1
-    print(f"{len(stored)} captures of {packets} packets, {wrong} differ")
+            wrong += [f"seed {seed}: stored {kept}, {it}" for it in differences(program, folder, paths[seed], seed, kept)]
+        asked = [(seed, paths[seed] + ending) for ending in ("", ".pcap", ".pcapng") for seed in SEEDS]
+        rows_outside = from_outside(folder, asked, stored)
+        for seed, path in asked:
+            if rows_outside.get(path, stored[seed]) != stored[seed]:
+                wrong.append(f"seed {seed}: stored {stored[seed]}, Wireshark of {os.path.basename(path)}: {rows_outside[path]}")
+    packets = sum(int(kept.split()[0]) for kept in stored)
+    print(*wrong, f"{len(stored)} captures of {packets} packets, {len(wrong)} differ", sep="\n")
     return 1 if wrong else 0
 
 
