@@ -3,14 +3,14 @@
 
 usage: python3 attacks/endless.py [PROGRAM [SURVEY [FILTER]]]
 
-Proof tables, program texts and earlier surveys that are devices without an end, or files of
-terabytes on no disk, or a right one with such bytes behind it: each has to be refused as the bytes
-at its beginning are, within a second of the processor and 64 MB. So is a text of 100 MB, from a file,
-a pipe and standard input: its beginning decides it, or bytes that change nothing are not kept. A word,
-a number or a comment of 100 MB is kept as a whole: it may take 64 MB more than its size, and a few
-seconds. 100 MB of brackets in place of an image, a table, frames, an earlier survey or a text of maps
-are refused at once. A comparison with an earlier survey of 36 MB may take three times as much. PROGRAM,
-SURVEY and FILTER are the programs that `rt run` leaves in crates/xdpvm, crates/xdpvm_survey and
+Proof tables, program texts and earlier surveys that are devices without an end, or files of terabytes on no disk, or a right one
+with such bytes behind it: each has to be refused as the bytes at its beginning are, within a second of the processor and 5 MB, of
+which 2 are the program's. So is a text of 10 MB, from a file, a pipe and standard input: its beginning decides it, or bytes that
+change nothing are not kept. A longer one would show no more: what is kept of 10 MB is below 3 MB, and to read that again for each
+part of 64 KiB that comes would take longer than it may. A word, a number or a comment is kept as a whole: one of 48 MB may take 5
+MB more than its size, and 1.5 seconds; to copy it for each part would take more. 10 MB of brackets in place of an image, a table,
+frames, an earlier survey or a text of maps are refused at once. A comparison with an earlier survey of 9 MB may take three times
+as much. PROGRAM, SURVEY and FILTER are the programs that `rt run` leaves in crates/xdpvm, crates/xdpvm_survey and
 crates/xdpvm_filter (the default: those in out/ there). The exit status is 0 if it is so, and 1 if not.
 """
 import os
@@ -30,20 +30,28 @@ FRAMES = os.path.join(TOP, "examples/numbers.frames")
 Given = int | BinaryIO  # what a command has as standard input
 TERABYTES = 1 << 42
 # At most so many KiB of memory, and seconds of the processor. A command that takes far longer is ended.
-MEMORY = 64 * 1024
+MEMORY = 5 * 1024
 SECONDS = 1
 LONGEST = 60
-# A text of 100 MB takes less than a second of a quiet core, and up to two where all cores share their caches with other work.
-BUSY = 2
+# The bytes of a long text, and its seconds: a third of them on a quiet core, and most where the cores share their caches.
+LONG = 10_000_000
+BUSY = 0.3
 TRIES = 8
-# A text that is read as a whole: its bytes, and at most so many seconds.
-LONG = 100_000_000
-WHOLE = 4
+# Those of a text that is one word, one number or one comment.
+WHOLE = 48_000_000
+KEPT = 1.5
+# The rows of an earlier survey, and at most so many seconds for a comparison with it.
+ROWS = 120_000
+COMPARED = 5
 
 
 def run(words: list[str], given: Given = subprocess.DEVNULL) -> Ended:
-    """How a command ended, which is killed if it takes far longer than it may."""
-    return measured(["timeout", "-s", "KILL", str(LONGEST), *words], given)
+    """How a command ended, which is killed if it takes far longer than it may. GNU time tells its memory: what the system tells
+    a script counts the script's own too."""
+    with tempfile.NamedTemporaryFile() as told:
+        ended = measured(["timeout", "-s", "KILL", str(LONGEST), "time", "-o", told.name, "-f", "%M", "--", *words], given)
+        kib = told.read().split()
+    return ended._replace(kib=int(kib[-1])) if kib else ended
 
 
 def tell(
@@ -115,8 +123,8 @@ def tell_texts(folder: str) -> Iterator[bool]:
 
 
 class Long(NamedTuple):
-    """A text of 100 MB: what it repeats, the line that `asm` prints, what is before and behind it, and whether it is one word,
-    one number or one comment."""
+    """A long text: what it repeats, the line that `asm` prints, what is before and behind it, and whether it is one word, one
+    number or one comment."""
 
     unit: bytes
     line: str
@@ -124,10 +132,13 @@ class Long(NamedTuple):
     behind: bytes = b""
     is_one: bool = False
 
+    def size(self) -> int:
+        return WHOLE if self.is_one else LONG
+
     def parts(self) -> Iterator[bytes]:
         part = self.unit * (1_000_000 // len(self.unit))
         yield self.before
-        for _ in range(LONG // len(part)):
+        for _ in range(self.size() // len(part)):
             yield part
         yield self.behind
 
@@ -144,10 +155,10 @@ def long_texts() -> Iterator[Long]:
     for before in b"r0 ", b"a: ", b"map hash ":
         yield Long(b"(", "refused A2 line 1 column 1", before)
     yield Long(b"(", "refused A2 line 3 column 1", b"r0 = 2\nexit\n")
-    yield Long(b" ", "refused A5 line 1 column 100000005", b"goto", b"nowhere\n")
-    yield Long(b"\n", "refused A2 line 100000001 column 1", behind=b"mov")
+    yield Long(b" ", f"refused A5 line 1 column {LONG + 5}", b"goto", b"nowhere\n")
+    yield Long(b"\n", f"refused A2 line {LONG + 1} column 1", behind=b"mov")
     for unit in b"(", b" ":
-        yield Long(unit, "refused A1 line 1 column 100000006", b"r0 = ", b"@\n")
+        yield Long(unit, f"refused A1 line 1 column {LONG + 6}", b"r0 = ", b"@\n")
     yield Long(b"#", "refused A9 line 1 column 1", is_one=True)
     yield Long(b"a", "refused A2 line 1 column 1", is_one=True)
     yield Long(b"7", "refused A2 line 1 column 1", is_one=True)
@@ -165,7 +176,7 @@ def send(to: int, text: Long) -> None:
 
 def tell_long(text: Long, image: str) -> bool:
     """Whether a long text is read within the limits, from a pipe."""
-    limits = (LONG // 1024 + MEMORY, WHOLE) if text.is_one else (MEMORY, BUSY)
+    limits = (WHOLE // 1024 + MEMORY, KEPT) if text.is_one else (MEMORY, BUSY)
     status = 2 if text.line.startswith("refused") else 0
     read, write = os.pipe()
     sender = threading.Thread(target=send, args=(write, text))
@@ -213,12 +224,11 @@ def tell_comparison(folder: str) -> Iterator[bool]:
     with open(path, "w", encoding="utf-8") as file:
         file.write("file,verdict,slot,slots,maps,bound,explored,stored,deepest,stored_bytes,milliseconds\n")
         file.writelines(
-            f"compiled/payload_{number:07}.image,ok,,49,0,1546,13357,3473,1258,1390896,12.345\n" for number in range(480_000)
+            f"compiled/payload_{number:07}.image,ok,,49,0,1546,13357,3473,1258,1390896,12.345\n" for number in range(ROWS)
         )
     size = os.path.getsize(path) // 1024
-    yield tell(
-        [SURVEY, "--format", "csv", "--compare", path, IMAGE], 0, "compiled/payload_0479999.image,verdict,ok,,", 3 * size, LONGEST
-    )
+    last = f"compiled/payload_{ROWS - 1:07}.image,verdict,ok,,"
+    yield tell([SURVEY, "--format", "csv", "--compare", path, IMAGE], 0, last, 3 * size, COMPARED)
 
 
 def tell_surveys(folder: str) -> Iterator[bool]:
