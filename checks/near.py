@@ -163,6 +163,13 @@ def near(crate: str, changed: Changed) -> bool:
     return not left
 
 
+def named(name: str) -> tuple[str, set[str]]:
+    """The crate of a name, and those of its functions that the name fits."""
+    crate, _, function = name.partition("::")
+    known = edits.all_functions(str(TOP / "crates" / crate)) if crate in run.BELOW else set()
+    return crate, {it for it in known if function == it or function.endswith("::" + it)}
+
+
 def main(given: list[str]) -> int:
     words = argparse.ArgumentParser(
         prog="python3 -m checks near", description=__doc__, formatter_class=argparse.RawDescriptionHelpFormatter
@@ -173,9 +180,7 @@ def main(given: list[str]) -> int:
     asked = words.parse_args(given)
     found = {} if asked.functions else changed_since(asked.since)
     for name in asked.functions:
-        crate, _, function = name.partition("::")
-        known = edits.all_functions(str(TOP / "crates" / crate)) if crate in run.BELOW else set()
-        fits = {it for it in known if function == it or function.endswith("::" + it)}
+        crate, fits = named(name)
         if not fits:
             words.error(f"there is no function {name}")
         found.setdefault(crate, Changed()).functions |= fits

@@ -1,6 +1,6 @@
 #!/usr/bin/env python3
-"""Tests of laws.py, names.py and file_map.py on small repositories, and of what the attacks judge by and make. In the gate;
-`python3 checks/test_scripts.py` runs them."""
+"""Tests of laws.py, names.py, file_map.py, edits.py, near.py and tour.py on small repositories, and of what the attacks judge by
+and make. In the gate; `python3 checks/test_scripts.py` runs them."""
 import argparse
 import os
 import random
@@ -23,8 +23,10 @@ import laws
 import names
 import proofs
 import table
+import tour
 from attack_witnesses import witness_of
 from attacks import FAMILIES, near
+from near import edits_near, named
 
 SPECS = """-- Some numbers.
 use Rattle.std.specs.Prelude.{ℕ}
@@ -281,6 +283,55 @@ class Edits(Tree):
             ([goal, "fn low::counts::next: not proved"], None),
         ):
             self.assertEqual(edits.refusal("low", "Count::next", said, texts), wanted, said)
+
+
+class Near(unittest.TestCase):
+    """Functions of this repository, by the names that are asked for."""
+
+    def test_a_function_is_named_as_the_folder_of_its_proof_is(self) -> None:
+        self.assertEqual(named("known_bits::bits::Bits::below"), ("known_bits", {"Bits::below"}))
+        self.assertEqual(named("known_bits::bits::ones"), ("known_bits", {"bits::ones"}))
+        self.assertEqual(named("flatmem::get16"), ("flatmem", {"get16"}))
+        self.assertEqual([named(it)[1] for it in ("known_bits::Bits::other", "known_bits::elow", "nowhere::get16")], [set()] * 3)
+
+    def test_edits_of_the_gate_and_others(self) -> None:
+        found = edits_near("known_bits", {"Bits::below", "Bits::meet"})
+        wanted = ["crates/known_bits/must-fail/meet_loses_members.edit", "assurance/known_bits/below_at_equal_limits.edit"]
+        self.assertEqual([os.path.relpath(it, TOP) for it in found], wanted)
+
+
+class Tour(unittest.TestCase):
+    """A block of the tour on a file, without a prover."""
+
+    def block(self, *lines: str) -> tuple[tour.Block, list[str]]:
+        room = tempfile.TemporaryDirectory()
+        self.addCleanup(room.cleanup)
+        Path(room.name, "a.rt").write_text("one two\n", encoding="utf-8")
+        block = tour.Block("low", "".join(f"{line}\n" for line in lines))
+        return block, block.functions(room.name)
+
+    def test_a_check_has_to_print_its_lines_in_their_order(self) -> None:
+        for said, is_fine in (
+            (["note: a is b", "fn low::one: not proved"], True),
+            (["fn low::one: not proved", "note: a is b"], False),
+            (["note: a is b"], False),
+        ):
+            block, asked = self.block("$ sed -i s/one/1/ a.rt", "$ rt check --only one", "note: a .. b", "fn low::one: not proved")
+            self.assertEqual(asked, ["one"])
+            block.compare(asked, said)
+            self.assertEqual(block.wrong == "", is_fine, block.wrong)
+
+    def test_a_check_without_lines_proves_its_functions(self) -> None:
+        for said, is_fine in ((["fn low::one: proved"], True), (["fn low::one: not proved"], False)):
+            block, asked = self.block("$ rt check --only one")
+            block.compare(asked, said)
+            self.assertEqual(block.wrong == "", is_fine, block.wrong)
+
+    def test_other_commands_and_changes_of_nothing_are_wrong(self) -> None:
+        for lines in (["$ sed -i s/three/3/ a.rt", "$ rt check --only one"], ["$ rt verdict"], ["rt check --only one"]):
+            block, asked = self.block(*lines)
+            self.assertEqual(asked, [])
+            self.assertNotEqual(block.wrong, "")
 
 
 class Attacks(unittest.TestCase):

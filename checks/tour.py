@@ -4,16 +4,16 @@
 usage: python3 checks/tour.py [--whole]
 
 Such a block begins with the crate's name. Its commands stand after `$`: `sed -i` changes the crate, `rt check --only FUNCTION`
-checks it. Each block has a copy of the crate for itself. The lines after a check have to be among those that it prints, in
-their order; `..` in them stands for anything. A check without lines has to prove its function. The libraries below are those
-that the gate, or `rt check`, left in crates/*/out; where they are not there, they are proved first. Each row of the page's
+checks it. The blocks of a crate change different functions, so that they share a copy of it: the first check of each is one
+check there, and so is the second. The lines after a check have to be among those that it prints, in their order; `..` in them
+stands for anything. A check without lines has to prove its function. The libraries below are those that the gate, or `rt check`,
+left in crates/*/out; where they are not there, they are proved first. Each row of the page's
 table of a frame names functions that its files have, its table of costs has what bench/costs.py prints, and the code and the edit
 that it shows stand in the crate. The last line counts, and the exit status is 1 if any block or row differs.
 
 --whole runs the blocks `sh` and no others, in a fresh clone: some four minutes. No program was built before, but for those in
 XDG_CACHE_HOME, where that is set.
 """
-import concurrent.futures
 import glob
 import os
 import re
@@ -41,11 +41,11 @@ def libraries_for(crates: set[str], room: str) -> str:
     return room
 
 
-def checked(crate: str, functions: list[str], libraries: str, room: str) -> str:
-    """What a check of functions of the crate in the room prints."""
+def checked(crate: str, functions: list[str], libraries: str, room: str) -> list[str]:
+    """What a check of functions of the crate in the room prints. It begins with what an earlier one there kept, as `rt check`."""
     only = [word for it in functions for word in ("--only", f"{crate}::{it}")]
-    words = [f"{run.KIT}/bin/rattle", "check", *run.words(crate, libraries), *only]
-    return common.said_by(words, room)[1]
+    words = [f"{run.KIT}/bin/rattle", "check", *run.words(crate, libraries), *only, "--incremental", f"{room}/out"]
+    return common.said_by(words, room)[1].splitlines()
 
 
 def fits(wanted: list[str], said: list[str]) -> bool:
@@ -54,26 +54,51 @@ def fits(wanted: list[str], said: list[str]) -> bool:
     return all(any(re.fullmatch(".*".join(map(re.escape, line.split(".."))), it) for it in rest) for line in wanted)
 
 
-def wrong(crate: str, body: str, libraries: str) -> str:
-    """How a block differs from what is wanted; empty if it does not."""
-    with tempfile.TemporaryDirectory(prefix="tour-") as room:
-        for part in run.PARTS:
-            shutil.copytree(f"{TOP}/crates/{crate}/{part}", f"{room}/{part}")
-        for command, wanted in COMMAND.findall(body):
-            words = shlex.split(command)
+class Block:
+    """A block of a crate, whose commands are done one after the other; and how it differs from what is wanted, empty if it does
+    not."""
+
+    def __init__(self, crate: str, body: str) -> None:
+        self.crate = crate
+        self.left: list[tuple[str, str]] = COMMAND.findall(body)
+        self.wrong = "" if self.left else "it has no command"
+
+    def functions(self, room: str) -> list[str]:
+        """The functions of its next check, once the crate in the room is changed as the commands before it say; empty if none
+        is left."""
+        while self.left and not self.wrong:
+            command, words = self.left[0][0], shlex.split(self.left[0][0])
+            if words[:3] == ["rt", "check", "--only"]:
+                return words[3::2]
             if words[:2] == ["sed", "-i"]:
                 before = text_of(f"{room}/{words[-1]}")
                 subprocess.run(words, cwd=room, check=True)
-                if text_of(f"{room}/{words[-1]}") == before:
-                    return f"{command}: it changes nothing"
-            elif words[:3] == ["rt", "check", "--only"]:
-                said = checked(crate, words[3::2], libraries, room)
-                lines = wanted.splitlines() or [f"fn {crate}::{it}: proved" for it in words[3::2]]
-                if not fits(lines, said.splitlines()):
-                    return f"{command}\nwanted:\n" + "\n".join(lines) + f"\nanswered:\n{said[-3000:]}"
+                self.wrong = f"{command}: it changes nothing" if text_of(f"{room}/{words[-1]}") == before else ""
             else:
-                return f"{command}: no command of such a block"
-    return ""
+                self.wrong = f"{command}: no command of such a block"
+            del self.left[0]
+        return []
+
+    def compare(self, functions: list[str], said: list[str]) -> None:
+        """Compares what a check of these functions has to print with what was printed."""
+        command, wanted = self.left.pop(0)
+        lines = wanted.splitlines() or [f"fn {self.crate}::{it}: proved" for it in functions]
+        if not fits(lines, said):
+            answered = "\n".join(said)[-3000:]
+            self.wrong = f"{command}\nwanted:\n" + "\n".join(lines) + f"\nanswered:\n{answered}"
+
+
+def wrong(crate: str, bodies: list[str], libraries: str) -> list[str]:
+    """How each block of a crate differs from what is wanted; empty where it does not."""
+    blocks = [Block(crate, body) for body in bodies]
+    with tempfile.TemporaryDirectory(prefix="tour-") as room:
+        for part in run.PARTS:
+            shutil.copytree(f"{TOP}/crates/{crate}/{part}", f"{room}/{part}")
+        while asked := [(it, functions) for it in blocks if (functions := it.functions(room))]:
+            said = checked(crate, [name for _, functions in asked for name in functions], libraries, room)
+            for it, functions in asked:
+                it.compare(functions, said)
+    return [it.wrong for it in blocks]
 
 
 def wrong_row(files: str, functions: str) -> str:
@@ -150,10 +175,10 @@ def main() -> None:
         told(whole(page))
     blocks = [it for it in re.findall(r"^```(\w+)\n(.*?)^```$", page, re.M | re.S) if it[0] in run.BELOW]
     rows = re.findall(r"^\| (`\w+/src/\S+.*?) \| (.*?) \|", page, re.M)
+    crates = sorted({crate for crate, _ in blocks})
     with tempfile.TemporaryDirectory(prefix="tour-libraries-") as room:
-        libraries = libraries_for({crate for crate, _ in blocks}, room)
-        with concurrent.futures.ThreadPoolExecutor(2) as pool:
-            found = list(pool.map(lambda it: wrong(it[0], it[1], libraries), blocks))
+        libraries = libraries_for(set(crates), room)
+        found = [it for crate in crates for it in wrong(crate, [body for name, body in blocks if name == crate], libraries)]
     found += [wrong_row(*row) for row in rows] + costs(page) + shown(page)
     told(found if blocks and rows else ["the page has no blocks or no rows"])
 
