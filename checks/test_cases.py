@@ -64,7 +64,7 @@ class Files(unittest.TestCase):
         path = Path(self.room.name) / "a.case"
         path.write_text(text, encoding="utf-8")
         every = cases.cases_of(path)
-        return len(every), [it.split("\n")[0].partition(": ")[2] for case in every for it in cases.tried(self.programs, case)]
+        return len(every), [it.split("\n")[0].partition(": ")[2] for found in cases.tried(self.programs, every) for it in found]
 
     def test_right_cases(self) -> None:
         self.assertEqual(self.found(RIGHT), (4, []))

@@ -351,10 +351,21 @@ class Trial:
             os.truncate(path, int(rest))
 
 
-def tried(programs: dict[str, str], case: Case) -> list[str]:
-    """Tries a case in a fresh folder."""
-    with tempfile.TemporaryDirectory() as folder:
-        return Trial(programs, Path(folder), case).differences()
+def tried(programs: dict[str, str], cases: list[Case]) -> list[list[str]]:
+    """What differs in each case, which has a fresh folder. One command removes all folders: that takes a third of what Python takes
+    for each."""
+    room = tempfile.mkdtemp()
+
+    def one(at: int) -> list[str]:
+        folder = Path(room, str(at))
+        folder.mkdir()
+        return Trial(programs, folder, cases[at]).differences()
+
+    try:
+        with ThreadPoolExecutor() as pool:
+            return list(pool.map(one, range(len(cases))))
+    finally:
+        subprocess.run(["rm", "-rf", room], check=False)
 
 
 def main() -> None:
@@ -370,8 +381,7 @@ def main() -> None:
     files = given.files or [path for it in ("commands", "programs") for path in sorted(Path(TOP, "tests", it).glob("*.case"))]
     try:
         cases = [case for path in files for case in cases_of(path)]
-        with ThreadPoolExecutor() as pool:
-            results = list(pool.map(lambda case: tried(programs, case), cases))
+        results = tried(programs, cases)
     except WrongCase as why:
         sys.exit(f"cases.py: {why}")
     except OSError as why:
