@@ -22,6 +22,7 @@ import subprocess
 import sys
 import tempfile
 from collections.abc import Iterator
+from operator import add
 
 sys.path.insert(0, os.path.join(os.path.dirname(os.path.abspath(__file__)), "../checks"))
 import common
@@ -35,6 +36,7 @@ PROGRAM, SURVEY = common.program(), common.built("xdpvm_survey")
 CHOSEN = sys.argv[2:]
 LIMIT = int(os.environ.get("LIMIT", "120"))
 MOST_SLOTS, MOST_TEXT, MOST_KEYS = 4096, 16 << 20, 65536
+MOST_SUMS = 1 << 24  # of relations, among which keys of one hash are looked for
 # At most so many seconds for a full map of the worst keys, and for a frame with a call on it, by a proved build.
 FILLED, CALL = 0.3, 3e-6
 CONVERT = [common.built("xdpvm_filter"), "convert"]
@@ -196,17 +198,17 @@ def one_chain_keys(count: int, size: int = 16) -> list[bytes]:
     words = size // 4
     weights = [pow(SPREAD, words - at, ALL) for at in range(words)]
     relations = sorted(short_relations(weights), key=lambda row: max(abs(it) for it in row))
-    keys, level = {(1 << 31,) * words}, 0
-    while len(keys) < count:
+    most = 1  # of each relation between so many times less and more
+    while (2 * most) ** words <= MOST_SUMS:
+        keys = [(1 << 31,) * words]
         for row in relations:
-            more = {tuple(a + sign * b for a, b in zip(key, row)) for key in keys for sign in (1, -1)}
-            keys |= {key for key in more if all(0 <= word < 1 << 32 for word in key)}
-            if len(keys) >= count:
-                break
-        level += 1
-        if level > 20:
-            sys.exit("no more keys")
-    return sorted(struct.pack(f"<{words}I", *key) for key in keys)[:count]
+            turns = [[turn * it for it in row] for turn in range(-most, most)]
+            keys = [tuple(map(add, key, more)) for key in keys for more in turns]
+        keys = [key for key in keys if min(key) >= 0 and max(key) < 1 << 32]
+        if len(keys) >= count:
+            return sorted(struct.pack(f"<{words}I", *key) for key in keys)[:count]
+        most *= 2
+    sys.exit("no more keys")
 
 
 def hash_of(key: bytes) -> int:

@@ -137,7 +137,7 @@ CHECKS = (
         "worst_keys",
         "python3 attacks/hostile_inputs.py crates/xdpvm/out/xdpvm worst_keys",
         "that a map of 65,536 keys of one hash is filled within 0.3 seconds, and a call with one takes 3 microseconds",
-        8,
+        3,
         alone=True,
     ),
     Check(
