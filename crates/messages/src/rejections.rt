@@ -4,7 +4,7 @@ ghost use Rattle.std.specs.Prelude.{◌≡◌, ◌++◌, OnOk, OnErr, codes, dec
 ghost use Rattle.std.specs.Io.KnownBytes.{Appends};
 ghost use Rattle.isa_model.specs.Text.CanonicalText as canonical;
 ghost use Rattle.exact_io.specs.Transfers.{AppendsBeginning};
-ghost use Rattle.messages.specs.Messages.{sentence_of, code_of, code_line, form_line, hint_line, image_position, insn_position, text_position, position_of, entry_position, entry_anew, step_position, table_position, maps_position, rejection_text};
+ghost use Rattle.messages.specs.Messages.{sentence_of, code_of, code_line, form_line, hint_line, image_position, insn_position, text_position, position_of, entry_position, anew, entry_anew, step_position, table_position, maps_position, rejection_text};
 
 use crate::forms::FileForm;
 use crate::texts::write_texts;
@@ -20,9 +20,6 @@ use std::io;
 use std::io::Write;
 use table_entries::{TableRefusal, WriteTableError};
 use walks::Refusal;
-
-/// The hint where a table does not show a bound of the program.
-const ANEW: &str = "make the table anew: xdpvm prove IMAGE TABLE\n";
 
 /// Says what is refused, and why.
 #[derive(Clone, Copy)]
@@ -231,6 +228,13 @@ fn say_entry_anew<W: Write>(err: &mut W, index: usize) -> io::Result<()>
     )
 }
 
+/// The hint where a table does not show a bound of the program.
+pub fn anew() -> &'static str
+    ensures { result.now ≡ anew }
+{
+    "make the table anew: xdpvm prove IMAGE TABLE\n"
+}
+
 // Writes the index of an entry, and where its step is, if that is known.
 fn say_step<W: Write>(err: &mut W, index: usize, position: Option<(usize, Insn)>) -> io::Result<()>
     ensures ok { OnOk result (Appends (W.contents err.old) (W.contents err.new)
@@ -264,7 +268,7 @@ fn say_table_position<W: Write>(
         }
         TableError::Successor(index) => say_step(err, index, position),
         TableError::Flow(_, _) | TableError::Bytes(_) | TableError::Start => {
-            write_bytes(err, ANEW.as_bytes())
+            write_bytes(err, anew().as_bytes())
         }
     }
 }
