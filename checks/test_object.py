@@ -257,8 +257,10 @@ class Check(unittest.TestCase):
             ("BPF program is too large. Processed 1000001 insn", 7),
             ("combined stack size of 2 calls is 1024. Too large", 8),
             ("the call stack of 8 frames is too deep !", 9),
+            ("R9 32-bit pointer arithmetic prohibited", 5),
             ("misaligned value access off 0+0+1 size 8", 10),
-            ("R2 pointer arithmetic with it prohibited for !root", 11),
+            ("same insn cannot be used with different pointers", 11),
+            ("R2 pointer arithmetic with it prohibited for !root", 12),
         ]:
             self.assertEqual(object_check.row_of(words), object_check.ROWS[place], words)
         self.assertIsNone(object_check.row_of("unknown func 9"))

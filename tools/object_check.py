@@ -58,7 +58,7 @@ ROWS = [
     Row(
         "a jump is known to go one way by both limits and bits, after more operations",
         "takes both ways, and may refuse what cannot be reached",
-        "!read_ok|invalid bpf_context access|invalid (write to|read from) stack",
+        "!read_ok|invalid bpf_context access|invalid (write to|read from) stack|32-bit pointer arithmetic prohibited",
     ),
     Row(
         "a loop has an end that the limits and bits kept here show",
@@ -84,6 +84,11 @@ ROWS = [
         "an atomic instruction on a map value may be at any offset",
         "`misaligned value access`: at a multiple of its size",
         "misaligned value access",
+    ),
+    Row(
+        "a load or store may reach the context on one path, and other memory on another",
+        "`same insn cannot be used with different pointers`",
+        "same insn cannot be used",
     ),
     Row(
         "nothing is required because of speculation",
