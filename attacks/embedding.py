@@ -3,7 +3,7 @@
 
 usage: python3 attacks/embedding.py [--calls N] [--archive FILE] [--object OBJECT]
 
-N calls (100,000) are made by four threads over the images of examples/, with the answers of one thread alone
+N calls (100,000) are made by four threads over the images of examples/, with the answers of one thread alone, which is not watched
 (attacks/threads.c); races of the caller's side are found, and with an OBJECT that `examples/embed/coverage.py --sanitizer thread`
 made those of the library, too (CC has to be a clang from 15 on). Then attacks/misuse.c prints what happens in each wrong use of a
 session and of pointers: what the header says an answer to has to have it, and where a call returns nothing outside the caller's
@@ -21,10 +21,9 @@ from common import TOP, absolute, command_line, compiler
 import unproved
 
 
-def compiled(name: str, folder: str, words: list[str]) -> str:
+def compiled(name: str, made: str, words: list[str]) -> str:
     """A program of attacks/, compiled with these words."""
-    made = os.path.join(folder, name)
-    subprocess.run([*words[:1], "-std=c11", "-g", "-o", made, f"{TOP}/attacks/{name}.c", *words[1:], "-pthread"], check=True)
+    subprocess.run([compiler(), "-std=c11", "-g", "-o", made, f"{TOP}/attacks/{name}.c", *words, "-pthread"], check=True)
     return made
 
 
@@ -37,11 +36,15 @@ def main() -> int:
     system, heap = unproved.libraries(unproved.the_kit())
     images = sorted(glob.glob(f"{TOP}/examples/*.image"))
     with tempfile.TemporaryDirectory() as folder:
+        alone = compiled("threads", f"{folder}/alone", ["-O2", given.archive, heap])
+        sums = (
+            subprocess.run([alone, str(given.calls), "alone", *images], stdout=subprocess.PIPE, check=True).stdout.decode().split()
+        )
         library = [given.object, heap, system] if given.object else [given.archive, heap]
-        threads = compiled("threads", folder, [compiler(), "-O1", "-fsanitize=thread", *library])
+        threads = compiled("threads", f"{folder}/threads", ["-O1", "-fsanitize=thread", *library])
         # the sanitizer wants its addresses as they are without randomness
-        ran = subprocess.run(["setarch", "-R", threads, str(given.calls), *images], check=False).returncode
-        misused = subprocess.run([compiled("misuse", folder, [compiler(), "-O1", given.archive])], check=False).returncode
+        ran = subprocess.run(["setarch", "-R", threads, str(given.calls), *sums, *images], check=False).returncode
+        misused = subprocess.run([compiled("misuse", f"{folder}/misuse", ["-O1", given.archive])], check=False).returncode
     return 1 if ran or misused else 0
 
 

@@ -2,16 +2,18 @@
 """Gives each reader of the library inputs that are made to break it: program texts, images, frame streams, proof tables and texts
 of maps.
 
-usage: python3 attacks/readers.py [READER ..] [--seconds N] [--seed S] [--program XDPVM] [--archive FILE] [--object OBJECT]
-                                  [--keep FOLDER]
+usage: python3 attacks/readers.py [READER ..] [--seconds N] [--seed S] [--jobs J] [--program XDPVM] [--archive FILE]
+                                  [--object OBJECT] [--keep FOLDER]
 
-READER is text, image, stream, table or maps; where none is named all are tried, each for N seconds (10). An input is one of
-examples/ or of tests/programs that was changed: bytes, pieces that are gone or there many times, pieces of another one, up to a
-megabyte. attacks/readers.c says what the library has to answer; each input may take a second and 300 MB. One that is answered
-otherwise is kept in FOLDER. By default inputs are mutated blindly, over the library crates/xdpvm_c/out/libxdpvm_c.a or ARCHIVE;
-with OBJECT, which examples/embed/coverage.py makes, libFuzzer makes them, guided by its counters (clang), and keeps those that
-reach something new in FOLDER. It needs a C compiler (CC). The exit status is 1 if anything was wrong.
+READER is text, image, stream, table or maps; where none is named all are tried, each for N seconds (10), J at a time (1). An input
+is one of examples/ or of tests/programs that was changed: bytes, pieces that are gone or there many times, pieces of another one,
+up to a megabyte. attacks/readers.c says what the library has to answer; each input may take a second and 300 MB. One that is
+answered otherwise is kept in FOLDER. By default inputs are mutated blindly, over the library crates/xdpvm_c/out/libxdpvm_c.a or
+ARCHIVE; with OBJECT, which examples/embed/coverage.py makes, libFuzzer makes them, guided by its counters (clang), and keeps those
+that reach something new in FOLDER. It needs a C compiler (CC). The exit status is 1 if anything was wrong.
 """
+import argparse
+import functools
 import glob
 import os
 import random
@@ -20,6 +22,7 @@ import subprocess
 import sys
 import tempfile
 from collections.abc import Iterator
+from concurrent.futures import ThreadPoolExecutor
 
 sys.path.insert(0, os.path.join(os.path.dirname(os.path.abspath(__file__)), "../checks"))
 from common import TOP, absolute, built, bytes_of, command_line, compiler, runnable, text_of, write
@@ -47,11 +50,12 @@ def texts() -> Iterator[bytes]:
         yield from (text.encode() for text in re.findall(r"^text (.*)$", text_of(path), re.M))
 
 
-def tables(program: str, folder: str) -> Iterator[bytes]:
+def tables(program: str) -> Iterator[bytes]:
     """The proof table of each image."""
-    for number, image in enumerate(IMAGES):
-        subprocess.run([program, "prove", image, f"{folder}/table"], stdout=subprocess.DEVNULL, check=True)
-        yield bytes([number]) + bytes_of(f"{folder}/table")
+    with tempfile.TemporaryDirectory() as folder:
+        for number, image in enumerate(IMAGES):
+            subprocess.run([program, "prove", image, f"{folder}/table"], stdout=subprocess.DEVNULL, check=True)
+            yield bytes([number]) + bytes_of(f"{folder}/table")
 
 
 def fillings() -> Iterator[bytes]:
@@ -64,7 +68,7 @@ def fillings() -> Iterator[bytes]:
             yield bytes([number]) + bytes_of(report)
 
 
-def inputs(reader: str, program: str, folder: str) -> Iterator[bytes]:
+def inputs(reader: str, program: str) -> Iterator[bytes]:
     """What a reader reads."""
     if reader == "text":
         yield from texts()
@@ -74,7 +78,7 @@ def inputs(reader: str, program: str, folder: str) -> Iterator[bytes]:
     elif reader == "stream":
         yield from (bytes([at]) + stream for at in range(len(IMAGES)) for stream in [*those("examples/*.frames"), TWO])
     else:
-        yield from tables(program, folder) if reader == "table" else fillings()
+        yield from tables(program) if reader == "table" else fillings()
 
 
 def driver(folder: str, archive: str, fuzzed: str | None) -> str:
@@ -89,10 +93,21 @@ def driver(folder: str, archive: str, fuzzed: str | None) -> str:
     return made
 
 
-def command(made: str, reader: str, seconds: int, seed: int, corpus: str) -> list[str]:
-    """The command line of a driver that mutates blindly."""
-    paths = [os.path.join(corpus, name) for name in sorted(os.listdir(corpus))]
-    return [made, reader, str(seconds), str(seed), ":".join(IMAGES), *paths]
+def tried(given: argparse.Namespace, made: str, folder: str, reader: str) -> bool:
+    """Whether a reader answered all its inputs."""
+    corpus = os.path.join(folder, f"corpus.{reader}")
+    os.mkdir(corpus)
+    for number, data in enumerate(inputs(reader, given.program)):
+        write(os.path.join(corpus, f"{number:04}"), data)
+    words = [made, reader, str(given.seconds), str(given.seed), ":".join(IMAGES)]
+    words += [os.path.join(corpus, name) for name in sorted(os.listdir(corpus))]
+    if given.object:
+        kept = os.path.join(given.keep, f"corpus.{reader}")
+        os.makedirs(kept, exist_ok=True)
+        limits = [f"-max_len={MOST}", "-timeout=60", "-rss_limit_mb=2000", "-verbosity=0", "-print_final_stats=1"]
+        words = [made, f"-max_total_time={given.seconds}", f"-seed={given.seed}", *limits, kept, corpus]
+    env = {**os.environ, "READER": reader, "IMAGES": ":".join(IMAGES)}
+    return subprocess.run(words, cwd=given.keep, env=env, check=False).returncode == 0
 
 
 def main() -> int:
@@ -100,6 +115,7 @@ def main() -> int:
     parser.add_argument("readers", nargs="*", metavar="READER", default=READERS)
     parser.add_argument("--seconds", type=int, default=10)
     parser.add_argument("--seed", type=int, default=1)
+    parser.add_argument("--jobs", type=int, default=1)
     parser.add_argument("--program", type=runnable, default=built())
     parser.add_argument("--archive", type=absolute, default=f"{TOP}/crates/xdpvm_c/out/libxdpvm_c.a")
     parser.add_argument("--object", type=absolute)
@@ -107,23 +123,10 @@ def main() -> int:
     given = parser.parse_args()
     if not set(given.readers) <= set(READERS):
         parser.error(f"READER is one of {', '.join(READERS)}")
-    wrong = 0
-    with tempfile.TemporaryDirectory() as folder:
+    with tempfile.TemporaryDirectory() as folder, ThreadPoolExecutor(given.jobs) as jobs:
         made = driver(folder, given.archive, given.object)
         os.makedirs(given.keep, exist_ok=True)
-        for reader in given.readers:
-            corpus = os.path.join(folder, f"corpus.{reader}")
-            os.mkdir(corpus)
-            for number, data in enumerate(inputs(reader, given.program, folder)):
-                write(os.path.join(corpus, f"{number:04}"), data)
-            words = command(made, reader, given.seconds, given.seed, corpus)
-            if given.object:
-                kept = os.path.join(given.keep, f"corpus.{reader}")
-                os.makedirs(kept, exist_ok=True)
-                limits = [f"-max_len={MOST}", "-timeout=60", "-rss_limit_mb=2000", "-verbosity=0", "-print_final_stats=1"]
-                words = [made, f"-max_total_time={given.seconds}", f"-seed={given.seed}", *limits, kept, corpus]
-            env = {**os.environ, "READER": reader, "IMAGES": ":".join(IMAGES)}
-            wrong += subprocess.run(words, cwd=given.keep, env=env, check=False).returncode != 0
+        wrong = [*jobs.map(functools.partial(tried, given, made, folder), given.readers)].count(False)
         found = glob.glob(os.path.join(given.keep, "found.*"))
     print(f"{len(given.readers)} readers, {wrong} ended with an error, {len(found)} inputs kept")
     return 1 if wrong or found else 0

@@ -2,7 +2,10 @@
    read. Its answers have to be those of the same calls by one thread alone. One session goes from thread to thread under a lock,
    and loses no packet. With -fsanitize=thread, a race on this side ends in a report and another status.
 
-   usage: threads CALLS IMAGE ..        (attacks/embedding.py builds and runs it; CALLS is how many there are in all) */
+   usage: threads CALLS alone IMAGE ..                      the sums of the answers of each thread alone
+          threads CALLS SUM SUM SUM SUM IMAGE ..            all threads at once, which have to have these sums
+
+   attacks/embedding.py builds and runs it; CALLS is how many there are in all. */
 #include "counting.h"
 #include <pthread.h>
 
@@ -143,36 +146,49 @@ static int has_counted(void) {
     return right;
 }
 
-int main(int words, char **word) {
-    unsigned long calls = 0, counted = 0;
-    uint64_t alone[THREADS];
-    if (words < 3) return 2;
-    for (int i = 2; i < words && count_of_images < MOST_IMAGES; i++) {
-        FILE *file = fopen(word[i], "rb");
+static void read_images(char **paths) {
+    for (; *paths && count_of_images < MOST_IMAGES; paths++) {
+        FILE *file = fopen(*paths, "rb");
         if (!file) continue;
         sizes[count_of_images] = fread(images[count_of_images], 1, XDPVM_MAX_IMAGE, file);
         count_of_images += sizes[count_of_images] != 0;
         fclose(file);
     }
-    make_image();
-    if (!count_of_images || xdpvm_open(image, image_size, &shared)) return 2;
+}
+
+static int run_alone(void) {
     for (int i = 0; i < THREADS; i++) {
-        threads[i].most = strtoul(word[1], 0, 10) / THREADS, threads[i].is_alone = 1;
+        threads[i].is_alone = 1;
         work(&threads[i]);
-        alone[i] = threads[i].answers;
-        threads[i].is_alone = 0;
+        printf("%llu ", (unsigned long long)threads[i].answers);
     }
+    return 0;
+}
+
+static int run_at_once(char **sums) {
+    unsigned long calls = 0, counted = 0;
+    int differ = 0;
+    make_image();
+    if (xdpvm_open(image, image_size, &shared)) return 2;
     for (int i = 0; i < THREADS; i++) {
         if (pthread_create(&threads[i].id, NULL, work, &threads[i])) return 2;
     }
-    int differ = 0;
     for (int i = 0; i < THREADS; i++) {
         pthread_join(threads[i].id, NULL);
-        differ += threads[i].answers != alone[i];
+        differ += threads[i].answers != strtoull(sums[i], 0, 10);
         calls += threads[i].calls, counted += threads[i].counted;
     }
     differ += !has_counted();
     xdpvm_close(&shared);
     printf("%lu calls on %d threads, %lu more on one session, %d differ\n", calls, THREADS, counted, differ);
     return differ != 0;
+}
+
+int main(int words, char **word) {
+    int is_alone = words > 2 && !strcmp(word[2], "alone"), first = is_alone ? 3 : 2 + THREADS;
+    if (words <= first) return 2;
+    read_images(word + first);
+    if (!count_of_images) return 2;
+    for (int i = 0; i < THREADS; i++) threads[i].most = strtoul(word[1], 0, 10) / THREADS;
+    return is_alone ? run_alone() : run_at_once(word + 2);
 }
