@@ -8,7 +8,7 @@ on the next, values that are gone, pointers into call frames that have ended, re
 may leave out, and loops that take long or never end.
 
 usage: python3 attacks/attacks.py [PROGRAM] [--programs N] [--seed S] [--jobs J] [--keep FOLDER] [--family NAME]
-       [--seconds N] [--library FILE] [--filter XDPVM_FILTER]
+       [--seconds N] [--filter XDPVM_FILTER] [--library FILE [--explored N]]
 
 N programs of each family are made, as texts. It reports each that `verify` accepts and `trace` ends
 with a trap or after more steps than the bound, or that `run` and `trace` run differently, each that
@@ -16,7 +16,7 @@ is refused for something that its family does not do, each of `witnesses` whose 
 without a trap, and each that takes more than a minute; its text and frames are kept in FOLDER. Many
 frames have an interface and a queue near the numbers of the text. A line for each family says how
 many were accepted, and why the others were refused. The exit status is 1 if anything was reported.
---library and --filter are as for fuzz.py.
+--library, --explored and --filter are as for fuzz.py.
 """
 import collections
 import os
@@ -48,20 +48,10 @@ def frames(chance: random.Random, version: int, lines: list[str]) -> bytes:
     out, found, numbers = b"XPF%d" % version, witness_of(lines), near(lines)
     if found:
         out += record(version, found[0], 0, found[1])
+    sources = (CORNERS, EDGES, range(256), range(2**32), numbers, numbers)
     for length in [0, 1, 3, 4, 7, 8, 14, 15, 16, 22, 23, 24, 31, 40, 300] * 3:
-        interface, queue = (
-            chance.choice(
-                [
-                    chance.choice(CORNERS),
-                    chance.choice(EDGES),
-                    chance.randrange(256),
-                    chance.randrange(2**32),
-                    *chance.choices(numbers, k=2),
-                ]
-            )
-            for _ in range(2)
-        )
-        out += record(version, (chance.randrange(2**64), interface, queue), chance.choice(REASONS), bytes(length))
+        interface, queue = (chance.choice(chance.choice(sources)) for _ in range(2))
+        out += record(version, (chance.getrandbits(64), interface, queue), chance.choice(REASONS), bytes(length))
     return out
 
 
@@ -103,6 +93,8 @@ def tried(family: str, run: Run, seed: int, folder: str) -> tuple[str | None, st
     if family == "witnesses" and (wrong := unwitnessed(run, paths, lines)):
         return wrong, "no trap"
     verdict = run("verify", paths[0])
+    if verdict.returncode == in_process.UNDECIDED:
+        return None, "undecided"
     if family == "loops" and (wrong := limited(run, chance, paths[0], verdict)):
         return wrong, "another verdict"
     said = verdict.stdout.decode().split()

@@ -18,10 +18,10 @@ import struct
 import sys
 import tempfile
 
-from in_process import Run
+from in_process import Run, loadable
 from fuzz import built, differs, runner
 import common
-from common import absolute, bytes_of, write
+from common import bytes_of, write
 
 EXAMPLES = f"{common.TOP}/examples"
 
@@ -161,7 +161,7 @@ def main() -> None:
     words.add_argument("program", nargs="?", type=built, default=common.built())
     words.add_argument("--every", type=int, default=1)
     words.add_argument("--versions", action="store_true", help="each other value of each byte of small inputs")
-    words.add_argument("--library", type=absolute, help="a shared library that answers in this process")
+    words.add_argument("--library", type=loadable, help="a shared library, or an archive, that answers in this process")
     asked = words.parse_args()
     folder, tally, run = tempfile.mkdtemp(), Tally(), runner(asked.program, asked.library)
     for damages in (changed_streams, changed_second_version) if asked.versions else (cut_streams, damaged_images):

@@ -3,7 +3,7 @@
 maps, helpers and functions, and runs those that are accepted on random frames.
 
 usage: python3 attacks/fuzz.py [PROGRAM] [--programs N] [--seed S] [--jobs J] [--keep FOLDER] [--ways] [--seconds N]
-       [--library FILE] [--filter XDPVM_FILTER]
+       [--filter XDPVM_FILTER] [--library FILE [--explored N]]
 
 Programs and frame streams are of both versions. It reports each accepted program that `trace` ends
 with a trap or after more steps than the bound, that `run` and `trace` run differently, whose frames
@@ -11,14 +11,17 @@ out have other reasons than the report says, or that names no action though it i
 each refusal whose way (the jumps on standard error) is not one of the program; and each command
 that takes more than a minute. The program and its frames are kept in FOLDER. Most programs are
 right by construction except for one or two changes, such as a limit that is off by one, so that
-about half are accepted. The last line counts. The exit status is 1 if anything was reported. With
---library a shared library (in_process.py says how to make one) does in this process what it can,
-some ten times as fast; a job that dies is reported with the folder of its last input. With --filter
-each accepted program with maps also runs on maps with random contents, by XDPVM_FILTER with checks,
-and without: both have to write the same, and no run traps.
+about half are accepted. The last line counts. The exit status is 1 if anything was reported.
+
+With --library no process is started for a program: the library, a shared one or the archive
+libxdpvm_c.a, does in this process what it can, and PROGRAM and XDPVM_FILTER do the rest in one
+process of a job (served.py). It explores at most N instructions of a program (1,000,000): one for
+which that is not enough is counted as undecided. A job that dies is reported with the folder of its
+last input. With --filter each accepted program with maps also runs on maps with random contents, by
+XDPVM_FILTER with checks, and by it or the library without: both have to write the same, and no run
+traps.
 """
 import argparse
-import json
 import os
 import random
 import re
@@ -26,18 +29,19 @@ import shutil
 import struct
 import subprocess
 import sys
-import tempfile
 import zlib
 from collections import Counter
 from collections.abc import Callable, Iterable, Iterator
 
 import in_process
 import common
-from common import absolute, bytes_of, record, write
-from in_process import Ran, Run
+from common import bytes_of, record, write
+from in_process import Ran, Run, loadable
+from jobs import in_jobs
 from kernel_calls import parsed
-from random_contents import contents
+from random_contents import ANY, contents, some_bytes
 from random_programs import Maker
+from served import Served, server
 
 Tried = Callable[[Run, int, str], tuple[str | None, str]]  # what is wrong with the results for a seed, and the verdict's code
 SECONDS = 60
@@ -52,12 +56,11 @@ def frames(chance: random.Random, version: int) -> bytes:
         length = chance.choice(
             [0, 1, 2, 7, 8, 13, 14, 15, 19, 20, 33, 34, 60, 64, 255, 256, 300, 4096] + [4097, 9215, 9216] * (version - 1)
         )
-        body = chance.choice((b"\0", b"\xff", b"\0\1\x7f\x80\xff", b""))
+        of = chance.choice((b"\0", b"\xff", b"\0\1\x7f\x80\xff", ANY))
         some = [0, 1, 2, 7, 8, 15, 2**31 - 1, 2**31, 2**32 - 1]
         interface, queue = (chance.choice([*some, chance.randrange(2**32)]) for _ in range(2))
         head, reason = (chance.randrange(2**64), interface, queue), chance.choice(REASONS)
-        body = bytes(chance.choices(body, k=length)) if len(body) > 1 else body * length if body else chance.randbytes(length)
-        out += record(version, head, reason, body)
+        out += record(version, head, reason, some_bytes(chance, of, length))
     return out
 
 
@@ -154,16 +157,14 @@ def differs_filled(paths: list[str], image: bytes, bound: int, run: Run) -> str 
 
 
 def differs(paths: list[str], bound: int, run: Run) -> str | None:
-    """What is wrong with the runs of an accepted program: None, or a text. In this process a program with maps is
-    traced on starting maps; one in eight runs in processes of its own too, where maps go from frame to frame. A
-    program whose trace is wrong is not run: that might not end, or end this process."""
+    """What is wrong with the runs of an accepted program: None, or a text. A program with maps also runs on starting maps
+    by the library, if it answers. A program whose trace is wrong is not run: that might not end, or end this process."""
     image = bytes_of(paths[0])
     has_maps = image[4:6] != b"\0\0"
     if FILTER and has_maps and (wrong := differs_filled(paths, image, bound, run)):
         return wrong
     if isinstance(run, in_process.Runner) and has_maps:
-        wrong = in_process.differs_alone(run.library, image, bytes_of(paths[1]), bound)
-        if wrong or zlib.crc32(image) % 8:
+        if wrong := in_process.differs_alone(run.library, image, bytes_of(paths[1]), bound):
             return wrong
     traced = run("trace", paths[0], paths[1], paths[2])
     rows = [line.split() for line in traced.stdout.decode().splitlines()]
@@ -198,15 +199,17 @@ def command(program: str, words: tuple[str, ...]) -> list[str]:
     return [*FILTER, image, frames_in, sent, "--maps", maps, "--report", report, *checked]
 
 
-def runner(program: str, library: str | None = None) -> Run:
-    """Runs the program with these words, for a minute at most; with a library, what it can in this process."""
+def runner(program: str, library: str | None = None, explored: int = in_process.MOST) -> Run:
+    """Runs the program with these words, for a minute at most; with a library, what it can in this process, and the rest
+    in one process that it starts."""
 
     def process(*words: str) -> Ran:
         called = command(program, words)
         return subprocess.run(called, timeout=SECONDS, stdin=subprocess.DEVNULL, capture_output=True, check=False)
 
     if library:
-        return in_process.Runner(library, process)
+        served = Served()
+        return in_process.Runner(library, lambda *words: served.ran(command(program, words), SECONDS), explored)
     return process
 
 
@@ -221,6 +224,8 @@ def tried(run: Run, seed: int, folder: str, ways: bool) -> tuple[str | None, str
     said = verdict.stdout.decode().split()
     if (verdict.returncode, said[:1]) == (2, ["refused"]):
         return misled(maker.code, verdict, ways), said[1]
+    if verdict.returncode == in_process.UNDECIDED:
+        return None, "undecided"
     if (verdict.returncode, said[:2]) != (0, ["ok", "bound"]):
         return f"verify: {verdict}", "no verdict"
     write(paths[1], frames(maker.random, versions[1]))
@@ -230,12 +235,14 @@ def tried(run: Run, seed: int, folder: str, ways: bool) -> tuple[str | None, str
 def worker(asked: argparse.Namespace, name: str, seeds: Iterable[int], one: Tried, folder: str) -> tuple[Counter[str], int]:
     """The verdicts on these seeds, and how many were found; `one` answers for a seed in a folder."""
     counts: Counter[str] = Counter()
-    found, run = 0, runner(asked.program, asked.library)
+    found, run = 0, runner(asked.program, asked.library, asked.explored)
     for seed in seeds:
         try:
             wrong, code = one(run, seed, folder)
         except subprocess.TimeoutExpired as late:
             wrong, code = f"no answer in {late.timeout} seconds: {late.cmd[1]}", "no answer"
+        except (MemoryError, ValueError) as error:  # of a library
+            wrong, code = str(error), "no answer"
         counts[code] += 1
         if wrong:
             found += 1
@@ -249,30 +256,19 @@ def worker(asked: argparse.Namespace, name: str, seeds: Iterable[int], one: Trie
 
 def spread(asked: argparse.Namespace, name: str, one: Tried) -> tuple[Counter[str], int]:
     """The verdicts on all seeds that are asked for, and how many were found, in processes of their own."""
-    children = []
-    for job in range(asked.jobs):
-        (back, out), folder = os.pipe(), tempfile.mkdtemp()
-        if os.fork() == 0:
-            os.close(back)
-            told = worker(asked, name, range(asked.seed + job, asked.seed + asked.programs, asked.jobs), one, folder)
-            with os.fdopen(out, "w") as file:
-                json.dump(told, file)
-            os._exit(0)  # pylint: disable=protected-access
-        os.close(out)
-        children.append((back, folder))
+
+    def work(job: int, folder: str) -> tuple[Counter[str], int]:
+        return worker(asked, name, range(asked.seed + job, asked.seed + asked.programs, asked.jobs), one, folder)
+
     counts: Counter[str] = Counter()
     found = 0
-    for back, folder in children:
-        with os.fdopen(back) as file:
-            said = file.read()
-        if not said:
+    for told, folder in in_jobs(asked.jobs, work):
+        if told is None:
             found += 1
             print(f"{name}: a job died, its last input is in {folder}", flush=True)
             continue
-        part, some = json.loads(said)
-        counts.update(part)
-        found += some
-        shutil.rmtree(folder)
+        counts.update(told[0])
+        found += told[1]
     return counts, found
 
 
@@ -283,13 +279,16 @@ def words_of(parser: argparse.ArgumentParser) -> None:
     parser.add_argument("--jobs", type=int, default=os.cpu_count())
     parser.add_argument("--keep", default="found", help="folder for what is found")
     parser.add_argument("--seconds", type=int, default=SECONDS, help="what a command may take; more on a busy machine")
-    parser.add_argument("--library", type=absolute, help="a shared library that answers in this process")
+    parser.add_argument("--library", type=loadable, help="a shared library, or an archive, that answers in this process")
+    parser.add_argument("--explored", type=int, default=in_process.MOST, help="instructions that the library explores at most")
     parser.add_argument("--filter", type=built, help="xdpvm_filter: programs with maps run on random contents, too")
 
 
 def begin(asked: argparse.Namespace) -> None:
-    """How long a command may take, and what fills maps."""
+    """How long a command may take, what fills maps, and what all jobs share."""
     wait(asked.seconds)
+    if asked.library:
+        server()
     FILTER[:] = [asked.filter] if asked.filter else []
 
 

@@ -1,11 +1,9 @@
 """The library in this process, for attacks that would otherwise start a process for each question:
 about a thousand questions a second and more. Runner does what a command line asks for as the
 program does, by the library if it can.
-
-A shared library is made of the archive (docs/EMBEDDING.md):
-cc -shared -o libxdpvm.so -Wl,--whole-archive libxdpvm_c.a -Wl,--no-whole-archive liblibc_c.a
 """
 import ctypes
+import itertools
 import os
 import struct
 import subprocess
@@ -14,7 +12,9 @@ from collections.abc import Callable, Iterable, Iterator
 from typing import Protocol
 
 sys.path.insert(0, os.path.join(os.path.dirname(os.path.abspath(__file__)), "../checks"))
-from common import bytes_of, record, there, write
+from common import bytes_of, compiler, record, write
+from jobs import kept
+import unproved
 
 MOST = 1_000_000  # instructions that are explored, and steps of a run
 UNDECIDED = 6  # the status of a search that its caller's limit ended
@@ -42,6 +42,16 @@ CALLS = {
     "xdpvm_run": [PLACE, CONST, PLACE, SIZE, PLACE],
     "xdpvm_close": [PLACE],
 }
+
+
+def loadable(path: str) -> str:
+    """The shared library of the command line: of an archive, libxdpvm_c.a, one is made until the script ends."""
+    if not path.endswith(".a"):
+        return os.path.abspath(path)
+    made, (_, heap) = os.path.join(kept(), "libxdpvm.so"), unproved.libraries(unproved.the_kit())
+    whole = ["-Wl,--whole-archive", path, "-Wl,--no-whole-archive", heap]
+    subprocess.run([compiler(), "-shared", "-o", made, *whole], check=True)
+    return made
 
 
 def records(stream: bytes) -> Iterator[tuple[Head, int, bytes]]:
@@ -203,9 +213,9 @@ def traced(library: Tracer, image: bytes, stream: bytes) -> tuple[bytes, bytes]:
 
 
 def differs_alone(library: Library, image: bytes, stream: bytes, bound: int) -> str | None:
-    """What is wrong with the traced runs of an accepted program on each frame of a stream, on starting maps, and with
-    its verified runs on the first two, which each verify it once more: None, or a text."""
-    for number, (head, _, packet) in enumerate(records(stream)):
+    """What is wrong with the traced runs of an accepted program on the first frames of a stream, on starting maps, and
+    with its verified runs on two of them, which each verify it once more: None, or a text."""
+    for number, (head, _, packet) in enumerate(itertools.islice(records(stream), 8)):
         r0, steps, kind, reason, after = library.trace(image, head, packet)
         if kind or steps > bound:
             return f"accepted with bound {bound}: end {kind}, reason {reason}, {steps} steps"
@@ -222,10 +232,11 @@ def told(status: int, bound: int, why: bytes) -> Answer:
 
 class Runner:
     """Does asm, verify, recheck, run and trace by the library, and a run on maps that are filled; `run` with a table,
-    `trace` of a program with maps, for which the library has no call, and other commands by a process."""
+    `trace` of a program with maps, for which the library has no call, and other commands by a process. `verify` explores
+    at most so many instructions; its status is UNDECIDED where that is not enough."""
 
-    def __init__(self, path: str, process: Run) -> None:
-        self.library, self.process = Library(path), process
+    def __init__(self, path: str, process: Run, explored: int = MOST) -> None:
+        self.library, self.process, self.explored = Library(path), process, explored
 
     def __call__(self, *words: str) -> Ran:
         answer = (
@@ -246,7 +257,8 @@ class Runner:
         return status, b"" if status else b"ok\n", made if status else b""
 
     def verify(self, image: str) -> Answer:
-        return told(*there(self.library.verify(bytes_of(image))))
+        found = self.library.verify(bytes_of(image), self.explored)
+        return told(*found) if found else (UNDECIDED, b"", b"")
 
     def recheck(self, image: str, proof: str) -> Answer:
         return told(*self.library.recheck(bytes_of(image), bytes_of(proof)))

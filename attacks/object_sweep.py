@@ -32,6 +32,7 @@ import image
 import libbpf
 import object_check
 import object_link
+from fuzz import runner
 from kernel_sweep import attacks
 from object_image import Program, Refused, map_names
 from objects import Refused as Unreadable
@@ -142,8 +143,9 @@ def images(given: argparse.Namespace) -> Iterator[tuple[str, bytes]]:
     elif given.set == "random":
         yield from randoms(given.seed)
     else:
-        for name, data, _ in attacks(given.count, given.seed, given.program):
-            yield name, data
+        with tempfile.TemporaryDirectory() as folder:
+            made = (making() for making in attacks(given.count, given.seed, runner(given.program), folder))
+            yield from (item[:2] for item in made if item)
 
 
 def most_of(given: argparse.Namespace) -> int:

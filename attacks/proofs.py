@@ -30,10 +30,10 @@ from collections.abc import Callable, Iterator
 
 sys.path.insert(0, os.path.join(os.path.dirname(os.path.abspath(__file__)), "../checks"))
 import common
-from common import TOP, absolute, bytes_of, there, write
+from common import TOP, bytes_of, there, write
 import table
 from fuzz import frames, runner, wait
-from in_process import Library, Run, Runner, records
+from in_process import Library, Run, Runner, loadable, records
 from random_programs import Maker
 
 Counts = Counter[str | tuple[str, str]]
@@ -297,12 +297,12 @@ def runs_alike(library: Library, image: bytes, stream: bytes, bound: int) -> boo
 
 
 def is_true(chance: random.Random, image: str, bound: int) -> bool:
-    """Whether the program runs by the damaged table as it is traced, and within the bound that this shows. With a library
-    one in eight programs with maps runs in processes too, where maps go from frame to frame."""
+    """Whether the program runs by the damaged table as it is traced, and within the bound that this shows. One with maps
+    runs by the library on starting maps, too."""
     stream, program = frames(chance, chance.choice([1, 2])), bytes_of(image)
     if isinstance(RUN, Runner):
         alike = runs_alike(RUN.library, program, stream, bound)
-        if not alike or program[4:6] == b"\0\0" or chance.random() > 1 / 8:
+        if not alike or program[4:6] == b"\0\0":
             return alike
     write("frames", stream)
     ran, traced = RUN("run", image, "frames", "sent", "--table", "damaged"), RUN("trace", image, "frames", "traced")
@@ -419,7 +419,7 @@ def main() -> None:
     parser.add_argument("--program", type=common.runnable, default=common.built())
     for name, number in ("--random", 200), ("--damages", 20), ("--seed", 1):
         parser.add_argument(name, type=int, default=number)
-    parser.add_argument("--library", type=absolute)
+    parser.add_argument("--library", type=loadable)
     parser.add_argument("paths", nargs="*", default=[os.path.join(TOP, "examples")])
     given = parser.parse_args()
     chance = random.Random(given.seed)

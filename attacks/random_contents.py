@@ -1,8 +1,15 @@
-"""Random contents of maps, as a text of maps (docs/FORMATS.md): keys and values of zeros, of ones and of any bytes."""
+"""Random contents of maps, as a text of maps (docs/FORMATS.md): keys and values of zeros, of ones and of any bytes. And bytes for
+packets."""
 import random
 import struct
 
 Row = tuple[int, int, int, int]  # type, key size, value size, entries
+ANY = bytes(range(256))
+
+
+def some_bytes(chance: random.Random, of: bytes, count: int) -> bytes:
+    """Random ones of these bytes."""
+    return chance.randbytes(count).translate((of * 256)[:256])
 
 
 def contents(chance: random.Random, rows: list[Row]) -> str:

@@ -22,10 +22,10 @@ import tempfile
 from collections.abc import Iterator
 
 sys.path.insert(0, os.path.join(os.path.dirname(os.path.abspath(__file__)), "../checks"))
-from common import absolute, built, bytes_of, command_line, record, runnable, write
+from common import built, bytes_of, command_line, record, runnable, write
 import table
 from fuzz import runner
-from in_process import Run
+from in_process import Run, loadable
 from table import Refused
 
 SMALL = "r0 = 2\nexit\n"
@@ -234,7 +234,7 @@ def main() -> None:
     words.add_argument("--random", type=int, default=20_000)
     words.add_argument("--seed", type=int, default=1)
     words.add_argument("--few", type=int, default=1)
-    words.add_argument("--library", type=absolute)
+    words.add_argument("--library", type=loadable)
     given = words.parse_args()
     tried, chance = Tried(runner(given.program, given.library), given.version), random.Random(given.seed)
     with tempfile.TemporaryDirectory() as room:

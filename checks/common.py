@@ -15,6 +15,7 @@ from typing import IO, NamedTuple, TypeVar
 TOP = os.path.dirname(os.path.dirname(os.path.abspath(__file__)))
 sys.path[1:1] = [os.path.join(TOP, it) for it in ("tools", "attacks", "tests", "bench", "examples")]
 CANNOT = 77  # the status of a check that cannot be tried here
+MEMORY = "/dev/shm" if os.access("/dev/shm", os.W_OK) else None  # a folder in memory for files that are written often
 PYTHON = os.environ.get("PYTHON_OF_TOOLS", sys.executable)  # what runs the tools: in the gate it asks checks/serving.py
 T = TypeVar("T")
 

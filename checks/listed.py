@@ -179,6 +179,13 @@ CHECKS = (
         "that recheck accepts what prove wrote, and refuses what is damaged",
         2,
     ),
+    Check(
+        "programs",
+        "python3 attacks/fuzz.py --programs 300 --ways --jobs 2 --library crates/xdpvm_c/out/libxdpvm_c.a --explored 20000 "
+        "--filter crates/xdpvm_filter/out/xdpvm_filter",
+        "random programs: the library and the programs, which are served, against runs with all checks, on maps that are filled",
+        4,
+    ),
     Check("kernel", "bash checks/kernel.sh", "that Linux runs an example alike", 2, skips=True),
     Check("objects_of_cases", "python3 attacks/object_sweep.py stored --every 10", "objects of the cases in tests/programs", 8),
     Check("objects_of_random", "python3 attacks/object_sweep.py random --count 100", "objects of random programs", 5),

@@ -5,23 +5,27 @@ import argparse
 import os
 import random
 import re
+import signal
 import struct
+import subprocess
 import sys
 import tempfile
 import unittest
 from pathlib import Path
 
 sys.dont_write_bytecode = True
-from common import PYTHON, TOP, said_by
+from common import PYTHON, TOP, compiler, said_by
 import damage
 import edits
 import file_map
 import fuzz
 import hostile_inputs
 import in_process
+import kernel_sweep
 import laws
 import names
 import proofs
+import served
 import table
 import tour
 from attack_witnesses import witness_of
@@ -439,13 +443,63 @@ class InProcess(unittest.TestCase):
                 os._exit(1)  # pylint: disable=protected-access
             return None, "V1"
 
-        asked = argparse.Namespace(jobs=2, seed=1, programs=4, program="", library=None, keep="")
+        asked = argparse.Namespace(jobs=2, seed=1, programs=4, program="", library=None, explored=1, keep="")
         self.assertEqual(fuzz.spread(asked, "seed", lambda run, seed, folder: (None, "V1")), ({"V1": 4}, 0))
         out, sys.stdout = sys.stdout, open(os.devnull, "w", encoding="utf-8")
         with sys.stdout:
             told = fuzz.spread(asked, "seed", dies)
         sys.stdout = out
         self.assertEqual(told, ({"V1": 2}, 1))
+
+    def test_verdicts_that_a_row_is_about(self) -> None:
+        it = kernel_sweep.Comparison.__new__(kernel_sweep.Comparison)
+        for ours, refusal, has in (
+            ("refused V13", None, True),
+            ("refused V5", None, False),
+            ("no verdict", None, False),
+            ("ok", "invalid shift 64", True),
+            ("ok", "unknown func 9", False),
+        ):
+            it.ours = ours
+            self.assertEqual(it.has_row(refusal), has, (ours, refusal))
+
+
+# It keeps its words at its beginning, as programs of the toolchain do, and ends by a signal or never where it is asked to.
+SERVED = """
+#include <string.h>
+#include <signal.h>
+#include <unistd.h>
+static int count;
+static char **kept;
+__attribute__((constructor)) static void keep(int many, char **words) { count = many, kept = words; }
+static void say(int to, const char *text) { if (write(to, text, strlen(text)) < 0) raise(SIGABRT); }
+int main(void) {
+    if (!strcmp(kept[1], "end")) raise(SIGTERM);
+    while (!strcmp(kept[1], "wait")) pause();
+    say(1, kept[0]), say(2, kept[count - 1]);
+    return count;
+}
+"""
+
+
+class Served(unittest.TestCase):
+    def test_one_process_does_many_command_lines(self) -> None:
+        with tempfile.TemporaryDirectory() as folder:
+            program = os.path.join(folder, "program")
+            subprocess.run([compiler(), "-x", "c", "-o", program, "-"], input=SERVED.encode(), check=True)
+            asked = served.Served()
+            for words in (["one"], ["one", "two"], ["x" * 9_000]):
+                ran = asked.ran([program, *words], 60)
+                self.assertEqual(
+                    (ran.returncode, ran.stdout, ran.stderr), (1 + len(words), program.encode(), words[-1].encode()), words
+                )
+            child = asked.running[program]
+            self.assertEqual(asked.ran([program, "end"], 60).returncode, -signal.SIGTERM)
+            self.assertEqual(asked.ran([program, "again"], 60).stdout, program.encode())
+            self.assertNotIn(child, asked.running.values())
+            with self.assertRaises(subprocess.TimeoutExpired):
+                asked.ran([program, "wait"], 0.1)
+            self.assertEqual(asked.running, {})
 
 
 class Hostile(unittest.TestCase):

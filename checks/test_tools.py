@@ -344,10 +344,13 @@ class Kernel(unittest.TestCase):
         with unittest.mock.patch.object(kernel_calls, "call", call), kernel_calls.Kernel(content("firewall.image")) as there:
             self.assertEqual(there.refusal, "R1 pointer arithmetic prohibited")
             self.assertEqual(there.processed(), ", 2 instructions processed")
+        self.assertEqual(
+            kernel_calls.last_words(log.replace(b"R1 pointer", b"R9 32-bit pointer")), "R9 32-bit pointer arithmetic prohibited"
+        )
 
     def test_what_differs_is_said(self) -> None:
-        ran = kernel.Ran.__new__(kernel.Ran)
-        ran.rows, ran.bodies, ran.entries = [["0", "PASS", "14", "2"]], [bytes(14)], [(0, b"\1", b"\2")]
+        sent = kernel.stream_of([(1, bytes(14))])
+        ran = kernel.Report(["0 PASS 14 2 0", "map 0 01 02", "end 1"], sent)
         frames_given = [(1, bytes(14))]
         alike = Answers(2, bytes(14), [(0, b"\1", b"\2")])
         self.assertEqual(kernel.differences(alike, ran, frames_given), ([], 1))

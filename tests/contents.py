@@ -159,7 +159,7 @@ def kernel_differs(folder: Folder, xdpvm: str, counts: Counter[str]) -> str:
         filled = kernel.Filled(folder.program, Filling(f"{folder.path}/begin.maps"))
         there.fill(filled.entries())
         ran = kernel.Ran(xdpvm, f"{folder.path}/image", frames, filled)
-        found, both = kernel.differences(there, ran, frames)
+        found, both = kernel.differences(there, ran.report, frames)
     counts["frames by the kernel"] += both
     counts["run by the kernel"] += 1
     return "; ".join(found)

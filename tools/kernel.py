@@ -35,6 +35,7 @@ import struct
 import subprocess
 import sys
 import tempfile
+from collections.abc import Iterable
 from dataclasses import dataclass
 from pathlib import Path
 
@@ -113,24 +114,31 @@ class Filled:
     def entries(self) -> list[Entry]:
         """What the text says of maps, line by line."""
         with open(self.filling.path, encoding="utf-8", errors="replace") as file:
-            return [entry_of(line) for line in file if line.startswith("map ")]
+            return entries_of(file)
+
+
+class Report:
+    """What a run over a stream with reasons left: the lines of the frames, in words, the frames' bytes after it, and
+    the maps' keys and values."""
+
+    def __init__(self, lines: list[str], sent: bytes) -> None:
+        words = [line.split() for line in lines]
+        self.rows = [it for it in words if it[0] not in ("map", "end", "fault")]
+        self.bodies = [body for _, body in whole(sent)]
+        self.entries = entries_of(lines)
 
 
 class Ran:
-    """What `xdpvm` says of an image: its verdict, and the report and the frames after a run, on maps that are
-    filled."""
+    """What `xdpvm` says of an image: its verdict, and the report of a run, on maps that are filled."""
 
-    def __init__(self, program: str, image: str | Path, frames: list[Frame] | None, filled: Filled | None = None) -> None:
+    def __init__(self, program: str, image: str | Path, frames: list[Frame], filled: Filled | None = None) -> None:
         verdict = subprocess.run([program, "verify", image], capture_output=True, text=True, check=False)
         self.verdict = verdict.stdout.strip() or verdict.stderr.strip()
         self.accepted = verdict.returncode == 0
-        self.rows: list[list[str]] = []
-        self.bodies: list[bytes] = []
-        self.entries: list[Entry] = []
-        if self.accepted and frames is not None:
-            self.run(program, image, frames, filled)
+        self.report = self.run(program, image, frames, filled) if self.accepted else Report([], b"")
 
-    def run(self, program: str, image: str | Path, frames: list[Frame], filled: Filled | None = None) -> None:
+    @staticmethod
+    def run(program: str, image: str | Path, frames: list[Frame], filled: Filled | None) -> Report:
         """Runs the image on the frames."""
         with tempfile.TemporaryDirectory() as folder:
             given, sent = f"{folder}/in", f"{folder}/out"
@@ -142,19 +150,13 @@ class Ran:
                 words = [program, "run", image, given, sent]
                 report = subprocess.run(words, capture_output=True, text=True, check=False).stdout
             with open(sent, "rb") as file:
-                self.bodies = [body for _, body in whole(file.read())]
-        for line in report.splitlines():
-            words_of = line.split()
-            if words_of[0] == "map":
-                self.entries.append(entry_of(line))
-            elif words_of[0] not in ("end", "fault"):
-                self.rows.append(words_of)
+                return Report(report.splitlines(), file.read())
 
 
-def entry_of(line: str) -> Entry:
-    """What a map line says."""
-    _, index, key, value = line.split()
-    return int(index), bytes.fromhex(key), bytes.fromhex(value)
+def entries_of(lines: Iterable[str]) -> list[Entry]:
+    """What map lines say; others are left out."""
+    words = [line.split() for line in lines if line.startswith("map ")]
+    return [(int(index), bytes.fromhex(key), bytes.fromhex(value)) for _, index, key, value in words]
 
 
 def whole(stream: bytes) -> list[Frame]:
@@ -173,7 +175,7 @@ def action_of(answer: int) -> str:
     return ACTIONS[answer] if answer < len(ACTIONS) else "INVALID"
 
 
-def differences(kernel: Kernel, ran: Ran, frames: list[Frame]) -> tuple[list[str], int]:
+def differences(kernel: Kernel, ran: Report, frames: list[Frame]) -> tuple[list[str], int]:
     """Where the runs differ, a line each; and how many frames were run by both."""
     found: list[str] = []
     both = 0
@@ -274,12 +276,12 @@ def compared(given: argparse.Namespace, folder: str) -> int:
             return status
         if not has_clock:
             kernel.fill(entries)
-            found, both = differences(kernel, ran, frames)
+            found, both = differences(kernel, ran.report, frames)
     if has_clock:
         print(f"the program asks for the time: both are given {TIME:,} nanoseconds at each call")
         with Kernel(with_time(image)) as kernel:
             kernel.fill(entries)
-            found, both = differences(kernel, ran, frames)
+            found, both = differences(kernel, ran.report, frames)
     print(f"frames: {both} run by both, {left_out} left out; {'alike' if not found else 'not alike'}")
     print(*found[:20], sep="\n", end="\n" if found else "")
     return 1 if found else 0

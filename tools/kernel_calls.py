@@ -4,6 +4,7 @@ from __future__ import annotations
 
 import ctypes
 import errno
+import functools
 import os
 import re
 import struct
@@ -31,6 +32,12 @@ def call(command: int, attributes: bytes) -> tuple[int, bytes]:
     return (result if result >= 0 else -ctypes.get_errno()), room.raw
 
 
+@functools.cache
+def log_room() -> ctypes.Array[ctypes.c_char]:
+    """Room for a log of the kernel's verifier: of all of them, since clearing it takes longer than most verdicts."""
+    return ctypes.create_string_buffer(LOG_BYTES)
+
+
 def without_perfmon() -> None:
     """This process keeps CAP_BPF, CAP_NET_ADMIN and CAP_SYS_RESOURCE, and no other capability."""
     with open("/proc/self/status", encoding="utf-8") as status:
@@ -53,14 +60,14 @@ def parsed(image: bytes) -> tuple[list[tuple[int, int, int, int]], list[bytes]]:
 
 
 class Kernel:
-    """A program in the kernel with its maps. `refusal` is None, or the log of its refusal. With `counts` an accepted
-    one has the kernel's counts in its log."""
+    """A program in the kernel with its maps. `refusal` is None, or the log of its refusal; without `explains` the error's
+    name. With `counts` an accepted one has the kernel's counts in its log."""
 
-    def __init__(self, image: bytes, counts: bool = False) -> None:
+    def __init__(self, image: bytes, counts: bool = False, explains: bool = True) -> None:
         self.rows, slots = parsed(image)
         self.files: list[int] = []
         self.refusal: str | None = None
-        self.log, self.counts = b"", counts
+        self.log, self.counts, self.explains = b"", counts, explains
         try:
             self.maps = [self.made(*row) for row in self.rows]
             self.program = self.loaded(b"".join(self.linked(slots)))
@@ -100,8 +107,9 @@ class Kernel:
         """The program in the kernel, or nothing where it is refused."""
         room, terms = ctypes.create_string_buffer(code, len(code)), ctypes.create_string_buffer(b"GPL")
         words = (XDP, len(code) // 8, ctypes.addressof(room), ctypes.addressof(terms))
-        for level in (4 if self.counts else 0, 1):
-            log = ctypes.create_string_buffer(LOG_BYTES if level else 1)
+        log = log_room()
+        for level in (4 if self.counts else 0, *[1] * self.explains):
+            log[0] = b"\0"
             seen = (level, LOG_BYTES, ctypes.addressof(log)) if level else (0, 0, 0)
             result, _ = call(PROG_LOAD, struct.pack("<IIQQIIQI", *words, *seen, 0))
             if result >= 0:
@@ -109,7 +117,7 @@ class Kernel:
                 self.log = log.value
                 return result
         self.log = log.value
-        if not self.log and result in (-errno.EPERM, -errno.ENOSYS):
+        if not self.log and self.explains and result in (-errno.EPERM, -errno.ENOSYS):
             raise NoKernel(f"bpf(2): {os.strerror(-result)}")
         self.refusal = last_words(self.log) or os.strerror(-result)
         return None
@@ -125,7 +133,7 @@ class Kernel:
         if result < 0:
             raise OSError(-result, "the kernel's test run")
         answer, _, length = struct.unpack_from("<III", after, 4)
-        return answer, taken.raw[:length]
+        return answer, ctypes.string_at(taken, length)
 
     def fill(self, entries: Iterable[Entry]) -> None:
         """Updates the maps, in this order."""
@@ -189,5 +197,5 @@ def last_words(log: bytes) -> str:
         ";",
     )
     lines = [it for it in log.decode(errors="replace").splitlines() if it and not it[0].isdigit()]
-    said = [it for it in lines if not it.startswith(dumps) or re.match(r"R\d+ [a-z!]", it)]
+    said = [it for it in lines if not it.startswith(dumps) or re.match(r"R\d+ [a-z!\d]", it)]
     return said[-1] if said else ""
