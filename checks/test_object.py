@@ -258,6 +258,7 @@ class Check(unittest.TestCase):
             ("combined stack size of 2 calls is 1024. Too large", 8),
             ("the call stack of 8 frames is too deep !", 9),
             ("R9 32-bit pointer arithmetic prohibited", 5),
+            ("R8 invalid mem access 'scalar'", 5),
             ("misaligned value access off 0+0+1 size 8", 10),
             ("same insn cannot be used with different pointers", 11),
             ("R2 pointer arithmetic with it prohibited for !root", 12),

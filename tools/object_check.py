@@ -58,7 +58,8 @@ ROWS = [
     Row(
         "a jump is known to go one way by both limits and bits, after more operations",
         "takes both ways, and may refuse what cannot be reached",
-        "!read_ok|invalid bpf_context access|invalid (write to|read from) stack|32-bit pointer arithmetic prohibited",
+        "!read_ok|invalid bpf_context access|invalid (write to|read from) stack|32-bit pointer arithmetic prohibited"
+        "|invalid mem access 'scalar'",
     ),
     Row(
         "a loop has an end that the limits and bits kept here show",
