@@ -28,14 +28,16 @@ def in_jobs(count: int, work: Callable[[int, str], object]) -> Iterator[tuple[An
     children = []
     for job in range(count):
         (back, out), folder = os.pipe(), tempfile.mkdtemp(dir=MEMORY)
-        if os.fork() == 0:
+        child = os.fork()
+        if child == 0:
             os.close(back)
             answer(out, work, job, folder)
         os.close(out)
-        children.append((back, folder))
-    for back, folder in children:
+        children.append((child, back, folder))
+    for child, back, folder in children:
         with os.fdopen(back) as file:
             said = file.read()
+        os.waitpid(child, 0)
         yield json.loads(said) if said else None, folder
         if said:
             shutil.rmtree(folder)

@@ -2,7 +2,7 @@
 """Compares many programs with the Linux kernel of this machine: verdicts, and runs if both accept.
 
 usage: python3 attacks/kernel_sweep.py SET [--program XDPVM] [--count N] [--seed S] [--plain] [--jobs J] [--keep FOLDER]
-       [--name CODE] [--filter XDPVM_FILTER] [--library FILE [--explored N]]
+       [--name CODE] [--seconds N] [--filter XDPVM_FILTER] [--library FILE [--explored N]]
 
 SET is one of
   images PATH ..   images, or folders of images; with PATH.frames beside PATH.image if there is one
