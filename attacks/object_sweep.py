@@ -33,7 +33,7 @@ import libbpf
 import object_check
 import object_link
 from fuzz import runner
-from kernel_sweep import attacks
+from kernel_programs import attacks
 from object_image import Program, Refused, map_names
 from objects import Refused as Unreadable
 from random_programs import Maker
