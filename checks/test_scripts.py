@@ -11,6 +11,7 @@ import subprocess
 import sys
 import tempfile
 import unittest
+import unittest.mock
 from pathlib import Path
 
 sys.dont_write_bytecode = True
@@ -21,6 +22,7 @@ import file_map
 import fuzz
 import hostile_inputs
 import in_process
+import jobs
 import kernel_sweep
 import laws
 import names
@@ -446,8 +448,9 @@ class InProcess(unittest.TestCase):
         asked = argparse.Namespace(jobs=2, seed=1, programs=4, program="", library=None, explored=1, keep="")
         self.assertEqual(fuzz.spread(asked, "seed", lambda run, seed, folder: (None, "V1")), ({"V1": 4}, 0))
         out, sys.stdout = sys.stdout, open(os.devnull, "w", encoding="utf-8")
-        with sys.stdout:
+        with sys.stdout, tempfile.TemporaryDirectory() as folder, unittest.mock.patch.object(jobs, "MEMORY", folder):
             told = fuzz.spread(asked, "seed", dies)
+            self.assertEqual(len(os.listdir(folder)), 1)
         sys.stdout = out
         self.assertEqual(told, ({"V1": 2}, 1))
 
