@@ -59,7 +59,8 @@ ROWS = [
         "a jump is known to go one way by both limits and bits, after more operations",
         "takes both ways, and may refuse what cannot be reached",
         "!read_ok|invalid bpf_context access|invalid (write to|read from) stack|32-bit pointer arithmetic prohibited"
-        "|invalid mem access 'scalar'",
+        "|invalid mem access '(scalar|map_value_or_null)'|pointer arithmetic on (map_value_or_null|pkt_end) prohibited"
+        "|misaligned stack access|invalid size of register spill|bpf_unspec#0",
     ),
     Row(
         "a loop has an end that the limits and bits kept here show",
