@@ -159,6 +159,16 @@ int rename(const char *old, const char *path) {
     return renameat(AT_FDCWD, old, AT_FDCWD, path);
 }
 
+int ftruncate(int file, off_t size) {
+    if (counts_file(file) && breaks("empty")) {
+        errno = EIO;
+        return -1;
+    }
+    return syscall(SYS_ftruncate, file, size);
+}
+
+int ftruncate64(int file, off64_t size) __attribute__((alias("ftruncate")));
+
 static int flushed(long call, int file) {
     if (counts_file(file) && breaks("flush")) {
         errno = EIO;

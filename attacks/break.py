@@ -27,8 +27,8 @@ import common
 from common import PYTHON, TOP, bytes_of, there, write
 from failing import Answer, Forked, Told, Tried, prepare
 
-KINDS = ("alloc", "allocs", "open", "read", "write", "no-write", "short-read", "short-write", "close", "rename", "flush")
-FEW_KINDS = ("alloc", "open", "read", "write")
+KINDS = ("alloc", "allocs", "open", "read", "write", "no-write", "short-read", "short-write", "close", "rename", "flush", "empty")
+FEW_KINDS = ("alloc", "open", "read", "write", "empty")
 
 
 def image(name: str) -> str:
@@ -163,8 +163,8 @@ def lacks_stops(words: list[str], found: Answer, good: Answer) -> bool:
 
 
 def of_memory(_: Tried, words: list[str], found: Answer, good: Answer) -> str | None:
-    if found.status == 5 and found.err == b"out of memory\n" and found.is_empty():
-        return "status 5" if found.is_quiet() else "status 5, an old output emptied"
+    if found.status == 5 and found.err == b"out of memory\n" and found.is_quiet():
+        return "status 5"
     if found.is_as(good):
         return "unchanged"
     known = lacks_reason(found, good) or lacks_stops(words, found, good)
@@ -208,7 +208,7 @@ def of_short(_: Tried, __: list[str], found: Answer, good: Answer) -> str | None
 
 
 ALLOWED = dict(
-    zip(KINDS, (of_memory, of_memory, of_open, of_read, of_write, of_write, of_short, of_short, of_short, of_open, of_write))
+    zip(KINDS, (of_memory, of_memory, of_open, of_read, of_write, of_write, of_short, of_short, of_short, of_open, of_write, of_write))
 )
 
 

@@ -25,7 +25,7 @@ import common
 from common import write
 from failing import Answer, Forked, Told, prepare
 
-KINDS = ("alloc", "allocs", "open", "read", "write", "no-write", "short-read", "short-write", "close", "rename", "flush")
+KINDS = ("alloc", "allocs", "open", "read", "write", "no-write", "short-read", "short-write", "close", "rename", "flush", "empty")
 OUTPUTS = ("made", "report", "held")
 EVERY_OUTPUT = ["--report", "report", "--maps-out", "held"]
 RUNS = (
@@ -79,8 +79,8 @@ def lacks_losses(answer: Answer, whole: Answer) -> bool:
 
 def of_memory(words: list[str], answer: Answer, whole: Answer) -> str | None:
     if answer.status == 5 and answer.err == b"out of memory\n":
-        if answer.is_empty():
-            return "status 5, nothing written" if answer.is_quiet() else "status 5, an old output emptied"
+        if answer.is_quiet():
+            return "status 5, nothing written"
         return "status 5, all but the counts" if has_all_but_counts(answer, whole) else None
     if answer.is_as(whole):
         return "unchanged"
@@ -105,11 +105,10 @@ def is_cut_off(words: list[str], answer: Answer, whole: Answer) -> bool:
 
 
 def of_open(words: list[str], answer: Answer, _: Answer) -> str | None:
-    """Nothing is written but outputs that were made before the one that is not opened: those are empty."""
     named = re.match(r"cannot (?:read|write) (standard output|\S+)\npermission denied\n", answer.err.decode())
-    if answer.status != 4 or not named or named[1] not in (*words, *OUTPUTS, "standard output") or not answer.is_empty():
+    if answer.status != 4 or not named or named[1] not in (*words, *OUTPUTS, "standard output"):
         return None
-    return "status 4" if answer.is_quiet() else "status 4, an output before it emptied"
+    return "status 4" if answer.is_quiet() else None
 
 
 def of_conversion_read(words: list[str], answer: Answer, whole: Answer) -> str | None:
@@ -145,7 +144,7 @@ def of_short(_: list[str], answer: Answer, whole: Answer) -> str | None:
 
 
 ALLOWED = dict(
-    zip(KINDS, (of_memory, of_memory, of_open, of_read, of_write, of_write, of_short, of_short, of_short, of_open, of_write))
+    zip(KINDS, (of_memory, of_memory, of_open, of_read, of_write, of_write, of_short, of_short, of_short, of_open, of_write, of_write))
 )
 
 

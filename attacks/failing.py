@@ -14,7 +14,7 @@ from typing import IO
 from common import TOP, bytes_of, compiler, there, write
 
 BETWEEN, MARK, STORED = "between.so", "mark", "standard.output"
-OLD = b"what stood in an output before\n"
+OLD = 400 * b"what stood in an output before\n"  # longer than most of the new ones: a rest of it would be seen
 GONE = b"an output that is gone"
 SECONDS = 60
 MOST_STARTED = 16
@@ -47,10 +47,6 @@ class Answer:
     def is_quiet(self) -> bool:
         """Whether standard output got no byte, and each file is as it was."""
         return not self.out and not any(it is not None for it in self.files)
-
-    def is_empty(self) -> bool:
-        """Whether nothing was written, though an output may have been made anew."""
-        return not self.out and not any(self.files)
 
     def begins(self, whole: "Answer") -> bool:
         """Whether each output has a beginning of what it should have, and nothing else, or is as it was."""

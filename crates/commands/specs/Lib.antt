@@ -6,6 +6,7 @@ pub mod InvalidRuns
 pub mod Judging
 pub mod Known
 pub mod Proving
+pub mod Replacing
 pub mod Saying
 pub mod Statuses
 pub mod Stopped

@@ -13,6 +13,7 @@ use super::fronts::{Watched, read_ahead};
 use super::images::load_image;
 use super::outcomes::TaskOutcome;
 use super::outputs::create_sent;
+use super::replacing::Replaced;
 use super::screens::Screen;
 use super::streams::{run_stream, trace_stream};
 use super::verdicts::{judge, say_verdict};
@@ -34,7 +35,7 @@ const BUFFER: usize = 64 * 1024;
 pub type Streams<'b, R> = (
     Ahead<Watched<'b, R, <R as Files>::File>>,
     FileForm,
-    PromptWriter<<R as Files>::File>,
+    PromptWriter<Replaced<<R as Files>::File>>,
 );
 
 /// Opens a frame stream, with a buffer. Nothing is read from it.

@@ -4,12 +4,11 @@ ghost use Rattle.std.specs.Prelude.{IfErr, codes};
 ghost use Rattle.commands.specs.Statuses.{IsMakeFailure};
 
 use super::outcomes::TaskOutcome;
+use super::replacing::{Replaced, open_appended, open_replaced};
 use super::same::{is_output_pipe, is_same_file};
 use exact_io::PromptWriter;
 use messages::{Conflict, STANDARD_OUTPUT};
 use std::alloc::Global;
-use std::fs;
-use std::fs::OpenOptions;
 use std::io::Write;
 use std::rt::Files;
 use words::TablePaths;
@@ -39,11 +38,15 @@ fn with_buffer<'a, W: Write + Drop>(
     }
 }
 
-// Makes a file to write to.
-fn create<'a, R: Files>(rt: &R, path: &'a str) -> Result<R::File, TaskOutcome<'a>>
+// Makes a file to write to, or opens the one that is there, to be replaced.
+fn create<'a, R: Files>(
+    rt: &R,
+    path: &'a str,
+    may_be_empty: bool,
+) -> Result<Replaced<R::File>, TaskOutcome<'a>>
     ensures { IfErr result (IsMakeFailure path.now) }
 {
-    match fs::create(rt, path) {
+    match open_replaced(rt, path, may_be_empty) {
         Ok(file) => Ok(file),
         Err(error) => Err(TaskOutcome::of_write(path, &error)),
     }
@@ -55,7 +58,7 @@ pub fn create_file<'a, R: Files>(
     rt: &R,
     path: &'a str,
     read: &[&str],
-) -> Result<R::File, TaskOutcome<'a>>
+) -> Result<Replaced<R::File>, TaskOutcome<'a>>
     ensures { IfErr result (IsMakeFailure path.now) }
 {
     if path == "-" {
@@ -66,7 +69,7 @@ pub fn create_file<'a, R: Files>(
             return Err(TaskOutcome::CannotReplace(path, Conflict::IsRead));
         }
     }
-    create(rt, path)
+    create(rt, path, false)
 }
 
 /// Makes the file of the frames out, with a buffer, unless it is one of those that are read, or the
@@ -76,7 +79,7 @@ pub fn create_sent<'a, R: Files>(
     alloc: Global,
     path: &'a str,
     read: &[&str],
-) -> Result<PromptWriter<R::File>, TaskOutcome<'a>>
+) -> Result<PromptWriter<Replaced<R::File>>, TaskOutcome<'a>>
     ensures { IfErr result (IsMakeFailure path.now) }
 {
     if is_output_pipe(rt, path) {
@@ -91,7 +94,7 @@ pub fn create_table<'a, R: Files>(
     rt: &R,
     alloc: Global,
     paths: TablePaths<'a>,
-) -> Result<PromptWriter<R::File>, TaskOutcome<'a>>
+) -> Result<PromptWriter<Replaced<R::File>>, TaskOutcome<'a>>
     ensures { IfErr result (IsMakeFailure paths.entry.table.now) }
 {
     let file = create_file(rt, paths.table, &[paths.image])?;
@@ -137,18 +140,20 @@ pub fn keep_apart<'a, R: Files>(
 }
 
 /// Makes an output of a task that has several, with a buffer, unless `keep_apart` refuses it. Its
-/// first bytes are written immediately.
+/// first bytes are written immediately. What the file has stays until then, or until a flush, if
+/// the output may be empty.
 pub fn create_output<'a, R: Files>(
     rt: &R,
     alloc: Global,
     path: &'a str,
+    may_be_empty: bool,
     read: &[&str],
     written: &[&str],
-) -> Result<PromptWriter<R::File>, TaskOutcome<'a>>
+) -> Result<PromptWriter<Replaced<R::File>>, TaskOutcome<'a>>
     ensures { IfErr result (IsMakeFailure path.now) }
 {
     keep_apart(rt, path, read, written)?;
-    let file = create(rt, path)?;
+    let file = create(rt, path, may_be_empty)?;
     with_buffer(alloc, path, MAGIC, file)
 }
 
@@ -158,7 +163,7 @@ pub fn open_standard_output<R: Files>(
     rt: &R,
     alloc: Global,
     read: &[&str],
-) -> Result<PromptWriter<R::File>, TaskOutcome<'static>>
+) -> Result<PromptWriter<Replaced<R::File>>, TaskOutcome<'static>>
     ensures { IfErr result (IsMakeFailure (codes "standard output")) }
 {
     for other in read {
@@ -166,7 +171,7 @@ pub fn open_standard_output<R: Files>(
             return Err(TaskOutcome::CannotReplace(STANDARD_OUTPUT, Conflict::IsRead));
         }
     }
-    match OpenOptions::new().append(true).open(rt, OUTPUT) {
+    match open_appended(rt, OUTPUT) {
         Ok(file) => with_buffer(alloc, STANDARD_OUTPUT, MAGIC, file),
         Err(error) => Err(TaskOutcome::of_write(STANDARD_OUTPUT, &error)),
     }

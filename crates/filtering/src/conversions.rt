@@ -2,6 +2,7 @@
 
 ghost use Rattle.std.specs.Prelude.{◌≡◌, IfErr, bytes_eq, codes};
 ghost use Rattle.words.specs.FilterRequests.{convert_request_of};
+ghost use Rattle.commands.specs.Replacing.{written};
 ghost use Rattle.commands.specs.Statuses.{IsMakeFailure};
 ghost use Rattle.filtering.specs.FrameKinds.{written_as};
 ghost use Rattle.filtering.specs.Conversions.{CapturesBegun, CapturesFrom, ConvertsBegun, ConvertsFiles, CopiesBegun, CopiesFrom, PrintsBegun, WritesBegun, copied_by, outcome_of, placing_of};
@@ -174,10 +175,11 @@ fn copy_begun<'a, R: Files, S: Source + Drop>(
     frame_form: FrameForm,
     output: &'a str,
 ) -> Ending<'a>
-    ensures { CopiesBegun R.File.contents from.entry.path.now (S.remaining from.entry.source)
-        from.entry.form frame_form from.entry.placing output.now result }
+    ensures { CopiesBegun (written R.File.contents) from.entry.path.now
+        (S.remaining from.entry.source) from.entry.form frame_form from.entry.placing output.now
+        result }
 {
-    match open_sent(rt, alloc, output, &[from.path]) {
+    match open_sent(rt, alloc, output, true, &[from.path]) {
         Ok(mut file) => copy_from(alloc, from, frame_form, output_name(output), &mut file),
         Err(outcome) => Ending::plain(outcome),
     }
@@ -192,7 +194,7 @@ fn write_begun<'a, R: Files, S: Source + Drop, W: Write + Drop>(
     output: &'a str,
     out: &mut PromptWriter<W>,
 ) -> Ending<'a>
-    ensures { WritesBegun (bytes_eq output.now (codes "-")) W.contents R.File.contents
+    ensures { WritesBegun (bytes_eq output.now (codes "-")) W.contents (written R.File.contents)
         from.entry.path.now (S.remaining from.entry.source) from.entry.form frame_form
         from.entry.placing output.now out.old out.new result }
 {
@@ -214,7 +216,7 @@ fn capture_begun<'a, R: Files, S: Source + Drop>(
     ensures { CapturesBegun from.entry.path.now (S.remaining from.entry.source) from.entry.form
         kind from.entry.placing output.now result }
 {
-    match open_sent(rt, alloc, output, &[from.path]) {
+    match open_sent(rt, alloc, output, true, &[from.path]) {
         Ok(file) => capture_from(alloc, from, kind, output_name(output), file),
         Err(outcome) => Ending::plain(outcome),
     }
@@ -229,7 +231,7 @@ fn convert_begun<'a, R: Files, S: Source + Drop, W: Write + Drop>(
     output: &'a str,
     out: &mut PromptWriter<W>,
 ) -> Ending<'a>
-    ensures { ConvertsBegun W.contents R.File.contents from.entry.path.now
+    ensures { ConvertsBegun W.contents (written R.File.contents) from.entry.path.now
         (S.remaining from.entry.source) from.entry.form (written_as kind) from.entry.placing
         output.now out.old out.new result }
 {
@@ -257,8 +259,8 @@ pub fn convert_files<'a, R: Files + Clock, W: Write + Drop>(
     task: ConvertTask<'a>,
     out: &mut PromptWriter<W>,
 ) -> Conversion<'a>
-    ensures { ConvertsFiles W.contents R.File.contents (convert_request_of task.entry) out.old
-        out.new result }
+    ensures { ConvertsFiles W.contents (written R.File.contents) (convert_request_of task.entry)
+        out.old out.new result }
 {
     let path = frames_path(task.frames);
     let source = match open_frames(rt, alloc, path) {

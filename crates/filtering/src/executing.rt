@@ -4,6 +4,7 @@ ghost use Rattle.std.specs.Prelude.{◌≡◌, ◌≤◌, map, MatchResult};
 ghost use Rattle.std.specs.String.{string_bytes};
 ghost use Rattle.exact_io.specs.Waiting.{held};
 ghost use Rattle.words.specs.FilterRequests.{convert_request_of, filter_request_of, operator_request_of};
+ghost use Rattle.commands.specs.Replacing.{written};
 ghost use Rattle.commands.specs.Saying.{AppendsPart};
 ghost use Rattle.commands.specs.Statuses.{status_of};
 ghost use Rattle.filtering.specs.Executing.{ConvertsWhole, FiltersWords, FiltersWhole, SaysNoTask, SaysOnOutput, ServesRequest, TellsUnread, other_form, told_converted};
@@ -102,8 +103,8 @@ fn serve_conversion<R: Files + Clock, W1: Write + Drop, W2: Write>(
     out: &mut PromptWriter<W1>,
     err: &mut W2,
 ) -> u8
-    ensures { ConvertsWhole W1.contents R.File.contents (convert_request_of task.entry) out.old
-        out.new (W2.contents err.old) (W2.contents err.new) result }
+    ensures { ConvertsWhole W1.contents (written R.File.contents) (convert_request_of task.entry)
+        out.old out.new (W2.contents err.old) (W2.contents err.new) result }
 {
     match convert_files(rt, alloc, task, out) {
         Conversion::Ended(ending) => tell_converted(ending, err),
@@ -122,8 +123,8 @@ fn serve<R: Files + Clock, W1: Write + Drop, W2: Write>(
     out: &mut PromptWriter<W1>,
     err: &mut W2,
 ) -> u8
-    ensures { ServesRequest W1.contents R.File.contents (operator_request_of task.entry) out.old
-        out.new (W2.contents err.old) (W2.contents err.new) result }
+    ensures { ServesRequest W1.contents (written R.File.contents) (operator_request_of task.entry)
+        out.old out.new (W2.contents err.old) (W2.contents err.new) result }
 {
     match task {
         OperatorTask::Filter(task) => serve_filter(rt, alloc, task, out, err),
@@ -186,8 +187,9 @@ pub fn execute<R: Files + Clock + AllocGlobal, W1: Write + Drop, W2: Write>(
     out: &mut PromptWriter<W1>,
     err: &mut W2,
 ) -> u8
-    ensures executes { FiltersWords W1.contents R.File.contents (map string_bytes words.now)
-        out.old out.new (W2.contents err.old) (W2.contents err.new) result }
+    ensures executes { FiltersWords W1.contents (written R.File.contents)
+        (map string_bytes words.now) out.old out.new (W2.contents err.old) (W2.contents err.new)
+        result }
     ensures statuses { result ≤ 5 }
 {
     let alloc = rt.alloc();
@@ -206,8 +208,8 @@ pub fn execute_given<R: Files + Clock + AllocGlobal, W1: Write + Drop, W2: Write
     err: &mut W2,
 ) -> u8
     ensures { MatchResult given
-        (λ words. FiltersWords W1.contents R.File.contents (map string_bytes words.items) out.old
-        out.new (W2.contents err.old) (W2.contents err.new) result)
+        (λ words. FiltersWords W1.contents (written R.File.contents) (map string_bytes words.items)
+        out.old out.new (W2.contents err.old) (W2.contents err.new) result)
         (λ error. (out.new ≡ out.old)
         × TellsUnread error (W2.contents err.old) (W2.contents err.new) result) }
 {

@@ -8,7 +8,7 @@ ghost use Rattle.filtering.specs.Opening.{IsOpenFailure, IsOutputConflict, IsTol
 
 use captures::{CaptureKind, FramesOf, OpenFailure, Reasons};
 use commands::{
-    TaskOutcome, Watched, begin_frames, create_output, keep_apart, open_frames,
+    Replaced, TaskOutcome, Watched, begin_frames, create_output, keep_apart, open_frames,
     open_standard_output,
 };
 use exact_io::PromptWriter;
@@ -99,19 +99,20 @@ fn keep_all_apart<'a, R: Files>(
     }
 }
 
-/// Makes the output of frames.
+/// Makes the output of frames; `may_be_empty` as `create_output` takes it.
 pub fn open_sent<'a, R: Files>(
     rt: &R,
     alloc: Global,
     path: &'a str,
+    may_be_empty: bool,
     read: &[&str],
-) -> Result<PromptWriter<R::File>, TaskOutcome<'a>>
+) -> Result<PromptWriter<Replaced<R::File>>, TaskOutcome<'a>>
     ensures { IfErr result (IsMakeFailure (output_name path.now)) }
 {
     if is_dash(path) {
         open_standard_output(rt, alloc, read)
     } else {
-        create_output(rt, alloc, path, read, &[])
+        create_output(rt, alloc, path, may_be_empty, read, &[])
     }
 }
 
@@ -120,15 +121,16 @@ fn open_wanted<'a, R: Files>(
     rt: &R,
     alloc: Global,
     path: Option<&'a str>,
+    may_be_empty: bool,
     read: &[&str],
     written: &[&str],
-) -> Result<Option<Named<'a, R::File>>, TaskOutcome<'a>>
+) -> Result<Option<Named<'a, Replaced<R::File>>>, TaskOutcome<'a>>
     ensures named { IfOk result (λ output. option_map (λ o. o.path.now) output
         ≡ option_map (λ p. p.now) path.entry) }
     ensures failed { IfErr result (MakesNot (option_map (λ p. p.now) path.entry)) }
 {
     match path {
-        Some(path) => match create_output(rt, alloc, path, read, written) {
+        Some(path) => match create_output(rt, alloc, path, may_be_empty, read, written) {
             Ok(file) => Ok(Some(Named { path, file })),
             Err(outcome) => Err(outcome),
         },
@@ -219,7 +221,7 @@ pub fn open_all<'a, 'b, R: Files + Clock>(
     alloc: Global,
     task: FilterTask<'a>,
 ) -> Result<
-    Opened<'a, FramesOf<Ahead<Watched<'b, R, <R as Files>::File>>>, <R as Files>::File>,
+    Opened<'a, FramesOf<Ahead<Watched<'b, R, <R as Files>::File>>>, Replaced<<R as Files>::File>>,
     TaskOutcome<'a>,
 >
     ensures report { IfOk result (λ opened. option_map (λ o. o.path.now) opened.report
@@ -235,10 +237,10 @@ pub fn open_all<'a, 'b, R: Files + Clock>(
     let source = open_frames(rt, alloc, frames)?;
     keep_all_apart(rt, &task, &read)?;
     let out = task.paths.out;
-    let sent = open_sent(rt, alloc, out, &read)?;
-    let report = open_wanted(rt, alloc, task.report, &read, &[out])?;
+    let sent = open_sent(rt, alloc, out, false, &read)?;
+    let report = open_wanted(rt, alloc, task.report, false, &read, &[out])?;
     let written = [out, task.report.unwrap_or(out)];
-    let maps_out = open_wanted(rt, alloc, task.maps_out, &read, &written)?;
+    let maps_out = open_wanted(rt, alloc, task.maps_out, true, &read, &written)?;
     let (source, form) = begin_frames(rt, frames, source);
     let source = frames_of(alloc, source, form, Reasons::Ignored, frames)?;
     let form = told_form(&source, form);
