@@ -52,6 +52,7 @@ CHECKS = (
         7,
     ),
     Check("hygiene", "python3 checks/hygiene.py", "what makes proofs hard to keep: it may only become less", 3),
+    Check("imports", "python3 checks/imports.py", "that what many proofs of a crate cite is imported from one file", 2),
     Check("trusted", "python3 checks/trusted.py", "which definitions the promise rests on", 2),
     Check(
         "scripts",

@@ -1,5 +1,5 @@
 #!/usr/bin/env python3
-"""Tests of laws.py, names.py, file_map.py, edits.py, near.py and tour.py on small repositories, and of what the attacks judge by
+"""Tests of laws.py, names.py, file_map.py, imports.py, edits.py, near.py and tour.py on small repositories, and of what the attacks judge by
 and make. In the gate; `python3 checks/test_scripts.py` runs them."""
 import argparse
 import os
@@ -21,6 +21,7 @@ import edits
 import file_map
 import fuzz
 import hostile_inputs
+import imports
 import in_process
 import jobs
 import kernel_sweep
@@ -229,6 +230,39 @@ pub trait Counted {
     }
 }
 """
+
+
+class Imports(unittest.TestCase):
+    """A crate with three proofs that import from the same files, and one that does not."""
+
+    def test_what_three_files_import_is_passed_on(self) -> None:
+        with tempfile.TemporaryDirectory() as top:
+            folder = Path(top, "one/proofs")
+            folder.mkdir(parents=True)
+            with unittest.mock.patch.object(imports, "CRATES", Path(top)):
+                for name in "ABC":
+                    rest = "use Rattle.low.specs.Rare.{rare}\n" if name == "A" else ""
+                    (folder / f"{name}.antt").write_text(
+                        f"-- a law\nuse Rattle.low.specs.Many.{{x, {name}}}\n{rest}use Rattle.one.specs.Own.{{y}}\n\nlaw : y\n"
+                    )
+                (folder / "D.antt").write_text("use Rattle.one.specs.Own.{y}\n")
+                (folder / "Lib.antt").write_text("mod A\nmod B\nmod D\n")
+                texts, spared = imports.changes("one", {})
+                for path, text in texts.items():
+                    path.write_text(text)
+                self.assertEqual(
+                    ({it.name for it in texts}, spared), ({"A.antt", "B.antt", "C.antt", "Common.antt", "Lib.antt"}, -1)
+                )
+                self.assertEqual(
+                    texts[folder / "A.antt"].splitlines()[1:3],
+                    ["use Rattle.one.proofs.Common.{x, A, y}", "use Rattle.low.specs.Rare.{rare}"],
+                )
+                self.assertEqual(
+                    texts[folder / "Common.antt"].splitlines()[1:],
+                    ["pub use Rattle.low.specs.Many.{x, A, B, C}", "pub use Rattle.one.specs.Own.{y}"],
+                )
+                self.assertEqual(texts[folder / "Lib.antt"], "mod A\nmod B\nmod Common\nmod D\n")
+                self.assertEqual(imports.changes("one", {}), ({}, 0))
 
 
 class Edits(Tree):

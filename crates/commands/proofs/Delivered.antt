@@ -1,13 +1,5 @@
 -- Frames out that were delivered to their file only in part.
-use Rattle.std.proofs.Common.{◌≡◌, ℕ, List, Option, Result, Ok, inr}
-use Rattle.std.specs.Io.KnownBytes.{Keeps, append_known}
-use Rattle.std.specs.declared.io.ErrorKind.{ErrorKind}
-use Rattle.host.specs.declared.errors.HostError.{HostError}
-use Rattle.host.specs.declared.tallies.Tally.{Tally}
-use Rattle.messages.specs.declared.forms.FileForm.{FileForm}
-use Rattle.commands.specs.declared.outcomes.TaskOutcome.{TaskOutcome}
-use Rattle.commands.specs.Statuses.{IsWriteFailureBy}
-use Rattle.commands.specs.Streams.{EndsTask}
+use Rattle.commands.proofs.Common.{◌≡◌, ℕ, List, Option, Result, Ok, inr, Keeps, append_known, ErrorKind, HostError, Tally, FileForm, TaskOutcome, IsWriteFailureBy, EndsTask}
 
 -- the stream came to its end, and then the file failed, and lacks the bytes that still wait
 pub fails_at_the_end : (name waits : List ℕ) (cause : Option ErrorKind) (form : FileForm)

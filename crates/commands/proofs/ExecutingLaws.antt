@@ -1,28 +1,11 @@
 -- What a status says of what standard error got.
-use Rattle.std.proofs.Common.{◌≡◌, ℕ, List, ◌++◌, subst, Option, Some, None, String, true, ap, refl, sym, inl, inr, ◌⊎◌, arith}
-use Rattle.std.specs.declared.alloc.Global.{Global}
-use Rattle.std.specs.String.{string_bytes}
-use Rattle.std.proofs.lemmas.Bool.{false≢true}
+use Rattle.commands.proofs.Common.{◌≡◌, ℕ, List, ◌++◌, subst, Option, Some, None, String, true, ap, refl, sym, inl, inr, ◌⊎◌, arith, IfSome, Global, string_bytes, false≢true, TaskOutcome, Done, WrongWords, Refused, Faulted, CannotRead, CannotWrite, CannotReplace, NoMemory, WordsError, Wrong, NotUnicode, Memory, status_of, is_unsaid, message_of, IsWordsEnd, AppendsPart, outcome_text, with_code, FileForm, TaskRequest, RunFiles, Trace, Run, Verify, Prove, Recheck, Assemble, Disassemble, Explain, asked, IsTold, TellsDone, TellsFault, invalid_lines, stop_lines}
 use Rattle.std.proofs.lemmas.Option.{none-some}
 use Rattle.messages.specs.declared.rejections.Rejection.TheVariants as rejection
-use Rattle.commands.specs.declared.outcomes.TaskOutcome.{TaskOutcome}
-use Rattle.commands.specs.declared.outcomes.TaskOutcome.TheVariants.{Done, WrongWords, Refused, Faulted, CannotRead, CannotWrite, CannotReplace, NoMemory}
-use Rattle.words.specs.declared.tasks.WordsError.{WordsError}
-use Rattle.words.specs.declared.tasks.WordsError.TheVariants.{Wrong, NotUnicode, Memory}
-use Rattle.commands.specs.Statuses.{status_of, is_unsaid, message_of, IsWordsEnd}
-use Rattle.commands.specs.Saying.{AppendsPart}
-use Rattle.commands.specs.Known.{outcome_text, with_code}
 use Rattle.commands.proofs.StatusesLaws.{silent_words, silent_memory, status_fits, unsaid_done}
-use Rattle.std.specs.Prelude.{IfSome}
 use Rattle.isa_model.specs.declared.streams.Fault.{Fault}
 use Rattle.host.specs.Stops.{noted_of}
-use Rattle.messages.specs.declared.forms.FileForm.{FileForm}
-use Rattle.words.specs.Requests.{TaskRequest, RunFiles, Trace, Run, Verify, Prove, Recheck, Assemble, Disassemble, Explain}
-use Rattle.words.specs.Asked.{asked}
 use Rattle.messages.specs.Faults.{fault_lines}
-use Rattle.commands.specs.Executing.{IsTold, TellsDone, TellsFault}
-use Rattle.commands.specs.InvalidRuns.{invalid_lines}
-use Rattle.commands.specs.Stopped.{stop_lines}
 use Rattle.commands.proofs.Knowing.{IsCompleted, Knows, KnowsBy, KnowsInvalid, KnowsStops}
 
 pub told_refused : (o : TaskOutcome) (why : Option (String Global)) (old new : Option (List ℕ))

@@ -1,18 +1,7 @@
 -- What a task did with files is what `Files` defines, by how far it came.
-use Rattle.std.proofs.Common.{◌≡◌, ℕ, List, Option, None, Ok, refl, subst, inl, inr, ◌⊎◌}
-use Rattle.std.specs.declared.io.ErrorKind.{ErrorKind}
-use Rattle.commands.specs.declared.texts.KeptText.{KeptText}
+use Rattle.commands.proofs.Common.{◌≡◌, ℕ, List, Option, None, Ok, refl, subst, inl, inr, ◌⊎◌, ErrorKind, KeptText, Program, Bounded, RunFiles, FileForm, TaskOutcome, Ending, IsReadFailure, IsMakeFailure, RunsAccepted, RunsOn, RunsSome, OpensNone, MakesNone, RefusesTextFile, AssemblesFile, StoresSome}
 use Rattle.commands.specs.Texts.{spelled}
-use Rattle.isa_model.specs.{Program}
-use Rattle.bounds.specs.Bounds.{Bounded}
 use Rattle.frames.specs.Sources.{Origin}
-use Rattle.words.specs.Requests.{RunFiles}
-use Rattle.messages.specs.declared.forms.FileForm.{FileForm}
-use Rattle.commands.specs.declared.outcomes.TaskOutcome.{TaskOutcome}
-use Rattle.commands.specs.declared.endings.Ending.{Ending}
-use Rattle.commands.specs.Statuses.{IsReadFailure, IsMakeFailure}
-use Rattle.commands.specs.Streams.{RunsAccepted}
-use Rattle.commands.specs.Files.{RunsOn, RunsSome, OpensNone, MakesNone, RefusesTextFile, AssemblesFile, StoresSome}
 
 -- the streams were not opened
 pub OpensNone-failed : (files : RunFiles) (old new : Option (List ℕ)) (r : TaskOutcome) → new ≡ old

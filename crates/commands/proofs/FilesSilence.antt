@@ -1,30 +1,11 @@
 -- A task that wrote nothing to standard output left it unchanged, and one that wrote something and
 -- did not fail has flushed it.
-use Rattle.std.proofs.Common.{◌≡◌, ◌∙◌, ◌≤◌, ℕ, List, Option, Some, None, Result, Ok, Err, true, false, ap, refl, sym, inl, inr, ◌⊎◌}
-use Rattle.std.proofs.lemmas.Bool.{both_ways}
-use Rattle.std.specs.declared.io.ErrorKind.{ErrorKind}
-use Rattle.exact_io.specs.declared.buffering.PromptWriter.{PromptWriter}
+use Rattle.commands.proofs.Common.{◌≡◌, ◌∙◌, ◌≤◌, ℕ, List, Option, Some, None, Result, Ok, Err, true, false, ap, refl, sym, inl, inr, ◌⊎◌, both_ways, ErrorKind, PromptWriter, Program, Bounded, HostError, Tally, RunFiles, WriteTableError, FileForm, TaskOutcome, Ending, is_silent, status_of, Flushes, IsFlushed, TellsFailure, Says, KeptText, Accepts, EndsUnwritten, RefusesImage, RefusesText, StoresImage, EndsTask, EndsBy, FailsBy, outcome_at, LoadsNone, OpensNone, RunsOn, DisassemblesFile, AssemblesFile}
 use Rattle.isa_model.specs.declared.streams.Fault.{Fault}
-use Rattle.isa_model.specs.{Program}
-use Rattle.bounds.specs.Bounds.{Bounded}
-use Rattle.host.specs.declared.errors.HostError.{HostError}
 use Rattle.host.specs.declared.errors.HostError.TheVariants as failure
 use Rattle.host.specs.declared.noting.Ran.{Ran}
-use Rattle.host.specs.declared.tallies.Tally.{Tally}
 use Rattle.host.specs.InvalidRuns.{tally_ran}
-use Rattle.words.specs.Requests.{RunFiles}
-use Rattle.table_entries.specs.declared.errors.WriteTableError.{WriteTableError}
 use Rattle.table_entries.specs.declared.errors.WriteTableError.TheVariants as write_error
-use Rattle.messages.specs.declared.forms.FileForm.{FileForm}
-use Rattle.commands.specs.declared.outcomes.TaskOutcome.{TaskOutcome}
-use Rattle.commands.specs.declared.endings.Ending.{Ending}
-use Rattle.commands.specs.Statuses.{is_silent, status_of}
-use Rattle.commands.specs.Flushing.{Flushes, IsFlushed, TellsFailure}
-use Rattle.commands.specs.Saying.{Says}
-use Rattle.commands.specs.declared.texts.KeptText.{KeptText}
-use Rattle.commands.specs.Judging.{Accepts, EndsUnwritten, RefusesImage, RefusesText, StoresImage}
-use Rattle.commands.specs.Streams.{EndsTask, EndsBy, FailsBy, outcome_at}
-use Rattle.commands.specs.Files.{LoadsNone, OpensNone, RunsOn, DisassemblesFile, AssemblesFile}
 use Rattle.commands.proofs.StatusesLaws.{write_loud, write_loud_by, write_failed, loud_by_status}
 
 -- a text was said, or a beginning of it

@@ -1,9 +1,6 @@
 -- What a file is by its first bytes.
-use Rattle.std.proofs.Common.{◌≡◌, ◌∙◌, ℕ, ◌≤◌, List, ◌++◌, Option, Some, None, arith, sym, ap, subst, inr, length, length-append}
-use Rattle.std.specs.Prelude.{IfSome, take, min}
-use Rattle.std.specs.Io.KnownBytes.{Consumes, IsAtEnd}
+use Rattle.commands.proofs.Common.{◌≡◌, ◌∙◌, ℕ, ◌≤◌, List, ◌++◌, Option, Some, None, arith, sym, ap, subst, inr, length, length-append, IfSome, take, min, Consumes, IsAtEnd, FileForm}
 use Rattle.std.proofs.lemmas.List.{append-nil, take-append-le}
-use Rattle.messages.specs.declared.forms.FileForm.{FileForm}
 use Rattle.messages.specs.Forms.{file_form_by, front_of, file_form_of, IsFileFormOf}
 
 front_more : (front more : List ℕ) → length front ≡ 4 → front_of (front ++ more) ≡ front_of front

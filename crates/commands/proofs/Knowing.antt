@@ -1,31 +1,10 @@
 -- What the lines at the end of a message say.
-use Rattle.std.proofs.Common.{◌≡◌, ℕ, List, Option, Some, None, String, Result, Ok, Err, false, subst, sym, inl, inr, ◌⊎◌}
-use Rattle.std.specs.Prelude.{IfSome}
-use Rattle.std.specs.String.{string_bytes}
-use Rattle.exact_io.specs.declared.buffering.PromptWriter.{PromptWriter}
-use Rattle.exact_io.specs.Waiting.{held}
-use Rattle.std.specs.declared.alloc.Global.{Global}
-use Rattle.isa_model.specs.{Program}
-use Rattle.bounds.specs.Bounds.{Bounded}
-use Rattle.words.specs.Requests.{TaskRequest, RunFiles, TableFiles, Trace, Run, Verify, Prove, Recheck, Assemble, Disassemble, Explain}
-use Rattle.host.specs.declared.errors.HostError.{HostError}
+use Rattle.commands.proofs.Common.{◌≡◌, ℕ, List, Option, Some, None, String, Result, Ok, Err, false, subst, sym, inl, inr, ◌⊎◌, IfSome, string_bytes, PromptWriter, held, Global, Program, Bounded, TaskRequest, RunFiles, TableFiles, Trace, Run, Verify, Prove, Recheck, Assemble, Disassemble, Explain, HostError, TaskOutcome, Done, WrongWords, Refused, Faulted, CannotRead, CannotWrite, CannotReplace, NoMemory, Ending, KeptText, TellsText, Tells, TellsTable, Flushes, IsFlushed, TellsFailure, is_silent, Serves, ShowsNone, RunsOn, TellsInvalid, TellsInvalidOf, invalid_lines, TellsStopsOf, at_end, stop_lines}
 use Rattle.host.specs.declared.invalid.InvalidFrame.{InvalidFrame}
 use Rattle.host.specs.declared.noting.Ran.{Ran}
 use Rattle.host.specs.declared.stops.Stops.{Stops}
 use Rattle.host.specs.declared.traced.Traced.{Traced}
 use Rattle.host.specs.Stops.{noted_of}
-use Rattle.commands.specs.declared.outcomes.TaskOutcome.{TaskOutcome}
-use Rattle.commands.specs.declared.outcomes.TaskOutcome.TheVariants.{Done, WrongWords, Refused, Faulted, CannotRead, CannotWrite, CannotReplace, NoMemory}
-use Rattle.commands.specs.declared.endings.Ending.{Ending}
-use Rattle.commands.specs.declared.texts.KeptText.{KeptText}
-use Rattle.commands.specs.Known.{TellsText}
-use Rattle.commands.specs.Flushing.{Flushes, IsFlushed, TellsFailure}
-use Rattle.commands.specs.Statuses.{is_silent}
-use Rattle.commands.specs.Known.{Tells, TellsTable}
-use Rattle.commands.specs.Commands.{Serves, ShowsNone}
-use Rattle.commands.specs.Files.{RunsOn}
-use Rattle.commands.specs.InvalidRuns.{TellsInvalid, TellsInvalidOf, invalid_lines}
-use Rattle.commands.specs.Stopped.{TellsStopsOf, at_end, stop_lines}
 
 -- nothing, or what is known of some program, of some table of a program, or of some program text
 abbrev pub Knows : TaskOutcome → Option (String Global) → Type 0

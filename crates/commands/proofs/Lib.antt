@@ -1,3 +1,4 @@
+mod Common
 mod Delivered
 mod ExecutingLaws
 pub mod FilesLaws

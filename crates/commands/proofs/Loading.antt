@@ -1,33 +1,13 @@
 -- What a task did is what its command does, by how far it came: with an image, with a table.
-use Rattle.std.proofs.Common.{◌≡◌, ℕ, List, Option, None, String, Result, Ok, Err, subst, sym, inl, inr, ◌⊎◌, ◌∙◌}
-use Rattle.std.specs.Prelude.{IfOk, IfErr}
-use Rattle.std.specs.declared.alloc.Global.{Global}
-use Rattle.std.specs.declared.io.ErrorKind.{ErrorKind}
-use Rattle.isa_model.specs.{Program}
+use Rattle.commands.proofs.Common.{◌≡◌, ℕ, List, Option, None, String, Result, Ok, Err, subst, sym, inl, inr, ◌⊎◌, ◌∙◌, IfOk, IfErr, Global, ErrorKind, Program, Bounded, IsVerified, FileForm, TaskOutcome, Done, WrongWords, Refused, Faulted, CannotRead, CannotWrite, CannotReplace, NoMemory, Ending, IsReadFailure, IsMakeFailure, bound_line, Accepts, IsBoundOf, RefusesProgram, RefusesTable, Verifies, Plainly, IsKnownOfProgram, IsKnownOfTable, Tells, LoadsNone, RunsOn, RunFiles, TableFiles, Traces, StoresTable, ShowsNone, TracesFile, TracesSome, IsShown, VerifiesFile, RechecksFile, ProvesTold, ProvesSome, RunsFile, RunsShown}
 use Rattle.image.specs.Images.{IsImage}
-use Rattle.bounds.specs.Bounds.{Bounded, IsVerified}
 use Rattle.rechecking.specs.Refusing.{ShowsBound}
 use Rattle.stack_state.specs.Starts.{start}
 use Rattle.walks.specs.Accepting.{BoundsAll}
 use Rattle.walks.specs.Counts.{HasNumber}
 use Rattle.frames.specs.Sources.{Origin}
 use Rattle.messages.specs.declared.rejections.Rejection.TheVariants as rejection
-use Rattle.messages.specs.declared.forms.FileForm.{FileForm}
-use Rattle.commands.specs.declared.outcomes.TaskOutcome.{TaskOutcome}
-use Rattle.commands.specs.declared.outcomes.TaskOutcome.TheVariants.{Done, WrongWords, Refused, Faulted, CannotRead, CannotWrite, CannotReplace, NoMemory}
-use Rattle.commands.specs.declared.endings.Ending.{Ending}
-use Rattle.commands.specs.Statuses.{IsReadFailure, IsMakeFailure}
-use Rattle.messages.specs.Lines.{bound_line}
-use Rattle.commands.specs.Judging.{Accepts}
-use Rattle.commands.specs.Known.{Plainly}
-use Rattle.commands.specs.Files.{LoadsNone, RunsOn}
 use Rattle.commands.proofs.FilesLaws.{OpensNone-failed}
-use Rattle.words.specs.Requests.{RunFiles, TableFiles}
-use Rattle.commands.specs.Known.{IsKnownOfProgram, IsKnownOfTable, Tells}
-use Rattle.commands.specs.Judging.{IsBoundOf, RefusesProgram, RefusesTable, Verifies}
-use Rattle.commands.specs.Streams.{Traces}
-use Rattle.commands.specs.Proving.{StoresTable}
-use Rattle.commands.specs.Commands.{ShowsNone, TracesFile, TracesSome, IsShown, VerifiesFile, RechecksFile, ProvesTold, ProvesSome, RunsFile, RunsShown}
 
 -- a message without lines at its end says nothing of a program
 pub tells-none : (p : Program) (o : TaskOutcome) (why : Option (String Global)) → why ≡ None

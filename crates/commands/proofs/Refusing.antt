@@ -1,18 +1,9 @@
 -- What is said of a program that is refused.
-use Rattle.std.proofs.Common.{◌≡◌, ℕ, List, Option, subst, sym, inl, inr}
+use Rattle.commands.proofs.Common.{◌≡◌, ℕ, List, Option, subst, sym, inl, inr, Program, fetch, TaskOutcome, Done, WrongWords, Refused, Faulted, CannotRead, CannotWrite, CannotReplace, NoMemory, verdict_line, Says, IsWriteFailure, IfRefusal, SaysRefused, RefusesProgram}
 use Rattle.isa_model.specs.declared.instructions.Insn.{Insn}
-use Rattle.isa_model.specs.{Program, fetch}
 use Rattle.walks.specs.declared.refusals.Refusal.{Refusal}
 use Rattle.walks.specs.Refused.{IsRefused}
 use Rattle.messages.specs.declared.rejections.Rejection.TheVariants as rejection
-use Rattle.commands.specs.declared.outcomes.TaskOutcome.{TaskOutcome}
-use Rattle.commands.specs.declared.outcomes.TaskOutcome.TheVariants.{Done, WrongWords, Refused, Faulted, CannotRead, CannotWrite, CannotReplace, NoMemory}
-use Rattle.messages.specs.Lines.{verdict_line}
-use Rattle.commands.specs.Saying.{Says}
-use Rattle.commands.specs.Statuses.{IsWriteFailure}
-use Rattle.commands.specs.Known.{IfRefusal}
-use Rattle.commands.specs.Judging.{SaysRefused}
-use Rattle.commands.specs.Judging.{RefusesProgram}
 
 -- the instruction that the message shows is the one at the slot
 pub program_refused : (p : Program) (refusal : Refusal) (slot : ℕ) (insn : Option Insn)

@@ -1,21 +1,6 @@
 -- That the program does what its arguments ask for, where they ask for something and where not.
-use Rattle.std.proofs.Common.{◌≡◌, ℕ, List, Option, Some, None, Err, true, subst, sym, refl, inl, inr, codes}
-use Rattle.std.proofs.lemmas.Bool.{both_ways}
-use Rattle.std.specs.String.{string_bytes}
-use Rattle.exact_io.specs.declared.buffering.PromptWriter.{PromptWriter}
-use Rattle.exact_io.specs.Waiting.{held}
-use Rattle.std.proofs.KnownBytes.{Keeps-refl}
-use Rattle.words.specs.declared.tasks.WordsError.{WordsError}
-use Rattle.words.specs.declared.tasks.WordsError.TheVariants.{Wrong, NotUnicode, Memory}
-use Rattle.words.specs.Requests.{TaskRequest}
-use Rattle.words.specs.Asked.{AsksFor, asked}
-use Rattle.commands.specs.declared.outcomes.TaskOutcome.{TaskOutcome}
-use Rattle.commands.specs.declared.endings.Ending.{Ending}
-use Rattle.commands.specs.Statuses.{IsWordsEnd, is_silent}
+use Rattle.commands.proofs.Common.{◌≡◌, ℕ, List, Option, Some, None, Err, true, subst, sym, refl, inl, inr, codes, both_ways, string_bytes, PromptWriter, held, Keeps-refl, WordsError, Wrong, NotUnicode, Memory, TaskRequest, AsksFor, asked, TaskOutcome, Ending, IsWordsEnd, is_silent, Flushes, Serves, ServesTold, Executes}
 use Rattle.commands.proofs.StatusesLaws.{says_wrong, wrong_silent}
-use Rattle.commands.specs.Flushing.{Flushes}
-use Rattle.commands.specs.Commands.{Serves, ServesTold}
-use Rattle.commands.specs.Executing.{Executes}
 
 -- standard output to which nothing was written is left unchanged
 untouched : {W : Type 0} (contents : W → Option (List ℕ)) (given : PromptWriter W) (r : Ending)

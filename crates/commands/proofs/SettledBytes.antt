@@ -1,7 +1,5 @@
 -- What is said of the bytes of a table or a text that were read is what all of its bytes say.
-use Rattle.std.specs.Prelude.{◌≡◌, ℕ, List, ◌++◌, Option, Some, None, IfSome}
-use Rattle.std.specs.Io.KnownBytes.{Consumes}
-use Rattle.std.proofs.Common.{ap, ◌∙◌, sym, length, take, drop, append_assoc}
+use Rattle.commands.proofs.Common.{◌≡◌, ℕ, List, ◌++◌, Option, Some, None, IfSome, ap, ◌∙◌, sym, length, take, drop, append_assoc, Consumes}
 use Rattle.std.proofs.lemmas.List.{take-append-drop}
 use Rattle.isa_model.specs.Code.Instructions.{Program}
 use Rattle.table_entries.specs.Tables.{table_read}

@@ -1,31 +1,12 @@
 -- A task that wrote nothing to standard output left it unchanged.
-use Rattle.std.proofs.Common.{◌≡◌, ◌∙◌, ℕ, List, Option, Some, None, Result, Ok, Err, Bool, true, false, ap, refl, inl, inr, ◌⊎◌}
-use Rattle.std.proofs.lemmas.Bool.{false≢true}
-use Rattle.std.specs.Io.KnownBytes.{Keeps}
-use Rattle.exact_io.specs.declared.buffering.PromptWriter.{PromptWriter}
-use Rattle.exact_io.specs.Waiting.{held}
-use Rattle.isa_model.specs.{Program}
-use Rattle.host.specs.declared.errors.HostError.{HostError}
+use Rattle.commands.proofs.Common.{◌≡◌, ◌∙◌, ℕ, List, Option, Some, None, Result, Ok, Err, Bool, true, false, ap, refl, inl, inr, ◌⊎◌, false≢true, Keeps, PromptWriter, held, Program, HostError, Tally, TaskRequest, RunFiles, TableFiles, Trace, Run, Verify, Prove, Recheck, Assemble, Disassemble, Explain, WriteTableError, TaskOutcome, Ending, is_silent, Flushes, Says, EndsUnwritten, IsStoreFailure, RefusesProgram, RefusesTable, SaysOfTable, Verifies, IsBeginningOf, StoresTable, GainsSaid, BeginsSaid, ShowsNone, TracesFile, RunsFile, RunsShown, VerifiesFile, ProvesFile, RechecksFile, Serves}
 use Rattle.host.specs.declared.errors.HostError.TheVariants as failure
-use Rattle.host.specs.declared.tallies.Tally.{Tally}
 use Rattle.host.specs.declared.traced.Traced.{Traced}
 use Rattle.host.specs.Tallies.{tallied}
-use Rattle.words.specs.Requests.{TaskRequest, RunFiles, TableFiles, Trace, Run, Verify, Prove, Recheck, Assemble, Disassemble, Explain}
-use Rattle.table_entries.specs.declared.errors.WriteTableError.{WriteTableError}
 use Rattle.rechecking.specs.declared.errors.TableError.{TableError}
 use Rattle.rechecking.specs.declared.errors.TableError.TheVariants as table_error
-use Rattle.commands.specs.declared.outcomes.TaskOutcome.{TaskOutcome}
 use Rattle.commands.specs.declared.outcomes.TaskOutcome.TheVariants as outcome
-use Rattle.commands.specs.declared.endings.Ending.{Ending}
-use Rattle.commands.specs.Statuses.{is_silent}
-use Rattle.commands.specs.Flushing.{Flushes}
-use Rattle.commands.specs.Saying.{Says}
-use Rattle.commands.specs.Judging.{EndsUnwritten, IsStoreFailure}
-use Rattle.commands.specs.Streams.{IsBeginningOf}
 use Rattle.commands.proofs.FilesSilence.{says_loud, stops_silent, bound_silent, loads_silent, opens_silent, on_silent, disassemble_silent, assemble_silent, silent_then, unwritten_silent}
-use Rattle.commands.specs.Judging.{RefusesProgram, RefusesTable, SaysOfTable, Verifies}
-use Rattle.commands.specs.Proving.{StoresTable, GainsSaid, BeginsSaid}
-use Rattle.commands.specs.Commands.{ShowsNone, TracesFile, RunsFile, RunsShown, VerifiesFile, ProvesFile, RechecksFile, Serves}
 
 -- ---- verdicts
 

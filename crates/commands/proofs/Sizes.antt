@@ -1,8 +1,6 @@
 -- What was written before a proof table, and how much of the table was delivered.
-use Rattle.std.proofs.Common.{◌≡◌, ◌∙◌, ◌++◌, ℕ, List, [], Option, Some, None, Result, Ok, Err, OnOk, OnErr, ap, sym, inl, inr, append-nil}
-use Rattle.std.specs.Io.KnownBytes.{Appends, Keeps, append_known}
+use Rattle.commands.proofs.Common.{◌≡◌, ◌∙◌, ◌++◌, ℕ, List, [], Option, Some, None, Result, Ok, Err, OnOk, OnErr, ap, sym, inl, inr, append-nil, Appends, Keeps, append_known, AppendsPart}
 use Rattle.exact_io.specs.Transfers.{AppendsBeginning}
-use Rattle.commands.specs.Saying.{AppendsPart}
 
 -- a text was written, or a beginning of it
 pub part_by : {X E : Type 0} (r : Result X E) (old new : Option (List ℕ)) (text : List ℕ)

@@ -1,12 +1,5 @@
 -- What a status and a kind of outcome say of how a task ended.
-use Rattle.std.proofs.Common.{◌≡◌, ◌≤◌, ℕ, List, Option, true, false, ap, refl, arith}
-use Rattle.std.proofs.lemmas.Bool.{false≢true}
-use Rattle.std.specs.declared.io.ErrorKind.{ErrorKind}
-use Rattle.words.specs.declared.tasks.WordsError.{WordsError}
-use Rattle.words.specs.declared.tasks.WordsError.TheVariants.{Wrong, NotUnicode, Memory}
-use Rattle.commands.specs.declared.outcomes.TaskOutcome.{TaskOutcome}
-use Rattle.commands.specs.declared.outcomes.TaskOutcome.TheVariants.{Done, WrongWords, Refused, Faulted, CannotRead, CannotWrite, CannotReplace, NoMemory}
-use Rattle.commands.specs.Statuses.{status_of, is_silent, is_unsaid, IsWordsEnd, IsWriteFailure, IsWriteFailureBy, SaysWrongWords, IsWrongWords}
+use Rattle.commands.proofs.Common.{◌≡◌, ◌≤◌, ℕ, List, Option, true, false, ap, refl, arith, false≢true, ErrorKind, WordsError, Wrong, NotUnicode, Memory, TaskOutcome, Done, WrongWords, Refused, Faulted, CannotRead, CannotWrite, CannotReplace, NoMemory, status_of, is_silent, is_unsaid, IsWordsEnd, IsWriteFailure, IsWriteFailureBy, SaysWrongWords, IsWrongWords}
 
 -- at status 1 nothing was written to standard output
 pub silent_words : (o : TaskOutcome) → status_of o ≡ 1 → is_silent o ≡ true

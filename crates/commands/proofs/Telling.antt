@@ -1,22 +1,9 @@
 -- What standard error gets before the message.
-use Rattle.std.proofs.Common.{◌≡◌, ℕ, List, Option, Some, None, refl, inl, inr, ◌⊎◌}
-use Rattle.std.specs.Io.KnownBytes.{Keeps}
-use Rattle.isa_model.specs.{Program}
-use Rattle.words.specs.Requests.{TaskRequest, TableFiles, Trace, Run, Verify, Prove, Recheck, Assemble, Disassemble, Explain}
-use Rattle.words.specs.Asked.{asked}
+use Rattle.commands.proofs.Common.{◌≡◌, ℕ, List, Option, Some, None, refl, inl, inr, ◌⊎◌, Keeps, Program, TaskRequest, TableFiles, Trace, Run, Verify, Prove, Recheck, Assemble, Disassemble, Explain, asked, WriteTableError, TaskOutcome, Ending, Says, EndsUnwritten, IsStoreFailure, IsBeginningOf, SaysSize, GainsSaid, BeginsSaid, StoresTable, ProvesTold, Serves, ServesTold, TellsBefore}
 use Rattle.table_entries.specs.Entries.{Entry}
-use Rattle.table_entries.specs.declared.errors.WriteTableError.{WriteTableError}
 use Rattle.proof_table.specs.Spelling.{table_bytes}
 use Rattle.proof_table.specs.Writing.{GainsTableOf, IsTableSize, table_length}
-use Rattle.commands.specs.declared.outcomes.TaskOutcome.{TaskOutcome}
 use Rattle.commands.specs.declared.outcomes.TaskOutcome.TheVariants as outcome
-use Rattle.commands.specs.declared.endings.Ending.{Ending}
-use Rattle.commands.specs.Saying.{Says}
-use Rattle.commands.specs.Judging.{EndsUnwritten, IsStoreFailure}
-use Rattle.commands.specs.Streams.{IsBeginningOf}
-use Rattle.commands.specs.Proving.{SaysSize, GainsSaid, BeginsSaid, StoresTable}
-use Rattle.commands.specs.Commands.{ProvesTold, Serves, ServesTold}
-use Rattle.commands.specs.Executing.{TellsBefore}
 
 -- ---- proof tables
 

@@ -1,28 +1,12 @@
 -- Laws of texts of which bytes were dropped: what they spell, and where they are refused.
-use Rattle.std.proofs.Common.{◌≡◌, ◌≢◌, ℕ, ◌+◌, ◌-◌, ◌==◌, Bool, true, false, if◌then◌else◌, List, [], ◌∷◌, ◌++◌, refl, sym, ap, ap₂, ◌∙◌, append_assoc, Option, Some, None, Result, Ok, Err, subst, inl, inr}
-use Rattle.std.specs.Prelude.{IfSome, IfOk, OnOk, is_err, MatchResult, String}
-use Rattle.std.specs.declared.alloc.Global.{Global}
+use Rattle.commands.proofs.Common.{◌≡◌, ◌≢◌, ℕ, ◌+◌, ◌-◌, ◌==◌, Bool, true, false, if◌then◌else◌, List, [], ◌∷◌, ◌++◌, refl, sym, ap, ap₂, ◌∙◌, append_assoc, Option, Some, None, Result, Ok, Err, subst, inl, inr, IfSome, IfOk, OnOk, is_err, MatchResult, String, Global, string_bytes, Consumes, Consumes-trans, without, gap_of, is_before, placed, in_place, all_placed, all_in_place, IsIdle, text_line, TaskOutcome, Done, WrongWords, Refused, Faulted, CannotRead, CannotWrite, CannotReplace, NoMemory, Ending, TellsText, TellsKept, ShowsKept, IsOutputFailure, Says, LacksMemory, RefusesText, RefusesTextFile, KeptText}
 use Rattle.std.specs.declared.alloc.AllocError.{AllocError}
-use Rattle.std.specs.String.{string_bytes}
-use Rattle.std.specs.Io.KnownBytes.{Consumes}
-use Rattle.std.proofs.KnownBytes.{Consumes-trans}
 use Rattle.isa_model.specs.Code.Instructions.{Program}
 use Rattle.assembler.specs.declared.errors.AsmError.{AsmError}
 use Rattle.assembler.specs.declared.gaps.Gap.{Gap}
 use Rattle.assembler.specs.Assembling.{assembled}
-use Rattle.assembler.specs.Gaps.{without, gap_of, is_before, placed, in_place, all_placed, all_in_place, IsIdle}
 use Rattle.assembler.specs.declared.errors.AsmErrorKind.TheVariants as kind
 use Rattle.messages.specs.declared.rejections.Rejection.TheVariants as rejection
-use Rattle.messages.specs.Lines.{text_line}
-use Rattle.commands.specs.declared.outcomes.TaskOutcome.{TaskOutcome}
-use Rattle.commands.specs.declared.outcomes.TaskOutcome.TheVariants.{Done, WrongWords, Refused, Faulted, CannotRead, CannotWrite, CannotReplace, NoMemory}
-use Rattle.commands.specs.declared.endings.Ending.{Ending}
-use Rattle.commands.specs.Known.{TellsText, TellsKept, ShowsKept}
-use Rattle.commands.specs.Statuses.{IsOutputFailure}
-use Rattle.commands.specs.Saying.{Says, LacksMemory}
-use Rattle.commands.specs.Judging.{RefusesText}
-use Rattle.commands.specs.Files.{RefusesTextFile}
-use Rattle.commands.specs.declared.texts.KeptText.{KeptText}
 use Rattle.commands.specs.Texts.{spelled_with, spelled}
 
 -- ---- gaps

@@ -1,13 +1,11 @@
 -- Laws of the file that has a capture of the frames out.
-use Rattle.std.proofs.Common.{◌≡◌, ◌∙◌, ℕ, List, [], ◌∷◌, Option, Some, None, Result, Ok, Err, refl, sym, ap, subst, inl, inr}
-use Rattle.std.specs.Prelude.{IfOk, OnOk, option_map, unwrap_or}
+use Rattle.filtering.proofs.Common.{◌≡◌, ◌∙◌, ℕ, List, [], ◌∷◌, Option, Some, None, Result, Ok, Err, refl, sym, ap, subst, inl, inr, IfOk, OnOk, option_map, ErrorKind, Origin, TaskOutcome}
+use Rattle.std.specs.Prelude.{unwrap_or}
 use Rattle.std.specs.Io.KnownBytes.{Keeps, append_known}
-use Rattle.std.specs.declared.io.ErrorKind.{ErrorKind}
 use Rattle.std.proofs.KnownBytes.{Appends-kept}
 use Rattle.std.proofs.Math.Logic.{∥∥₁_map}
 use Rattle.std.proofs.lemmas.List.{append-nil}
 use Rattle.frames.specs.declared.writer.Unwritten.{Unwritten}
-use Rattle.frames.specs.Sources.{Origin}
 use Rattle.isa_model.specs.declared.versions.Version.{Version}
 use Rattle.captures.specs.declared.kinds.CaptureForm.{CaptureForm}
 use Rattle.captures.specs.declared.kinds.LostCounts.{LostCounts}
@@ -17,7 +15,6 @@ use Rattle.captures.specs.declared.frame_forms.FrameForm.TheVariants.{Records}
 use Rattle.captures.specs.declared.frame_forms.StreamEnd.{StreamEnd}
 use Rattle.captures.specs.declared.placing.Placing.{Placing}
 use Rattle.captures.specs.Copies.{CopiesFrames, CopiesWhole}
-use Rattle.commands.specs.declared.outcomes.TaskOutcome.{TaskOutcome}
 use Rattle.commands.specs.Streams.{IsBeginningOf}
 use Rattle.filtering.specs.Capturing.{HasCaptured}
 use Rattle.filtering.specs.Copying.{CapturesAll, Copies}

@@ -1,29 +1,19 @@
 -- What outputs got after they were flushed, and what was said at the end.
-use Rattle.std.proofs.Common.{◌≡◌, ◌∙◌, ℕ, List, [], ◌++◌, Option, Some, None, Result, Ok, Err, String, ap, subst, sym, inl, inr}
-use Rattle.std.specs.Prelude.{IfOk, MatchResult, OnErr, OnOk}
+use Rattle.filtering.proofs.Common.{◌≡◌, ◌∙◌, ℕ, List, [], ◌++◌, Option, Some, None, Result, Ok, Err, String, ap, subst, sym, inl, inr, IfOk, MatchResult, OnErr, OnOk, codes, ErrorKind, Origin, Outputs, KeyValues, FileForm, TaskOutcome, AppendsPart, LacksMemory, Says, RunsWanted}
 use Rattle.std.specs.declared.alloc.Global.{Global}
 use Rattle.std.specs.declared.io.Error.{Error}
-use Rattle.std.specs.declared.io.ErrorKind.{ErrorKind}
 use Rattle.std.specs.Io.KnownBytes.{Appends, Keeps, append_known}
 use Rattle.std.specs.IoError.{error_kind}
 use Rattle.std.specs.String.{string_bytes}
 use Rattle.std.proofs.lemmas.List.{append-nil}
 use Rattle.exact_io.specs.Transfers.{AppendsBeginning}
-use Rattle.frames.specs.Sources.{Origin}
 use Rattle.host.specs.declared.tallies.Tally.{Tally}
 use Rattle.host.specs.declared.traced.Counted.{Counted}
 use Rattle.host.specs.Counts.{Totals}
-use Rattle.host.specs.Writing.{Outputs}
-use Rattle.isa_model.specs.Machine.States.{KeyValues}
-use Rattle.messages.specs.declared.forms.FileForm.{FileForm}
-use Rattle.commands.specs.declared.outcomes.TaskOutcome.{TaskOutcome}
-use Rattle.commands.specs.Saying.{AppendsPart, LacksMemory, Says}
 use Rattle.commands.specs.Streams.{outcome_at}
-use Rattle.std.specs.Prelude.{codes}
 use Rattle.filtering.specs.declared.ready.Ready.{Ready}
 use Rattle.filtering.specs.Counting.{counts_text}
 use Rattle.filtering.specs.Delivering.{Filters, GetsReport}
-use Rattle.filtering.specs.Files.{RunsWanted}
 use Rattle.filtering.specs.Finishing.{SaysCounts}
 
 -- a buffer with no byte in it has handed on all

@@ -1,25 +1,17 @@
 -- What a run on files did, by how far it came.
-use Rattle.std.proofs.Common.{◌≡◌, ◌∙◌, ℕ, List, Option, None, Result, Ok, Err, refl, subst, sym, inl, inr}
-use Rattle.isa_model.specs.{Program}
-use Rattle.isa_model.specs.Machine.States.{KeyValues}
+use Rattle.filtering.proofs.Common.{◌≡◌, ◌∙◌, ℕ, List, Option, None, Result, Ok, Err, refl, subst, sym, inl, inr, Program, KeyValues, Origin, FileForm, TaskOutcome, FilterRequest, Verified, Shown, Checked, EndsRun, FiltersBy, FiltersOn, FiltersSome}
 use Rattle.image.specs.Images.{IsImage}
 use Rattle.bounds.specs.Bounds.{Bounded}
 use Rattle.host.specs.declared.traced.Counted.{Counted}
-use Rattle.frames.specs.Sources.{Origin}
-use Rattle.messages.specs.declared.forms.FileForm.{FileForm}
-use Rattle.commands.specs.declared.outcomes.TaskOutcome.{TaskOutcome}
 use Rattle.commands.specs.declared.endings.Ending.{Ending}
 use Rattle.commands.specs.Files.{LoadsNone}
-use Rattle.commands.specs.Known.{Plainly}
+use Rattle.commands.specs.Known.{Plainly, IsKnownOfProgram}
 use Rattle.words.specs.declared.tasks.StepLimit.{StepLimit}
-use Rattle.words.specs.FilterRequests.{FilterRequest, Verified, Shown, Checked}
 use Rattle.commands.specs.Commands.{IsShown}
 use Rattle.commands.specs.Judging.{IsBoundOf, RefusesProgram}
-use Rattle.commands.specs.Known.{IsKnownOfProgram}
 use Rattle.filtering.specs.declared.ready.Ready.{Ready}
 use Rattle.filtering.specs.declared.ready.Ready.TheVariants.{Bounded as Bound, Tested}
 use Rattle.filtering.specs.Filling.{BeginsNot, BeginsWith}
-use Rattle.filtering.specs.Files.{EndsRun, FiltersBy, FiltersOn, FiltersSome}
 use Rattle.filtering.specs.Finishing.{WritesEnd}
 use Rattle.filtering.specs.Losing.{WithUnsaid}
 use Rattle.filtering.specs.Opening.{IsOpenFailure, output_name}

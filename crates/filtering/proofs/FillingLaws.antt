@@ -1,14 +1,11 @@
 -- What the maps of a program hold after a text that was read.
-use Rattle.std.proofs.Common.{◌≡◌, ◌∙◌, ℕ, List, Option, Some, None, Ok, map, ap, ap₂, sym, inr}
-use Rattle.isa_model.specs.{Program}
+use Rattle.filtering.proofs.Common.{◌≡◌, ◌∙◌, ℕ, List, Option, Some, None, Ok, map, ap, ap₂, sym, inr, Program, KeyValues, TaskOutcome}
 use Rattle.isa_model.specs.declared.map_defs.MapDef.{MapDef}
-use Rattle.isa_model.specs.Machine.States.{KeyValues}
 use Rattle.isa_model.specs.Reporting.Reports.{starting_contents}
 use Rattle.maps.specs.Maps.{MapState, contents_of, rows_of, starting_map}
 use Rattle.maps.proofs.MapLaws.{contents_of-starting, rows_of-starting}
 use Rattle.map_texts.specs.Fillings.{FilledMaps, filled_by}
 use Rattle.map_texts.specs.Reading.{AreFilledFrom}
-use Rattle.commands.specs.declared.outcomes.TaskOutcome.{TaskOutcome}
 use Rattle.filtering.specs.Filling.{BeginsNot, BeginsWith, RefusesMapText}
 
 pub rows-begun : (p : Program) (maps : List MapState) → maps ≡ map starting_map p.maps

@@ -1,3 +1,4 @@
+mod Common
 pub mod FillingLaws
 pub mod FilesLaws
 pub mod DeliveringLaws

@@ -1,8 +1,4 @@
-use Rattle.std.proofs.Common.{◌≡◌, ◌∙◌, ◌≤◌, None, subst, sym, refl, inl, arith}
-use Rattle.words.specs.Requests.{request_of}
-use Rattle.commands.specs.declared.endings.Ending.{Ending}
-use Rattle.commands.specs.Saying.{AppendsPart}
-use Rattle.commands.specs.Statuses.{status_of}
+use Rattle.commands.proofs.Common.{◌≡◌, ◌∙◌, ◌≤◌, None, subst, sym, refl, inl, arith, request_of, Ending, AppendsPart, status_of}
 use Rattle.commands.proofs.StatusesLaws.{silent_words, silent_memory, unasked_status}
 use Rattle.commands.proofs.FilesSilence.{whole_handed_on}
 use Rattle.commands.proofs.Knowing.{whole_knows}

@@ -1,5 +1,4 @@
-use Rattle.std.proofs.Common.{List, ℕ, subst}
-use Rattle.commands.specs.Known.{ShowsKept}
+use Rattle.commands.proofs.Common.{List, ℕ, subst, ShowsKept}
 use Rattle.commands.proofs.TextsLaws.{refuses-file}
 use Rattle.commands.proofs.images.refused_text.Goals as goal
 

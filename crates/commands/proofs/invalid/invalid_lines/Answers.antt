@@ -1,11 +1,6 @@
-use Rattle.std.proofs.Common.{◌≡◌, ℕ, List, ◌++◌, Result, Ok, Err, String, IfOk, refl, ap, ◌∙◌, codes}
-use Rattle.std.specs.Prelude.{decimal}
-use Rattle.std.specs.String.{string_bytes}
+use Rattle.commands.proofs.Common.{◌≡◌, ℕ, List, ◌++◌, Result, Ok, Err, String, IfOk, refl, ap, ◌∙◌, codes, decimal, string_bytes, Global, answer_line, linux_line, invalid_lines, no_action_line, others_words}
 use Rattle.std.specs.declared.alloc.AllocError.{AllocError}
-use Rattle.std.specs.declared.alloc.Global.{Global}
 use Rattle.host.specs.declared.invalid.InvalidFrame.{InvalidFrame}
-use Rattle.commands.specs.InvalidRuns.{answer_line, linux_line, invalid_lines}
-use Rattle.commands.specs.Stopped.{no_action_line, others_words}
 use Rattle.commands.proofs.invalid.invalid_lines.Goals as goal
 
 abbrev joined : ℕ → List ℕ → List ℕ → List ℕ → List ℕ → List ℕ

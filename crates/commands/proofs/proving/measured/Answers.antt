@@ -1,5 +1,4 @@
-use Rattle.std.proofs.Common.{ℕ, subst}
-use Rattle.commands.specs.Proving.{SaysSize}
+use Rattle.commands.proofs.Common.{ℕ, subst, SaysSize}
 use Rattle.commands.proofs.proving.measured.Goals as goal
 
 pub returns-clause-said : goal.returns-clause-said

@@ -1,6 +1,4 @@
-use Rattle.std.proofs.Common.{◌∙◌, inl, arith}
-use Rattle.commands.specs.Proving.{size_text}
-use Rattle.messages.proofs.Written.{ok_text, err_text}
+use Rattle.commands.proofs.Common.{◌∙◌, inl, arith, size_text, ok_text, err_text}
 use Rattle.commands.proofs.Sizes.{part_by}
 use Rattle.commands.proofs.proving.say_size.Goals as goal
 

@@ -1,7 +1,5 @@
-use Rattle.std.proofs.Common.{subst, inl, inr}
-use Rattle.std.proofs.KnownBytes.{Keeps-refl}
+use Rattle.commands.proofs.Common.{subst, inl, inr, Keeps-refl, behind, held, waiting}
 use Rattle.image.specs.Images.{IsImage}
-use Rattle.exact_io.specs.Waiting.{behind, held, waiting}
 use Rattle.proof_table.specs.Writing.{entries_for, table_length}
 use Rattle.proof_table.proofs.WritingLaws.{BeginsTable-nothing}
 use Rattle.commands.proofs.Sizes.{all_delivered}

@@ -1,6 +1,4 @@
-use Rattle.std.proofs.Common.{◌≡◌, ◌++◌, sym, subst, take, refl, rules, false}
-use Rattle.std.specs.Prelude.{is_err}
-use Rattle.commands.specs.declared.texts.KeptText.{KeptText}
+use Rattle.commands.proofs.Common.{◌≡◌, ◌++◌, sym, subst, take, refl, rules, false, is_err, KeptText}
 use Rattle.commands.proofs.TextsLaws.{IsReadAs, read-more, read-shortened, on-ok}
 use Rattle.commands.proofs.reading.read_accepted.Goals as goal
 use Rattle.commands.proofs.reading.read_accepted.Goals.{then-len-enough+else-is_err-2+else-is_refused, else-len-enough}

@@ -1,7 +1,5 @@
-use Rattle.std.proofs.Common.{◌≡◌, ◌++◌, sym, subst, take, rules, arith}
-use Rattle.std.specs.Io.KnownBytes.{Consumes}
+use Rattle.commands.proofs.Common.{◌≡◌, ◌++◌, sym, subst, take, rules, arith, Consumes, Consumes-trans}
 use Rattle.std.proofs.lemmas.Grind.{common_steps}
-use Rattle.std.proofs.KnownBytes.{Consumes-trans}
 use Rattle.table_entries.specs.Settled.{IsTableSettled}
 use Rattle.commands.proofs.SettledBytes.{settled_held}
 use Rattle.commands.proofs.reading.read_settled.Goals as goal

@@ -1,5 +1,4 @@
-use Rattle.std.proofs.Common.{◌-◌, ◌^◌, length}
-use Rattle.std.specs.Io.KnownBytes.{Consumes}
+use Rattle.commands.proofs.Common.{◌-◌, ◌^◌, length, Consumes}
 use Rattle.commands.proofs.reading.read_settled.Given as goal
 
 abbrev pub invariant-parts : goal.invariant-parts

@@ -1,6 +1,4 @@
-use Rattle.std.proofs.Common.{◌≡◌, ◌++◌, drop}
-use Rattle.std.specs.String.{string_bytes}
-use Rattle.commands.specs.Stopped.{first_lines}
+use Rattle.commands.proofs.Common.{◌≡◌, ◌++◌, drop, string_bytes, first_lines}
 use Rattle.commands.proofs.stopped.first_lines.Given as goal
 
 abbrev pub invariant-loop-index : goal.invariant-loop-index

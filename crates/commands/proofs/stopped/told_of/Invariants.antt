@@ -1,6 +1,4 @@
-use Rattle.std.proofs.Common.{◌≡◌, ◌-◌, ◌*◌, ◌^◌, ◌≤◌, take}
-use Rattle.std.specs.Prelude.{sum_by}
-use Rattle.commands.specs.Stopped.{told_at}
+use Rattle.commands.proofs.Common.{◌≡◌, ◌-◌, ◌*◌, ◌^◌, ◌≤◌, take, sum_by, told_at}
 use Rattle.commands.proofs.stopped.told_of.Given as goal
 
 abbrev pub invariant-loop-found : goal.invariant-loop-found

@@ -1,5 +1,4 @@
-use Rattle.std.proofs.Common.{◌∙◌, refl}
-use Rattle.words.specs.Requests.{table_files_of}
+use Rattle.commands.proofs.Common.{◌∙◌, refl, table_files_of}
 use Rattle.commands.proofs.Loading.{bound_of_verified, prove_refused, prove_unloaded, prove_unmade, table_stored}
 use Rattle.commands.proofs.tables.prove_file.Goals as goal
 

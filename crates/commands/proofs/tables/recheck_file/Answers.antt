@@ -1,5 +1,4 @@
-use Rattle.std.proofs.Common.{inl}
-use Rattle.words.specs.Requests.{table_files_of}
+use Rattle.commands.proofs.Common.{inl, table_files_of}
 use Rattle.commands.proofs.Loading.{bound_said}
 use Rattle.commands.proofs.tables.recheck_file.Goals as goal
 

@@ -1,5 +1,4 @@
-use Rattle.std.proofs.Common.{inl}
-use Rattle.words.specs.Requests.{files_of}
+use Rattle.commands.proofs.Common.{inl, files_of}
 use Rattle.commands.proofs.Loading.{shown_run}
 use Rattle.commands.proofs.tables.run_shown.Goals as goal
 

@@ -1,5 +1,4 @@
-use Rattle.std.proofs.Common.{◌∙◌, ap, rules, subst, sym}
-use Rattle.isa_model.specs.{Program, fetch}
+use Rattle.commands.proofs.Common.{◌∙◌, ap, rules, subst, sym, Program, fetch}
 use Rattle.walks.specs.Refused.{IsRefused}
 use Rattle.commands.proofs.Refusing.{program_refused, refusal_told}
 use Rattle.commands.proofs.verdicts.judge.Goals as goal

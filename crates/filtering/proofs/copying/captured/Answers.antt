@@ -1,5 +1,4 @@
-use Rattle.std.proofs.Common.{take}
-use Rattle.exact_io.specs.Waiting.{behind, waiting}
+use Rattle.filtering.proofs.Common.{take, behind, waiting}
 use Rattle.filtering.proofs.CapturingLaws.{captures-all}
 use Rattle.filtering.proofs.copying.captured.Goals as goal
 

@@ -1,7 +1,4 @@
-use Rattle.std.proofs.Common.{ℕ, List, Option, ap₂, subst}
-use Rattle.std.specs.declared.io.ErrorKind.{ErrorKind}
-use Rattle.host.specs.Writing.{Outputs}
-use Rattle.exact_io.specs.Waiting.{waiting}
+use Rattle.filtering.proofs.Common.{ℕ, List, Option, ap₂, subst, ErrorKind, Outputs, waiting}
 use Rattle.filtering.specs.Delivering.{Delivers, names_of}
 use Rattle.filtering.proofs.DeliveringLaws.{gets-report}
 use Rattle.filtering.proofs.delivering.run_reported.Goals as goal

@@ -1,5 +1,4 @@
-use Rattle.std.proofs.Common.{ℕ, List, [], Option, None, ap}
-use Rattle.host.specs.Writing.{Outputs}
+use Rattle.filtering.proofs.Common.{ℕ, List, [], Option, None, ap, Outputs}
 use Rattle.filtering.proofs.delivering.run_unreported.Goals as goal
 
 pub returns-clause-filters : goal.returns-clause-filters

@@ -1,12 +1,8 @@
-use Rattle.std.proofs.Common.{ℕ, List, Option, String, ap₂, refl, subst}
+use Rattle.filtering.proofs.Common.{ℕ, List, Option, String, ap₂, refl, subst, held, TaskOutcome, Says, usage}
 use Rattle.std.specs.declared.alloc.Global.{Global}
-use Rattle.exact_io.specs.Waiting.{held}
 use Rattle.commands.specs.declared.endings.Ending.{Ending}
-use Rattle.commands.specs.declared.outcomes.TaskOutcome.{TaskOutcome}
 use Rattle.commands.specs.declared.outcomes.TaskOutcome.TheVariants.{Done}
 use Rattle.commands.specs.Flushing.{Flushes}
-use Rattle.commands.specs.Saying.{Says}
-use Rattle.filtering.specs.Executing.{usage}
 use Rattle.filtering.proofs.DeliveringLaws.{said-wrong}
 use Rattle.filtering.proofs.executing.say_no_task.Goals as goal
 

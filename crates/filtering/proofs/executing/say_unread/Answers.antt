@@ -1,5 +1,4 @@
-use Rattle.std.proofs.Common.{codes, refl}
-use Rattle.filtering.specs.Executing.{usage}
+use Rattle.filtering.proofs.Common.{codes, refl, usage}
 use Rattle.filtering.proofs.DeliveringLaws.{said-wrong}
 use Rattle.filtering.proofs.executing.say_unread.Goals as goal
 

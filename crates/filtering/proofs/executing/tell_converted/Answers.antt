@@ -1,12 +1,8 @@
-use Rattle.std.proofs.Common.{◌≡◌, ◌∙◌, ℕ, List, [], ◌++◌, Option, Some, append-nil, refl, sym, subst}
-use Rattle.commands.specs.declared.outcomes.TaskOutcome.{TaskOutcome}
+use Rattle.filtering.proofs.Common.{◌≡◌, ◌∙◌, ℕ, List, [], ◌++◌, Option, Some, append-nil, refl, sym, subst, TaskOutcome, AppendsPart, FileForm, converted_lines, other_form}
 use Rattle.commands.specs.declared.outcomes.TaskOutcome.TheVariants.{Done, WrongWords, Refused, Faulted, CannotRead, CannotWrite, CannotReplace, NoMemory}
-use Rattle.commands.specs.Saying.{AppendsPart}
 use Rattle.commands.specs.Statuses.{status_of}
-use Rattle.messages.specs.declared.forms.FileForm.{FileForm}
 use Rattle.isa_model.specs.declared.streams.Fault.TheVariants.{BadMagic}
 use Rattle.isa_model.specs.Reporting.Messages.{sentence_of}
-use Rattle.filtering.specs.Executing.{converted_lines, other_form}
 use Rattle.filtering.proofs.DeliveringLaws.{said-wrong}
 use Rattle.filtering.proofs.executing.tell_converted.Goals as goal
 

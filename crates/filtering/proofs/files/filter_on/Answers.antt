@@ -1,7 +1,5 @@
-use Rattle.std.proofs.Common.{◌∙◌, ap}
-use Rattle.isa_model.specs.{Program}
+use Rattle.filtering.proofs.Common.{◌∙◌, ap, Program, filter_request_of}
 use Rattle.maps.specs.Maps.{contents_of}
-use Rattle.words.specs.FilterRequests.{filter_request_of}
 use Rattle.filtering.proofs.FilesLaws.{filters_opened, filters_unbegun, filters_unopened}
 use Rattle.filtering.proofs.files.filter_on.Goals as goal
 

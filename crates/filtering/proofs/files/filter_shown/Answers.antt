@@ -1,5 +1,4 @@
-use Rattle.std.proofs.Common.{inl}
-use Rattle.words.specs.FilterRequests.{filter_request_of}
+use Rattle.filtering.proofs.Common.{inl, filter_request_of}
 use Rattle.filtering.proofs.FilesLaws.{shown_run}
 use Rattle.filtering.proofs.files.filter_shown.Goals as goal
 

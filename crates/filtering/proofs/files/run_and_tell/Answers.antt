@@ -1,7 +1,4 @@
-use Rattle.std.proofs.Common.{subst, sym}
-use Rattle.commands.specs.declared.outcomes.TaskOutcome.{TaskOutcome}
-use Rattle.words.specs.FilterRequests.{filter_request_of}
-use Rattle.filtering.specs.Files.{FiltersOn}
+use Rattle.filtering.proofs.Common.{subst, sym, TaskOutcome, filter_request_of, FiltersOn}
 use Rattle.filtering.proofs.files.run_and_tell.Goals as goal
 
 pub returns : goal.returns

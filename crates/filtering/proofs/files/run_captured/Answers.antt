@@ -1,6 +1,5 @@
-use Rattle.std.proofs.Common.{take}
+use Rattle.filtering.proofs.Common.{take, behind, waiting}
 use Rattle.std.proofs.Math.Logic.{∥∥₁_map}
-use Rattle.exact_io.specs.Waiting.{behind, waiting}
 use Rattle.filtering.proofs.CapturingLaws.{captured-whole, on_ok-map}
 use Rattle.filtering.proofs.files.run_captured.Goals as goal
 

@@ -1,5 +1,4 @@
-use Rattle.std.proofs.Common.{ap}
-use Rattle.std.specs.Prelude.{option_map}
+use Rattle.std.proofs.Common.{ap, option_map}
 use Rattle.filtering.proofs.DeliveringLaws.{runs-reported, runs-unreported}
 use Rattle.filtering.proofs.files.run_wanted.Goals as goal
 

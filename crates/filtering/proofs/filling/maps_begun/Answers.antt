@@ -1,5 +1,4 @@
-use Rattle.std.proofs.Common.{ap}
-use Rattle.std.specs.Prelude.{option_map}
+use Rattle.std.proofs.Common.{ap, option_map}
 use Rattle.std.proofs.lemmas.Result.{IfErr-weaker, IfOk-weaker}
 use Rattle.filtering.proofs.FillingLaws.{begins_filled, begins_new, begins_refused, rows-begun, rows-filled}
 use Rattle.filtering.proofs.filling.maps_begun.Goals as goal

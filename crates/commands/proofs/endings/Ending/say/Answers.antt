@@ -1,9 +1,5 @@
-use Rattle.std.proofs.Common.{ap}
-use Rattle.commands.specs.declared.outcomes.TaskOutcome.{TaskOutcome}
-use Rattle.commands.specs.declared.outcomes.TaskOutcome.TheVariants.{Refused}
-use Rattle.commands.specs.Known.{outcome_text}
+use Rattle.commands.proofs.Common.{ap, TaskOutcome, Refused, outcome_text, ok_behind, err_behind}
 use Rattle.messages.specs.Messages.{code_line}
-use Rattle.messages.proofs.Written.{ok_behind, err_behind}
 use Rattle.commands.proofs.endings.Ending.say.Goals as goal
 
 pub returns-in-Refused-clause-err : goal.returns-in-Refused-clause-err

@@ -1,5 +1,4 @@
-use Rattle.commands.specs.Statuses.{usage}
-use Rattle.messages.proofs.Written.{err_text, err_behind}
+use Rattle.commands.proofs.Common.{usage, err_text, err_behind}
 use Rattle.commands.proofs.outcomes.TaskOutcome.say.Goals as goal
 
 pub returns-in_ok-write_bytes-in-WrongWords-clause-err : goal.returns-in_ok-write_bytes-in-WrongWords-clause-err

@@ -1,5 +1,4 @@
-use Rattle.std.proofs.Common.{◌≡◌, ◌≤◌, drop, length}
-use Rattle.assembler.specs.Gaps.{all_placed}
+use Rattle.commands.proofs.Common.{◌≡◌, ◌≤◌, drop, length, all_placed}
 use Rattle.commands.proofs.texts.KeptText.placed.Given as goal
 
 abbrev pub invariant-loop-at : goal.invariant-loop-at

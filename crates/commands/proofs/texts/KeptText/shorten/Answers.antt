@@ -1,7 +1,5 @@
-use Rattle.std.proofs.Common.{rules, ◌≡◌, ◌++◌}
-use Rattle.std.specs.Prelude.{[], ◌∷◌}
+use Rattle.commands.proofs.Common.{rules, ◌≡◌, ◌++◌, [], ◌∷◌, IsIdle, without, gap_of}
 use Rattle.image.proofs.CodeSpelling.{take-rest}
-use Rattle.assembler.specs.Gaps.{IsIdle, without, gap_of}
 use Rattle.commands.proofs.TextsLaws.{shortened}
 use Rattle.commands.proofs.texts.KeptText.shorten.Goals as goal
 
