@@ -1,4 +1,5 @@
 use Rattle.std.proofs.Common.{ℕ, List, subst, inr}
+use Rattle.commands.specs.Replacing.{written}
 use Rattle.filtering.specs.Conversions.{CopiesFrom}
 use Rattle.filtering.proofs.conversions.copy_begun.Goals as goal
 
@@ -7,7 +8,7 @@ returns-in-Ok g c =
     inr (
       c.in-Ok.file,
       c.copy_from.new.output,
-      subst (λ (name : List ℕ). CopiesFrom g.R.File.Write.contents c.args.from.path.now
+      subst (λ (name : List ℕ). CopiesFrom (written g.R.File.Write.contents) c.args.from.path.now
           (g.S.Source.remaining c.args.from.source) c.args.from.form c.args.frame_form c.args.from.placing name
           c.in-Ok.file c.copy_from.new.output c.copy_from.result) c.output_name.ensures
           c.copy_from.ensures,
