@@ -144,7 +144,7 @@ def of_short(_: list[str], answer: Answer, whole: Answer) -> str | None:
 
 
 ALLOWED = dict(
-    zip(KINDS, (of_memory, of_memory, of_open, of_read, of_write, of_write, of_short, of_short, of_short, of_open, of_write, of_write))
+    zip(KINDS, (of_memory, of_memory, of_open, of_read, of_write, of_write, *[of_short] * 3, of_open, of_write, of_write))
 )
 
 

@@ -1,6 +1,6 @@
 #!/usr/bin/env python3
-"""Tests of laws.py, names.py, file_map.py, imports.py, edits.py, near.py and tour.py on small repositories, and of what the attacks judge by
-and make. In the gate; `python3 checks/test_scripts.py` runs them."""
+"""Tests of laws.py, names.py, file_map.py, imports.py, edits.py, near.py and tour.py on small repositories, and of what the
+attacks judge by and make. In the gate; `python3 checks/test_scripts.py` runs them."""
 import argparse
 import os
 import random
