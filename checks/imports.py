@@ -5,10 +5,10 @@ usage: python3 checks/imports.py [--write] [CRATE ..]        (without a crate: a
 
 `proofs/Common.antt` passes names on: those of each file of specs/, and of each file of another crate, that three or more proofs
 of the crate import from. A proof that would import from two such files has one line for them in place of its own. --write makes it
-so. The exit status is 1 if a crate that has such a file would be written anew; the last line says how many lines the others
-would spare, which may only become less.
+so. The exit status is 1 if a file would be written anew.
 """
 import collections
+import functools
 import re
 import sys
 from collections.abc import Iterable
@@ -19,10 +19,10 @@ from common import TOP, command_line
 from run import KIT
 
 LEAST = 3  # so many files import from a file that is passed on
-MOST = 6244  # lines that crates without such a file would spare
 CRATES = Path(TOP, "crates")
 USE = re.compile(r"use ([\w.]+)\.\{(.*)\}$")
-PASSED = re.compile(r"pub use ([\w.]+)\.\{(.*)\}$")
+PASSED = re.compile(r"(?:unfoldable )?pub use ([\w.]+)\.\{(.*)\}$")
+UNFOLDABLE = re.compile(r"^unfoldable pub (\S+) :", re.MULTILINE)
 MODULE = re.compile(r"(?:pub )?mod (\w+)$")
 STD = "Rattle.std.proofs.Common"  # the kit's file of this kind; what Rattle.std.specs.Prelude declares comes from there, too
 PRELUDE = "Rattle.std.specs.Prelude"
@@ -111,14 +111,23 @@ def rank(crate: str, home: str) -> tuple[int, str]:
     return 0 if home == STD else 1 if its == "std" else 3 if its == crate else 2, home
 
 
+@functools.cache
+def unfoldable_in(home: str) -> set[str]:
+    """The names that other modules may unfold, of a file of this repository or of the kit."""
+    _, crate, *rest = home.split(".")
+    paths = [Path(top, crate, *rest).with_suffix(".antt") for top in (CRATES, Path(KIT, "rattle"))]
+    return {it for path in paths if path.exists() for it in UNFOLDABLE.findall(path.read_text(encoding="utf-8"))}
+
+
 def common_of(crate: str, passed: Iterable[Name]) -> str:
     """The text of a crate's Common."""
-    rows: dict[str, list[str]] = {}
+    rows: dict[tuple[str, str], list[str]] = {}
     for home, name in passed:
-        if name not in rows.setdefault(home, []):
-            rows[home].append(name)
-    lines = [f"pub use {home}.{{{', '.join(rows[home])}}}" for home in sorted(rows, key=lambda it: rank(crate, it))]
-    return "\n".join([HEAD, *lines, ""])
+        how = "unfoldable pub use" if name in unfoldable_in(home) else "pub use"
+        if name not in rows.setdefault((home, how), []):
+            rows[home, how].append(name)
+    order = sorted(rows, key=lambda it: (*rank(crate, it[0]), it[1]))
+    return "\n".join([HEAD, *(f"{how} {home}.{{{', '.join(rows[home, how])}}}" for home, how in order), ""])
 
 
 def with_module(text: str) -> str:
@@ -130,30 +139,26 @@ def with_module(text: str) -> str:
     return "\n".join([*lines[:at], "mod Common", *lines[at:], ""])
 
 
-def changes(crate: str, of_std: dict[str, str]) -> tuple[dict[Path, str], int]:
-    """The files of a crate's proofs that would be written anew, and how many lines that would spare."""
+def changes(crate: str, of_std: dict[str, str]) -> dict[Path, str]:
+    """The files of a crate's proofs that would be written anew."""
     proofs = read(crate, of_std)
     home_of = homes(proofs)
-    texts, every, spared = {}, [], 0
+    texts, every = {}, []
     for proof in proofs:
         lines, passed = written(crate, proof, home_of)
         every += passed
-        spared += len(proof.lines) - len(lines)
         if lines != proof.lines:
             texts[proof.path] = "\n".join(lines)
     folder = CRATES / crate / "proofs"
     if every:
         common, lib = folder / "Common.antt", folder / "Lib.antt"
         text = common_of(crate, every)
-        before = common.read_text(encoding="utf-8") if common.exists() else ""
-        spared -= text.count("\n") - before.count("\n")
-        if text != before:
+        if not common.exists() or text != common.read_text(encoding="utf-8"):
             texts[common] = text
         lib_text = texts.get(lib, lib.read_text(encoding="utf-8"))
         if with_module(lib_text) != lib_text:
             texts[lib] = with_module(lib_text)
-            spared -= 1
-    return texts, spared
+    return texts
 
 
 def main() -> int:
@@ -161,19 +166,16 @@ def main() -> int:
     parser.add_argument("--write", action="store_true")
     parser.add_argument("crates", nargs="*", metavar="CRATE")
     given, of_std = parser.parse_args(), passed_on(Path(KIT, "rattle/std/proofs/Common.antt"))
-    wrong, left = [], 0
+    wrong = []
     for crate in given.crates or sorted(it.parent.name for it in CRATES.glob("*/proofs")):
-        texts, spared = changes(crate, of_std)
+        texts = changes(crate, of_std)
         if given.write:
             for path, text in texts.items():
                 path.write_text(text, encoding="utf-8")
-        elif (CRATES / crate / "proofs/Common.antt").exists():
-            wrong += [f"{it.relative_to(CRATES)}: python3 checks/imports.py --write {crate}" for it in sorted(texts)]
         else:
-            left += max(spared, 0)
-    print(*wrong, sep="\n", end="\n" if wrong else "")
-    print(f"{len(wrong)} files import otherwise; {left} of {MOST} lines would be spared in crates without such a file")
-    return 1 if wrong or left > MOST else 0
+            wrong += [f"{it.relative_to(CRATES)}: python3 checks/imports.py --write {crate}" for it in sorted(texts)]
+    print(*wrong, f"{len(wrong)} files import otherwise", sep="\n")
+    return 1 if wrong else 0
 
 
 if __name__ == "__main__":

@@ -247,12 +247,10 @@ class Imports(unittest.TestCase):
                     )
                 (folder / "D.antt").write_text("use Rattle.one.specs.Own.{y}\n")
                 (folder / "Lib.antt").write_text("mod A\nmod B\nmod D\n")
-                texts, spared = imports.changes("one", {})
+                texts = imports.changes("one", {})
                 for path, text in texts.items():
                     path.write_text(text)
-                self.assertEqual(
-                    ({it.name for it in texts}, spared), ({"A.antt", "B.antt", "C.antt", "Common.antt", "Lib.antt"}, -1)
-                )
+                self.assertEqual({it.name for it in texts}, {"A.antt", "B.antt", "C.antt", "Common.antt", "Lib.antt"})
                 self.assertEqual(
                     texts[folder / "A.antt"].splitlines()[1:3],
                     ["use Rattle.one.proofs.Common.{x, A, y}", "use Rattle.low.specs.Rare.{rare}"],
@@ -262,7 +260,7 @@ class Imports(unittest.TestCase):
                     ["pub use Rattle.low.specs.Many.{x, A, B, C}", "pub use Rattle.one.specs.Own.{y}"],
                 )
                 self.assertEqual(texts[folder / "Lib.antt"], "mod A\nmod B\nmod Common\nmod D\n")
-                self.assertEqual(imports.changes("one", {}), ({}, 0))
+                self.assertEqual(imports.changes("one", {}), {})
 
 
 class Edits(Tree):

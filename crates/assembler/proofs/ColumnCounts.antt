@@ -1,10 +1,5 @@
 -- Laws of columns, counted byte by byte.
-use Rattle.std.proofs.Common.{◌≡◌, ◌≢◌, ℕ, ◌+◌, ◌<◌, false, true, List, [], ◌∷◌, take, length, get_or, refl, ap, ◌∙◌, arith, ne_eqb, eq-eqb}
-use Rattle.std.specs.Prelude.{◌==◌, reverse}
-use Rattle.std.specs.List.{prefix_len}
-use Rattle.std.proofs.lemmas.List.{take_more, reverse-append}
-use Rattle.assembler.specs.Lexing.{is_line_byte}
-use Rattle.assembler.specs.Positions.{column_behind}
+use Rattle.assembler.proofs.Common.{◌≡◌, ◌≢◌, ℕ, ◌+◌, ◌<◌, false, true, List, [], ◌∷◌, take, length, get_or, refl, ap, ◌∙◌, arith, ne_eqb, eq-eqb, ◌==◌, reverse, prefix_len, take_more, reverse-append, is_line_byte, column_behind}
 
 one_more : (xs : List ℕ) (i : ℕ) → i < length xs
     → column_behind (take (i + 1) xs)

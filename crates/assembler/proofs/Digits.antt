@@ -1,17 +1,9 @@
 -- Numbers that were written are read.
-use Rattle.std.proofs.Common.{◌≡◌, ℕ, suc, ◌+◌, ◌*◌, ◌<◌, ◌≤◌, ◌^◌, List, [], ◌∷◌, ◌++◌, length, take, drop, refl, ap, ◌∙◌, arith, lt-ltb, le-ltb, zero-add, ne_eqb, lit≤}
-use Rattle.std.specs.Prelude.{Some, Bool, true, false, slice_index, decimal, nat_lt, ◌==◌, ◌&&◌, if◌then◌else◌}
-use Rattle.std.specs.List.{prefix_len}
-use Rattle.std.specs.Char.{digit_value, is_digit}
+use Rattle.assembler.proofs.Common.{◌≡◌, ℕ, suc, ◌+◌, ◌*◌, ◌<◌, ◌≤◌, ◌^◌, List, [], ◌∷◌, ◌++◌, length, take, drop, refl, ap, ◌∙◌, arith, lt-ltb, le-ltb, zero-add, ne_eqb, lit≤, Some, Bool, true, false, slice_index, decimal, nat_lt, ◌==◌, ◌&&◌, if◌then◌else◌, prefix_len, digit_value, is_digit, digits, get_or_at, take-append_seam, Number, Solid}
 use Rattle.std.specs.Str.Parse.{AllDigits, IsNumeral, digits_value, digits_value_after}
-use Rattle.std.specs.Fmt.{digits}
 use Rattle.std.proofs.lemmas.Fmt.{decimal_is_IsNumeral, digits_is_IsNumeral}
-use Rattle.std.proofs.lemmas.List.{get_or_at}
-use Rattle.std.proofs.Math.Seq.{take-append_seam}
 use Rattle.std.proofs.Math.Nat.{mul-le-mul_left}
 use Rattle.std.proofs.lemmas.Str.Parse.{digit_from_value}
-use Rattle.assembler.specs.declared.tokens.Token.TheVariants.{Number}
-use Rattle.assembler.specs.declared.tokens.Lexeme.TheVariants.{Solid}
 use Rattle.assembler.specs.Lexing.{is_word_byte, number_at, number_after, number_from, digits_number, lexeme_at}
 use Rattle.assembler.proofs.PlainTexts.{PlainReadSoFar, read_rest}
 use Rattle.assembler.proofs.FrontTokens.{token}

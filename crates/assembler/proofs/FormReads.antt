@@ -1,43 +1,11 @@
 -- The tokens of each form are read as its instruction.
-use Rattle.std.proofs.Common.{◌≡◌, ℕ, suc, ◌<◌, ◌^◌, List, [], ◌∷◌, ◌++◌, refl, ap, arith, lt-ltb, le-leb, eq-eqb}
-use Rattle.std.specs.Prelude.{Some, None, Result, Ok, true, false, ◌==◌, nat_lt, nat_le, ℤ, pos, negsuc}
-use Rattle.std.specs.Int.{w16, w32}
-use Rattle.std.specs.Int.RustNames.{FitsSigned}
-use Rattle.isa_model.specs.declared.registers.Reg.{Reg}
-use Rattle.isa_model.specs.declared.registers.Reg.TheVariants.{R0}
-use Rattle.isa_model.specs.declared.sizes.Width.{Width}
-use Rattle.isa_model.specs.declared.sizes.Width.TheVariants.{Low32, Full64}
-use Rattle.isa_model.specs.declared.sizes.Size.{Size}
-use Rattle.isa_model.specs.declared.sizes.SignedSize.{SignedSize}
-use Rattle.isa_model.specs.declared.sizes.Extension.{Extension}
-use Rattle.isa_model.specs.declared.sizes.Extension.TheVariants.{Low8, Low16, Full8, Full16, Full32}
-use Rattle.isa_model.specs.declared.sizes.SwapWidth.{SwapWidth}
-use Rattle.isa_model.specs.declared.sizes.ByteOrder.{ByteOrder}
-use Rattle.isa_model.specs.declared.instructions.AluOp.{AluOp}
+use Rattle.assembler.proofs.Common.{◌≡◌, ℕ, suc, ◌<◌, ◌^◌, List, [], ◌∷◌, ◌++◌, refl, ap, arith, lt-ltb, le-leb, eq-eqb, Some, None, Result, Ok, true, false, ◌==◌, nat_lt, nat_le, ℤ, pos, negsuc, w16, w32, FitsSigned, Reg, R0, Width, Low32, Full64, Size, SignedSize, Extension, Low8, Low16, Full8, Full16, Full32, SwapWidth, ByteOrder, AluOp, AtomicOp, Comparison, Operand, Constant, Register, Insn, Alu, Neg, MovSx, ByteSwap, LoadNumber, Load, LoadSx, StoreConstant, Store, Atomic, Exchange, CompareExchange, Jump, JumpLong, JumpIf, CallHelper, CallLocal, Exit, width_bits, width_size, OperandFits, extension_width, Word, Sign, Token, Named, Number, Signed, Reading, Wrong, atomic_op_of, comparison_of, width_of, arithmetic, reading_of, assigns, changes, compares, extends}
 use Rattle.isa_model.specs.declared.instructions.AluOp.TheVariants as op
-use Rattle.isa_model.specs.declared.instructions.AtomicOp.{AtomicOp}
 use Rattle.isa_model.specs.declared.instructions.AtomicOp.TheVariants as atomic
-use Rattle.isa_model.specs.declared.instructions.Comparison.{Comparison}
 use Rattle.isa_model.specs.declared.instructions.Comparison.TheVariants as comparison
-use Rattle.isa_model.specs.declared.instructions.Operand.{Operand}
-use Rattle.isa_model.specs.declared.instructions.Operand.TheVariants.{Constant, Register}
-use Rattle.isa_model.specs.declared.instructions.Insn.{Insn}
-use Rattle.isa_model.specs.declared.instructions.Insn.TheVariants.{Alu, Neg, MovSx, ByteSwap, LoadNumber, Load, LoadSx, StoreConstant, Store, Atomic, Exchange, CompareExchange, Jump, JumpLong, JumpIf, CallHelper, CallLocal, Exit}
 use Rattle.isa_model.specs.Code.Registers.{reg_number}
-use Rattle.isa_model.specs.Code.Sizes.{width_bits, width_size}
-use Rattle.isa_model.specs.Code.Spelling.{OperandFits}
-use Rattle.isa_model.specs.Text.CanonicalText.{extension_width}
-use Rattle.assembler.specs.declared.tokens.Word.{Word}
 use Rattle.assembler.specs.declared.tokens.Word.TheVariants as word
-use Rattle.assembler.specs.declared.tokens.Sign.{Sign}
 use Rattle.assembler.specs.declared.tokens.Sign.TheVariants as sign
-use Rattle.assembler.specs.declared.tokens.Token.{Token}
-use Rattle.assembler.specs.declared.tokens.Token.TheVariants.{Named, Number, Signed}
-use Rattle.assembler.specs.declared.readings.Reading.{Reading}
-use Rattle.assembler.specs.declared.wrong.Wrong.{Wrong}
-use Rattle.assembler.specs.Operands.{atomic_op_of, comparison_of, width_of}
-use Rattle.assembler.specs.Statements.{arithmetic, reading_of}
-use Rattle.assembler.specs.Spells.{assigns, changes, compares, extends}
 use Rattle.assembler.proofs.PlainTexts.{unnamed_reading, plain_statement}
 use Rattle.assembler.proofs.TokenReads.{signed_tokens, constant_tokens, operand_tokens}
 

@@ -1,11 +1,5 @@
 -- Laws of the front of a text: what is left of it, and where its tokens begin.
-use Rattle.std.proofs.Common.{◌≡◌, ℕ, ◌+◌, ◌-◌, ◌<◌, ◌≤◌, List, ◌++◌, length, take, drop, refl, sym, ap, ◌∙◌, arith, subst, append_assoc, Result, Ok}
-use Rattle.std.proofs.lemmas.List.{length-drop, drop-drop, take-append-drop, drop-append-le}
-use Rattle.assembler.specs.declared.tokens.Lexeme.{Lexeme}
-use Rattle.assembler.specs.declared.refusals.Refusal.{Refusal}
-use Rattle.assembler.specs.Assembling.{ReadSoFar, start, read_on}
-use Rattle.assembler.specs.Drafts.{accept_short, ChangesNothing}
-use Rattle.assembler.specs.Fronts.{shifted, IsBelow, ReadsOn}
+use Rattle.assembler.proofs.Common.{◌≡◌, ℕ, ◌+◌, ◌-◌, ◌<◌, ◌≤◌, List, ◌++◌, length, take, drop, refl, sym, ap, ◌∙◌, arith, subst, append_assoc, Result, Ok, length-drop, drop-drop, take-append-drop, drop-append-le, Lexeme, Refusal, ReadSoFar, start, read_on, accept_short, ChangesNothing, shifted, IsBelow, ReadsOn}
 use Rattle.assembler.proofs.ShiftedOffsets.{onward, accept_short-shifted}
 use Rattle.assembler.proofs.PassedLexemes.{goes-on-passed}
 

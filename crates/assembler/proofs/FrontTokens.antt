@@ -1,9 +1,5 @@
 -- Laws of the token at the front of a text without names.
-use Rattle.std.proofs.Common.{◌≡◌, ℕ, ◌<◌, ◌-◌, List, [], ◌∷◌, ◌++◌, length, refl, ap, ◌∙◌, arith, Option, Some}
-use Rattle.assembler.specs.declared.tokens.Token.{Token}
-use Rattle.assembler.specs.declared.tokens.Lexeme.{Lexeme}
-use Rattle.assembler.specs.declared.tokens.Lexeme.TheVariants.{Solid}
-use Rattle.assembler.specs.Lexing.{lexeme_at}
+use Rattle.assembler.proofs.Common.{◌≡◌, ℕ, ◌<◌, ◌-◌, List, [], ◌∷◌, ◌++◌, length, refl, ap, ◌∙◌, arith, Option, Some, Token, Lexeme, Solid, lexeme_at}
 use Rattle.assembler.proofs.PlainTexts.{◌>>=◌, PlainReadSoFar, accept, read_rest}
 
 -- bytes that are passed over

@@ -1,8 +1,6 @@
 -- Laws of the test of the hints whether bytes occur in others, byte by byte.
-use Rattle.std.proofs.Common.{◌≡◌, ℕ, zero, suc, ◌+◌, ◌-◌, false, Bool, List, [], ◌∷◌, length, take, drop, refl, sym, subst, arith}
-use Rattle.std.specs.Prelude.{◌||◌}
+use Rattle.assembler.proofs.Common.{◌≡◌, ℕ, zero, suc, ◌+◌, ◌-◌, false, Bool, List, [], ◌∷◌, length, take, drop, refl, sym, subst, arith, ◌||◌, begins, has}
 use Rattle.image.proofs.CodeSpelling.{take-rest}
-use Rattle.assembler.specs.Hints.{begins, has}
 
 or_false : (x y : Bool) → x ≡ false → (x || y) ≡ y
 or_false x y e = rw e refl

@@ -1,13 +1,7 @@
 -- A part of a text that changes nothing can be dropped: what is read is the same, and refusals are
 -- at the places that they had.
-use Rattle.std.proofs.Common.{◌≡◌, ℕ, ◌+◌, ◌-◌, ◌<◌, ◌≤◌, Bool, if◌then◌else◌, List, ◌++◌, length, take, drop, refl, sym, ap, ◌∙◌, arith, append_assoc, Result, Ok, Err}
+use Rattle.assembler.proofs.Common.{◌≡◌, ℕ, ◌+◌, ◌-◌, ◌<◌, ◌≤◌, Bool, if◌then◌else◌, List, ◌++◌, length, take, drop, refl, sym, ap, ◌∙◌, arith, append_assoc, Result, Ok, Err, take-append-drop, take-take, Program, Refusal, AsmError, ReadSoFar, start, read_on, program_in, error_in, assembled, shifted, IsBelow, ReadsOn}
 use Rattle.std.proofs.lemmas.Bool.{lt-ltb, le-ltb}
-use Rattle.std.proofs.lemmas.List.{take-append-drop, take-take}
-use Rattle.isa_model.specs.Code.Instructions.{Program}
-use Rattle.assembler.specs.declared.refusals.Refusal.{Refusal}
-use Rattle.assembler.specs.declared.errors.AsmError.{AsmError}
-use Rattle.assembler.specs.Assembling.{ReadSoFar, start, read_on, program_in, error_in, assembled}
-use Rattle.assembler.specs.Fronts.{shifted, IsBelow, ReadsOn}
 use Rattle.assembler.specs.Gaps.{without, gap_of, in_place, IsIdle}
 use Rattle.assembler.proofs.ShiftedOffsets.{alike, onward, read_on-shifted, program-shifted}
 use Rattle.assembler.proofs.PositionLaws.{moved, error-placed}

@@ -1,10 +1,9 @@
 -- Laws of look-ups of names: an `IndexMap` of labels and the list of them agree.
-use Rattle.std.proofs.Common.{◌≡◌, ℕ, Bool, true, false, cond, List, [], ◌∷◌, ◌++◌, map, refl, ap, Option, Some, None}
+use Rattle.assembler.proofs.Common.{◌≡◌, ℕ, Bool, true, false, cond, List, [], ◌∷◌, ◌++◌, map, refl, ap, Option, Some, None, label_of}
 use denote.Ref.{Bor}
 use Rattle.std.specs.Map.{lookup}
 use Rattle.std.specs.Str.{bytes_eq}
 use Rattle.indexmap.specs.IndexMap.{insert_entry}
-use Rattle.assembler.specs.Labels.{label_of}
 
 abbrev Labels : Type 0
 Labels = List (Bor (List ℕ) × ℕ)

@@ -1,16 +1,8 @@
 -- Laws of the lexeme at the front of a text: once bytes follow it, further ones do not change it.
-use Rattle.std.proofs.Common.{◌≡◌, ℕ, zero, suc, ◌+◌, ◌-◌, ◌<◌, ◌≤◌, ◌==◌, ◌&&◌, ◌||◌, Bool, true, false, if◌then◌else◌, List, [], ◌∷◌, ◌++◌, length, take, drop, refl, sym, ap, ap₂, ◌∙◌, arith, ne_eqb, Option, Some, None}
+use Rattle.assembler.proofs.Common.{◌≡◌, ℕ, zero, suc, ◌+◌, ◌-◌, ◌<◌, ◌≤◌, ◌==◌, ◌&&◌, ◌||◌, Bool, true, false, if◌then◌else◌, List, [], ◌∷◌, ◌++◌, length, take, drop, refl, sym, ap, ap₂, ◌∙◌, arith, ne_eqb, Option, Some, None, slice_index, eqb-true, prefix_len, is_digit, length-drop, take-append-le, drop-append-le, Number, Lexeme, Blank, End, Solid}
 use Rattle.std.proofs.Math.Nat.{lt_of_not-le}
-use Rattle.std.proofs.lemmas.Bool.{eqb-true}
-use Rattle.std.specs.Prelude.{slice_index}
-use Rattle.std.specs.List.{prefix_len}
-use Rattle.std.specs.Char.{is_digit}
 use Rattle.std.proofs.Math.ListN.{get_or-append}
-use Rattle.std.proofs.lemmas.List.{length-drop, take-append-le, drop-append-le}
 use Rattle.std.proofs.lemmas.List.Folds.{prefix_len-append}
-use Rattle.assembler.specs.declared.tokens.Token.TheVariants.{Number}
-use Rattle.assembler.specs.declared.tokens.Lexeme.{Lexeme}
-use Rattle.assembler.specs.declared.tokens.Lexeme.TheVariants.{Blank, End, Solid}
 use Rattle.assembler.specs.Signs.{sign_of, signed_sign}
 use Rattle.assembler.specs.Lexing.{is_word_byte, is_line_byte, digits_number, number_after, number_at, number_from, number_end, number_end_at, number_end_from, or_else, word_at, blank_or_sign, word_or_sign, lexeme_at, unknown_at}
 

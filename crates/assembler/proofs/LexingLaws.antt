@@ -1,11 +1,5 @@
 -- Laws of the definitions in specs/Lexing: where a text begins with no lexeme.
-use Rattle.std.proofs.Common.{◌≡◌, ℕ, zero, suc, ◌-◌, ◌≤◌, ◌==◌, ◌&&◌, Bool, true, false, if◌then◌else◌, List, length, drop, arith, ne_eqb}
-use Rattle.std.specs.Prelude.{slice_index}
-use Rattle.std.specs.List.{prefix_len}
-use Rattle.std.specs.Char.{is_digit}
-use Rattle.std.proofs.lemmas.List.{length-drop}
-use Rattle.std.proofs.lemmas.List.Sums.{prefix_len-le-length}
-use Rattle.assembler.specs.Lexing.{number_end, number_end_at, number_end_from, unknown_at}
+use Rattle.assembler.proofs.Common.{◌≡◌, ℕ, zero, suc, ◌-◌, ◌≤◌, ◌==◌, ◌&&◌, Bool, true, false, if◌then◌else◌, List, length, drop, arith, ne_eqb, slice_index, prefix_len, is_digit, length-drop, prefix_len-le-length, number_end, number_end_at, number_end_from, unknown_at}
 
 either : (b : Bool) (m n all : ℕ) → m ≤ all → n ≤ all → (if b then m else n) ≤ all
 either true m n all h g = h

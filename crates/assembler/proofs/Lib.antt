@@ -1,3 +1,4 @@
+mod Common
 pub mod PlainTexts
 pub mod FrontTokens
 pub mod Digits

@@ -1,29 +1,8 @@
 -- Lines of canonical text are read as their instructions.
-use Rattle.std.proofs.Common.{◌≡◌, ℕ, ◌<◌, ◌^◌, List, [], ◌∷◌, ◌++◌, length, refl, ap, ◌∙◌, arith, append_assoc, lit<, ne_eqb}
-use Rattle.std.specs.Prelude.{codes, Option, Some, Bool, true, false, ◌==◌, slice_get, ℤ, pos, negsuc, if◌then◌else◌}
-use Rattle.std.specs.Int.{w16, w32}
-use Rattle.std.specs.Int.RustNames.{FitsSigned}
-use Rattle.std.specs.Fmt.{digits, signed_decimal}
-use Rattle.isa_model.specs.declared.registers.Reg.{Reg}
-use Rattle.isa_model.specs.declared.sizes.Width.{Width}
-use Rattle.isa_model.specs.declared.sizes.Width.TheVariants.{Full64}
-use Rattle.isa_model.specs.declared.sizes.Extension.{Extension}
-use Rattle.isa_model.specs.declared.sizes.SwapWidth.{SwapWidth}
-use Rattle.isa_model.specs.declared.sizes.ByteOrder.{ByteOrder}
-use Rattle.isa_model.specs.declared.instructions.AluOp.{AluOp}
-use Rattle.isa_model.specs.declared.instructions.Operand.{Operand}
+use Rattle.assembler.proofs.Common.{◌≡◌, ℕ, ◌<◌, ◌^◌, List, [], ◌∷◌, ◌++◌, length, refl, ap, ◌∙◌, arith, append_assoc, lit<, ne_eqb, codes, Option, Some, Bool, true, false, ◌==◌, slice_get, ℤ, pos, negsuc, if◌then◌else◌, w16, w32, FitsSigned, digits, signed_decimal, Reg, Width, Full64, Extension, SwapWidth, ByteOrder, AluOp, Operand, Insn, Alu, Neg, MovSx, ByteSwap, LoadNumber, Jump, JumpLong, JumpIf, CallHelper, CallLocal, Exit, OperandFits, reg_text, extension_text, extension_width, span_text, order_text, op_text, comparison_text, operand_text, distance_text, line_of, Token, Named, Number, Signed, map_line, begins_map_line, begins_version_line, version_line, extends, assigns, compares}
 use Rattle.isa_model.specs.declared.instructions.Cond.{Cond}
-use Rattle.isa_model.specs.declared.instructions.Insn.{Insn}
-use Rattle.isa_model.specs.declared.instructions.Insn.TheVariants.{Alu, Neg, MovSx, ByteSwap, LoadNumber, Jump, JumpLong, JumpIf, CallHelper, CallLocal, Exit}
-use Rattle.isa_model.specs.Code.Spelling.{OperandFits}
-use Rattle.isa_model.specs.Text.CanonicalText.{reg_text, extension_text, extension_width, span_text, order_text, op_text, comparison_text, operand_text, distance_text, line_of}
 use Rattle.assembler.specs.declared.tokens.Word.TheVariants as word
 use Rattle.assembler.specs.declared.tokens.Sign.TheVariants as sign
-use Rattle.assembler.specs.declared.tokens.Token.{Token}
-use Rattle.assembler.specs.declared.tokens.Token.TheVariants.{Named, Number, Signed}
-use Rattle.assembler.specs.Statements.{map_line}
-use Rattle.assembler.specs.Labelled.{begins_map_line, begins_version_line, version_line}
-use Rattle.assembler.specs.Spells.{extends, assigns, compares}
 use Rattle.assembler.proofs.PlainTexts.{◌>>=◌, keep, plain_statement, not-map-line, not-version-line, Parts, with_insn, takes, added, added_row, added_version, read_rest}
 use Rattle.assembler.proofs.Digits.{hexadecimal-read}
 use Rattle.assembler.proofs.TokenReads.{draft, reg-read, extension-read, swap-read, op-read, comparison-read, negative-read, signed_tokens, constant_tokens, operand_tokens, distance-read, near-read, constant-read, operand-read}

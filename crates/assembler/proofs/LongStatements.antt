@@ -1,31 +1,6 @@
 -- Statements with more tokens than any form has are refused, whatever their other tokens are.
-use Rattle.std.proofs.Common.{◌≡◌, ℕ, zero, suc, ◌+◌, ◌-◌, ◌<◌, ◌≤◌, length, take, drop, List, [], ◌∷◌, ◌++◌, refl, sym, ap, ap₂, ◌∙◌, inl, inr, arith}
+use Rattle.assembler.proofs.Common.{◌≡◌, ℕ, zero, suc, ◌+◌, ◌-◌, ◌<◌, ◌≤◌, length, take, drop, List, [], ◌∷◌, ◌++◌, refl, sym, ap, ap₂, ◌∙◌, inl, inr, arith, Bool, Option, Result, Ok, Err, true, false, ◌==◌, ◌&&◌, ◌||◌, if◌then◌else◌, is_ok, map, slice_get, nat_lt, ℤ, take-append_seam, length-drop, length-append, length-map, length-take-le, Width, Operand, Constant, Register, Insn, Alu, Neg, MovSx, ByteSwap, LoadNumber, LoadMap, LoadMapValue, Load, LoadSx, StoreConstant, Store, Atomic, Exchange, CompareExchange, Jump, JumpLong, JumpIf, CallHelper, CallLocal, Exit, MapDef, Token, Lexeme, Blank, End, Solid, NoForm, Refusal, Statement, Empty, Row, Instruction, Reading, Wrong, Form, Range, ◌>>=◌, number_at, word_at, as_map_type, field_at, reading_of, map_line, begins_map_line, begins_version_line, version_number, version_line, spelled, spelled_behind, fits_form, zeroed, has_form, is_label, label_length, SpellsConstant, IsWide, IsOperand, IsTarget, Spells, TokenSpan, ReadSoFar, offset_or, begins_at, refusal_of, at_end_behind, at_end, accept, next_lexeme, read_on, with_statement, cut, shortened, pushed, accept_short}
 use Rattle.std.proofs.lemmas.Bool.{lt-ltb}
-use Rattle.std.proofs.Math.Seq.{take-append_seam}
-use Rattle.std.proofs.lemmas.List.{length-drop, length-append, length-map, length-take-le}
-use Rattle.std.specs.Prelude.{Bool, Option, Result, Ok, Err, true, false, ◌==◌, ◌&&◌, ◌||◌, if◌then◌else◌, is_ok, map, slice_get, nat_lt, ℤ}
-use Rattle.isa_model.specs.declared.sizes.Width.{Width}
-use Rattle.isa_model.specs.declared.instructions.Operand.{Operand}
-use Rattle.isa_model.specs.declared.instructions.Operand.TheVariants.{Constant, Register}
-use Rattle.isa_model.specs.declared.instructions.Insn.{Insn}
-use Rattle.isa_model.specs.declared.instructions.Insn.TheVariants.{Alu, Neg, MovSx, ByteSwap, LoadNumber, LoadMap, LoadMapValue, Load, LoadSx, StoreConstant, Store, Atomic, Exchange, CompareExchange, Jump, JumpLong, JumpIf, CallHelper, CallLocal, Exit}
-use Rattle.isa_model.specs.declared.map_defs.MapDef.{MapDef}
-use Rattle.assembler.specs.declared.tokens.Token.{Token}
-use Rattle.assembler.specs.declared.tokens.Lexeme.{Lexeme}
-use Rattle.assembler.specs.declared.tokens.Lexeme.TheVariants.{Blank, End, Solid}
-use Rattle.assembler.specs.declared.errors.AsmErrorKind.TheVariants.{NoForm}
-use Rattle.assembler.specs.declared.refusals.Refusal.{Refusal}
-use Rattle.assembler.specs.declared.readings.Statement.{Statement}
-use Rattle.assembler.specs.declared.readings.Statement.TheVariants.{Empty, Row, Instruction}
-use Rattle.assembler.specs.declared.readings.Reading.{Reading}
-use Rattle.assembler.specs.declared.wrong.Wrong.{Wrong}
-use Rattle.assembler.specs.declared.wrong.Wrong.TheVariants.{Form, Range}
-use Rattle.assembler.specs.Operands.{◌>>=◌, number_at, word_at, as_map_type, field_at}
-use Rattle.assembler.specs.Statements.{reading_of, map_line}
-use Rattle.assembler.specs.Labelled.{begins_map_line, begins_version_line, version_number, version_line, spelled, spelled_behind, fits_form, zeroed, has_form, is_label, label_length}
-use Rattle.assembler.specs.Spells.{SpellsConstant, IsWide, IsOperand, IsTarget, Spells}
-use Rattle.assembler.specs.Assembling.{TokenSpan, ReadSoFar, offset_or, begins_at, refusal_of, at_end_behind, at_end, accept, next_lexeme, read_on}
-use Rattle.assembler.specs.Drafts.{with_statement, cut, shortened, pushed, accept_short}
 use Rattle.assembler.proofs.SpellsTokens.{bind, kept, equal, below}
 use Rattle.assembler.proofs.SpellsLaws.{reading_of-Spells}
 

@@ -1,12 +1,5 @@
 -- Laws of the tests of loads of maps: an instruction whose maps are there passes.
-use Rattle.std.proofs.Common.{◌≡◌, ℕ, true, List, length, slice_get, is_none, IsSomeAnd, Option, Some, None, refl, ap, lt-ltb, eq-eqb}
-use Rattle.std.specs.Prelude.{nat_lt, ◌==◌}
-use Rattle.isa_model.specs.declared.map_defs.MapDef.{MapDef}
-use Rattle.isa_model.specs.declared.instructions.Insn.{Insn}
-use Rattle.isa_model.specs.declared.instructions.Insn.TheVariants.{LoadMap, LoadMapValue}
-use Rattle.isa_model.specs.Code.MapRows.{HoldsOffset, NamesRows}
-use Rattle.image.specs.Refusals.{is_array}
-use Rattle.assembler.specs.MapTests.{objection_to_value, objection_to_load}
+use Rattle.assembler.proofs.Common.{◌≡◌, ℕ, true, List, length, slice_get, is_none, IsSomeAnd, Option, Some, None, refl, ap, lt-ltb, eq-eqb, nat_lt, ◌==◌, MapDef, Insn, LoadMap, LoadMapValue, HoldsOffset, NamesRows, is_array, objection_to_value, objection_to_load}
 
 value-held : (row : Option MapDef) (offset : ℕ) → IsSomeAnd row (HoldsOffset offset)
     → is_none (objection_to_value row offset) ≡ true

@@ -1,24 +1,9 @@
 -- Canonical lines of map rows and of loads of maps are read back. With these, the line of every
 -- instruction is.
-use Rattle.std.proofs.Common.{◌≡◌, ℕ, ◌<◌, ◌≤◌, ◌^◌, List, [], ◌∷◌, ◌++◌, refl, ap, ◌∙◌, arith, lit<, le-leb, Bool, true, false, nat_le, Result, Ok}
-use Rattle.std.specs.Prelude.{codes, decimal, Some}
-use Rattle.isa_model.specs.declared.registers.Reg.{Reg}
-use Rattle.isa_model.specs.declared.sizes.Width.TheVariants.{Full64}
-use Rattle.isa_model.specs.declared.map_defs.MapDef.{MapDef}
-use Rattle.isa_model.specs.declared.instructions.Insn.{Insn}
-use Rattle.isa_model.specs.declared.instructions.Insn.TheVariants.{Alu, Neg, MovSx, ByteSwap, LoadNumber, LoadMap, LoadMapValue, Load, LoadSx, StoreConstant, Store, Atomic, Exchange, CompareExchange, Jump, JumpLong, JumpIf, CallHelper, CallLocal, Exit}
-use Rattle.isa_model.specs.declared.map_defs.MapType.{MapType}
+use Rattle.assembler.proofs.Common.{◌≡◌, ℕ, ◌<◌, ◌≤◌, ◌^◌, List, [], ◌∷◌, ◌++◌, refl, ap, ◌∙◌, arith, lit<, le-leb, Bool, true, false, nat_le, Result, Ok, codes, decimal, Some, Reg, Full64, MapDef, Insn, Alu, Neg, MovSx, ByteSwap, LoadNumber, LoadMap, LoadMapValue, Load, LoadSx, StoreConstant, Store, Atomic, Exchange, CompareExchange, Jump, JumpLong, JumpIf, CallHelper, CallLocal, Exit, MapType, KeyFits, IsRow, InsnFits, reg_text, map_type_text, line_of, row_line, Token, Named, Number, Signed, Wrong, map_line, reading_of, takes_row}
 use Rattle.isa_model.specs.declared.map_defs.MapType.TheVariants.{Hash, Array}
-use Rattle.isa_model.specs.Code.MapRows.{KeyFits, IsRow}
-use Rattle.isa_model.specs.Code.Spelling.{InsnFits}
-use Rattle.isa_model.specs.Text.CanonicalText.{reg_text, map_type_text, line_of, row_line}
 use Rattle.assembler.specs.declared.tokens.Word.TheVariants as word
 use Rattle.assembler.specs.declared.tokens.Sign.TheVariants as sign
-use Rattle.assembler.specs.declared.tokens.Token.{Token}
-use Rattle.assembler.specs.declared.tokens.Token.TheVariants.{Named, Number, Signed}
-use Rattle.assembler.specs.declared.wrong.Wrong.{Wrong}
-use Rattle.assembler.specs.Statements.{map_line, reading_of}
-use Rattle.assembler.specs.MapTests.{takes_row}
 use Rattle.assembler.proofs.PlainTexts.{◌>>=◌, keep, plain_statement, Parts, with_row, with_insn, takes, added_row, read_rest}
 use Rattle.assembler.proofs.Digits.{decimal-read}
 use Rattle.assembler.proofs.TokenReads.{draft, reg-read, map_type-read}

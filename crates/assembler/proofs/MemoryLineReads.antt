@@ -1,26 +1,7 @@
 -- Lines of loads, stores and atomic instructions are read as their instructions.
-use Rattle.std.proofs.Common.{◌≡◌, List, [], ◌∷◌, ◌++◌, drop, refl, ap, ◌∙◌, append_assoc, lit<}
-use Rattle.std.specs.Prelude.{codes, true, false, ℤ, pos, negsuc}
-use Rattle.std.specs.Int.{w16, w32}
-use Rattle.std.specs.Int.RustNames.{FitsSigned}
-use Rattle.std.specs.Fmt.{signed_decimal}
-use Rattle.isa_model.specs.declared.registers.Reg.{Reg}
-use Rattle.isa_model.specs.declared.registers.Reg.TheVariants.{R0}
-use Rattle.isa_model.specs.declared.sizes.Width.{Width}
-use Rattle.isa_model.specs.declared.sizes.Width.TheVariants.{Full64}
-use Rattle.isa_model.specs.declared.sizes.Size.{Size}
-use Rattle.isa_model.specs.declared.sizes.SignedSize.{SignedSize}
-use Rattle.isa_model.specs.declared.instructions.AtomicOp.{AtomicOp}
-use Rattle.isa_model.specs.declared.instructions.Place.{Place}
-use Rattle.isa_model.specs.declared.instructions.Insn.TheVariants.{Load, LoadSx, StoreConstant, Store, Atomic, Exchange, CompareExchange}
-use Rattle.isa_model.specs.Code.Sizes.{width_size}
-use Rattle.isa_model.specs.Text.CanonicalText.{reg_text, size_text, signed_text, width_text, atomic_text, fetch_text, offset_text, line_of}
-use Rattle.assembler.specs.declared.tokens.Word.{Word}
+use Rattle.assembler.proofs.Common.{◌≡◌, List, [], ◌∷◌, ◌++◌, drop, refl, ap, ◌∙◌, append_assoc, lit<, codes, true, false, ℤ, pos, negsuc, w16, w32, FitsSigned, signed_decimal, Reg, R0, Width, Full64, Size, SignedSize, AtomicOp, Place, Load, LoadSx, StoreConstant, Store, Atomic, Exchange, CompareExchange, width_size, reg_text, size_text, signed_text, width_text, atomic_text, fetch_text, offset_text, line_of, Word, Token, Named, Signed, changes}
 use Rattle.assembler.specs.declared.tokens.Word.TheVariants as word
 use Rattle.assembler.specs.declared.tokens.Sign.TheVariants as sign
-use Rattle.assembler.specs.declared.tokens.Token.{Token}
-use Rattle.assembler.specs.declared.tokens.Token.TheVariants.{Named, Signed}
-use Rattle.assembler.specs.Spells.{changes}
 use Rattle.assembler.proofs.PlainTexts.{Parts, read_rest}
 use Rattle.assembler.proofs.TokenReads.{draft, reg-read, size-read, signed_size-read, fetch-read, exchange-read, compare-read, atomic-read, constant_tokens, place_tokens, constant-read, place-read}
 use Rattle.assembler.proofs.FormReads.{memory_tokens, load-form, extending-form, store-form, constant-form, lock-form, exchange_tokens, fetch-form, exchange-form, compare-form}

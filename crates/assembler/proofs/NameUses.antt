@@ -1,13 +1,5 @@
 -- Laws of the uses of names, one after another, as the loop takes them.
-use Rattle.std.proofs.Common.{◌≡◌, ℕ, ◌+◌, ◌<◌, List, map, length, drop, get_or, slice_get, slice_set, ap, ◌∙◌, sym, subst, Option, Some, None, Result, Ok, Err}
-use Rattle.std.proofs.lemmas.List.{drop_more, get_or-map, length-map}
-use Rattle.isa_model.specs.declared.instructions.Insn.{Insn}
-use Rattle.assembler.specs.declared.errors.AsmErrorKind.{AsmErrorKind}
-use Rattle.assembler.specs.declared.errors.AsmErrorKind.TheVariants.{NotDefined}
-use Rattle.assembler.specs.declared.refusals.Refusal.{Refusal}
-use Rattle.assembler.specs.declared.names.Use.{Use}
-use Rattle.assembler.specs.Naming.{NameUse, use_of, aim, aim_used, put, resolved}
-use Rattle.assembler.specs.Operands.{◌>>=◌}
+use Rattle.assembler.proofs.Common.{◌≡◌, ℕ, ◌+◌, ◌<◌, List, map, length, drop, get_or, slice_get, slice_set, ap, ◌∙◌, sym, subst, Option, Some, None, Result, Ok, Err, drop_more, get_or-map, length-map, Insn, AsmErrorKind, NotDefined, Refusal, Use, NameUse, use_of, aim, aim_used, put, resolved, ◌>>=◌}
 
 -- a turn of the loop, for a use whose instruction was looked up, and then the uses after it
 abbrev loop_turn : (List ℕ → Option ℕ) → List Use → List Insn → ℕ → NameUse → Option Insn

@@ -1,8 +1,6 @@
 -- Laws of distances that have 16 bits.
 use Rattle.std.proofs.Common.{◌≡◌, ◌^◌, true, false, ℤ, pos, negsuc, FitsSigned, ltb-true, lt-ltb, inl, inr}
-use Rattle.std.proofs.lemmas.Bool.{cases_Bool}
-use Rattle.std.specs.Int.{w16}
-use Rattle.assembler.specs.Naming.{is_near}
+use Rattle.assembler.proofs.Common.{cases_Bool, w16, is_near}
 
 pub fits_near : (by : ℤ) → FitsSigned w16 by → is_near by ≡ true
 fits_near (pos n) f = lt-ltb n (2 ^ 15) f.sfits

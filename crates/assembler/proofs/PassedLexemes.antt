@@ -1,15 +1,7 @@
 -- Laws of the lexemes that change nothing.
-use Rattle.std.proofs.Common.{◌≡◌, ℕ, ◌-◌, ◌<◌, ◌≤◌, ◌⊎◌, inl, inr, List, [], ◌∷◌, length, take, drop, refl, ap, ◌∙◌, Option, Some, None, Result, Ok}
-use Rattle.std.specs.Prelude.{IfSome, slice_get}
-use Rattle.assembler.specs.declared.tokens.Lexeme.{Lexeme}
-use Rattle.assembler.specs.declared.tokens.Lexeme.TheVariants.{Blank, End, Solid}
-use Rattle.assembler.specs.Lexing.{lexeme_at, token_length}
-use Rattle.assembler.specs.declared.refusals.Refusal.{Refusal}
-use Rattle.assembler.specs.Assembling.{ReadSoFar, read_on}
-use Rattle.assembler.specs.Drafts.{ChangesNothing}
+use Rattle.assembler.proofs.Common.{◌≡◌, ℕ, ◌-◌, ◌<◌, ◌≤◌, ◌⊎◌, inl, inr, List, [], ◌∷◌, length, take, drop, refl, ap, ◌∙◌, Option, Some, None, Result, Ok, IfSome, slice_get, Lexeme, Blank, End, Solid, lexeme_at, token_length, Refusal, ReadSoFar, read_on, ChangesNothing, ReadsOn}
 use Rattle.assembler.proofs.LongStatements.{pushed-full}
 use Rattle.assembler.proofs.ReadingLoop.{loop_turn-taken}
-use Rattle.assembler.specs.Fronts.{ReadsOn}
 use Rattle.assembler.proofs.SettledTexts.{goes-on}
 
 -- a space or a tab

@@ -1,28 +1,8 @@
 -- A statement without a label or a use of a name is read with the same result as by the simpler
 -- reading of PlainTexts.
-use Rattle.std.proofs.Common.{◌≡◌, ℕ, ◌==◌, Bool, true, false, if◌then◌else◌, List, [], ◌∷◌, ◌++◌, length, refl, ap, ◌∙◌, sym, arith, ne_eqb, ◌&&◌, is_none, slice_get, Option, Some, None, Result, Ok, Err}
-use Rattle.isa_model.specs.declared.map_defs.MapDef.{MapDef}
-use Rattle.isa_model.specs.declared.instructions.Insn.{Insn}
-use Rattle.isa_model.specs.declared.instructions.Insn.TheVariants.{Exit}
-use Rattle.assembler.specs.declared.tokens.Word.{Word}
+use Rattle.assembler.proofs.Common.{◌≡◌, ℕ, ◌==◌, Bool, true, false, if◌then◌else◌, List, [], ◌∷◌, ◌++◌, length, refl, ap, ◌∙◌, sym, arith, ne_eqb, ◌&&◌, is_none, slice_get, Option, Some, None, Result, Ok, Err, MapDef, Insn, Exit, Word, Token, Named, Signed, MapLine, LateVersion, SlotCount, Reading, Refusal, Statement, Empty, Version, Row, Instruction, Wrong, Form, Objection, ◌>>=◌, keep, reading_of, map_line, label_length, begins_map_line, begins_version_line, version_line, spelled, Two, takes_row, objection_to_load, objection, ReadSoFar, has_room, refused_at, begins_at, unless_wrong, unless_refused, is_first, ended, at_end_behind, at_end}
 use Rattle.assembler.specs.declared.tokens.Word.TheVariants as word
 use Rattle.assembler.specs.declared.tokens.Sign.TheVariants as sign
-use Rattle.assembler.specs.declared.tokens.Token.{Token}
-use Rattle.assembler.specs.declared.tokens.Token.TheVariants.{Named, Signed}
-use Rattle.assembler.specs.declared.errors.AsmErrorKind.TheVariants.{MapLine, LateVersion, SlotCount}
-use Rattle.assembler.specs.declared.readings.Reading.{Reading}
-use Rattle.assembler.specs.declared.refusals.Refusal.{Refusal}
-use Rattle.assembler.specs.declared.readings.Statement.{Statement}
-use Rattle.assembler.specs.declared.readings.Statement.TheVariants.{Empty, Version, Row, Instruction}
-use Rattle.assembler.specs.declared.wrong.Wrong.{Wrong}
-use Rattle.assembler.specs.declared.wrong.Wrong.TheVariants.{Form}
-use Rattle.assembler.specs.declared.wrong.Objection.{Objection}
-use Rattle.assembler.specs.Operands.{◌>>=◌, keep}
-use Rattle.assembler.specs.Statements.{reading_of, map_line}
-use Rattle.assembler.specs.Labelled.{label_length, begins_map_line, begins_version_line, version_line, spelled}
-use Rattle.isa_model.specs.declared.versions.Version.TheVariants.{Two}
-use Rattle.assembler.specs.MapTests.{takes_row, objection_to_load, objection}
-use Rattle.assembler.specs.Assembling.{ReadSoFar, has_room, refused_at, begins_at, unless_wrong, unless_refused, is_first, ended, at_end_behind, at_end}
 use Rattle.assembler.proofs.PlainTexts.{unnamed, unnamed_reading, plain_statement, no_insn-some, not-map-line, not-version-line, added, added_row, added_version, is_start}
 use Rattle.assembler.proofs.PlainTexts as plain
 

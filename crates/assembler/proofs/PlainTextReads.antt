@@ -1,20 +1,7 @@
 -- A text without labels and uses of names is read with the same result as by the simpler reading
 -- of PlainTexts.
-use Rattle.std.proofs.Common.{◌≡◌, ℕ, zero, suc, ◌+◌, ◌-◌, ◌==◌, Bool, true, false, if◌then◌else◌, List, [], ◌∷◌, ◌++◌, length, take, refl, ap, ◌∙◌, sym, subst, arith, ne_eqb, slice_get, Option, Some, None, ok_or, Result}
-use Rattle.isa_model.specs.declared.map_defs.MapDef.{MapDef}
-use Rattle.isa_model.specs.declared.instructions.Insn.{Insn}
-use Rattle.assembler.specs.declared.tokens.Token.{Token}
-use Rattle.assembler.specs.declared.tokens.Lexeme.{Lexeme}
-use Rattle.assembler.specs.declared.tokens.Lexeme.TheVariants.{Blank, End, Solid}
-use Rattle.assembler.specs.Lexing.{lexeme_at, unknown_at}
-use Rattle.assembler.specs.declared.errors.AsmErrorKind.TheVariants.{UnknownByte}
-use Rattle.assembler.specs.declared.refusals.Refusal.{Refusal}
-use Rattle.assembler.specs.Operands.{◌>>=◌}
-use Rattle.assembler.specs.Statements.{map_line}
-use Rattle.assembler.specs.Labelled.{begins_map_line, begins_version_line, version_line}
+use Rattle.assembler.proofs.Common.{◌≡◌, ℕ, zero, suc, ◌+◌, ◌-◌, ◌==◌, Bool, true, false, if◌then◌else◌, List, [], ◌∷◌, ◌++◌, length, take, refl, ap, ◌∙◌, sym, subst, arith, ne_eqb, slice_get, Option, Some, None, ok_or, Result, MapDef, Insn, Token, Lexeme, Blank, End, Solid, lexeme_at, unknown_at, UnknownByte, Refusal, ◌>>=◌, map_line, begins_map_line, begins_version_line, version_line, NameUse, ReadSoFar, TokenSpan, at_end, accept, read_on}
 use Rattle.isa_model.specs.declared.versions.Version.{Version as TheVersion}
-use Rattle.assembler.specs.Naming.{NameUse}
-use Rattle.assembler.specs.Assembling.{ReadSoFar, TokenSpan, at_end, accept, read_on}
 use Rattle.assembler.proofs.PlainTexts.{plain_statement, added, added_row, added_version}
 use Rattle.assembler.proofs.PlainTexts as plain
 use Rattle.assembler.proofs.PlainReads.{version-agrees, same_some, ReadsPlainly, shadow, row-agrees, never, Bare, statement-agrees}

@@ -1,24 +1,7 @@
 -- A simpler reading of texts that have no labels and no names; canonical text has none.
-use Rattle.std.proofs.Common.{ℕ, zero, suc, ◌-◌, ◌==◌, Bool, true, false, if◌then◌else◌, List, [], ◌∷◌, ◌++◌, length, ◌≡◌, refl, Option, Some, None, Result, Ok, Err}
-use Rattle.std.specs.Prelude.{option_and_then, is_none, slice_get, ◌&&◌}
-use Rattle.isa_model.specs.declared.instructions.Insn.{Insn}
+use Rattle.assembler.proofs.Common.{ℕ, zero, suc, ◌-◌, ◌==◌, Bool, true, false, if◌then◌else◌, List, [], ◌∷◌, ◌++◌, length, ◌≡◌, refl, Option, Some, None, Result, Ok, Err, option_and_then, is_none, slice_get, ◌&&◌, Insn, Token, Named, Lexeme, Blank, End, Solid, lexeme_at, Reading, Wrong, MapDef, reading_of, map_line, begins_map_line, begins_version_line, version_line, takes_row, objection_to_load, Statement, Version, One, Two, is_one}
 use Rattle.assembler.specs.declared.tokens.Word.TheVariants as word
-use Rattle.assembler.specs.declared.tokens.Token.{Token}
-use Rattle.assembler.specs.declared.tokens.Token.TheVariants.{Named}
-use Rattle.assembler.specs.declared.tokens.Lexeme.{Lexeme}
-use Rattle.assembler.specs.declared.tokens.Lexeme.TheVariants.{Blank, End, Solid}
-use Rattle.assembler.specs.Lexing.{lexeme_at}
-use Rattle.assembler.specs.declared.readings.Reading.{Reading}
-use Rattle.assembler.specs.declared.wrong.Wrong.{Wrong}
-use Rattle.isa_model.specs.declared.map_defs.MapDef.{MapDef}
-use Rattle.assembler.specs.Statements.{reading_of, map_line}
-use Rattle.assembler.specs.Labelled.{begins_map_line, begins_version_line, version_line}
-use Rattle.assembler.specs.MapTests.{takes_row, objection_to_load}
-use Rattle.assembler.specs.declared.readings.Statement.{Statement}
-use Rattle.assembler.specs.declared.readings.Statement.TheVariants.{Version}
 use Rattle.isa_model.specs.declared.versions.Version.{Version as TheVersion}
-use Rattle.isa_model.specs.declared.versions.Version.TheVariants.{One, Two}
-use Rattle.assembler.specs.Assembling.{is_one}
 pub use Rattle.assembler.specs.Assembling.{has_room}
 
 infixl 10 ◌>>=◌

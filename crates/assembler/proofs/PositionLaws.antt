@@ -1,17 +1,8 @@
 -- Laws of positions: where the bytes behind a gap in a text are.
-use Rattle.std.proofs.Common.{◌≡◌, ℕ, ◌+◌, ◌-◌, ◌<◌, ◌≤◌, ◌==◌, ◌⊎◌, inl, inr, ◌&&◌, ◌||◌, Bool, true, false, if◌then◌else◌, List, [], ◌∷◌, ◌++◌, length, take, drop, refl, sym, ap, ap₂, ◌∙◌, arith, subst, append_assoc, eq-zero-or-pos}
-use Rattle.std.specs.Prelude.{nat_lt, count_by, reverse, not}
-use Rattle.std.specs.List.{prefix_len}
+use Rattle.assembler.proofs.Common.{◌≡◌, ℕ, ◌+◌, ◌-◌, ◌<◌, ◌≤◌, ◌==◌, ◌⊎◌, inl, inr, ◌&&◌, ◌||◌, Bool, true, false, if◌then◌else◌, List, [], ◌∷◌, ◌++◌, length, take, drop, refl, sym, ap, ap₂, ◌∙◌, arith, subst, append_assoc, eq-zero-or-pos, nat_lt, count_by, reverse, not, prefix_len, reverse-append, length-reverse, length-drop, length-take-le, take-append-drop, take-append-le, take-take, sum_by-append, sum_by-cons, take-append-add, is_line_byte, AsmErrorKind, AsmError, line_behind, column_behind, error_at}
 use Rattle.std.proofs.lemmas.Bool.{lt-ltb, le-ltb, ltb-true, ltb-false, eqb-true, eq-eqb, ne_eqb}
-use Rattle.std.proofs.lemmas.List.{reverse-append, length-reverse, length-drop, length-take-le, take-append-drop, take-append-le, take-take}
 use Rattle.std.proofs.lemmas.List.Folds.{prefix_len-append}
-use Rattle.std.proofs.lemmas.List.Sums.{sum_by-append, sum_by-cons}
-use Rattle.std.proofs.Math.Seq.{take-append-add}
-use Rattle.assembler.specs.Lexing.{is_line_byte}
-use Rattle.assembler.specs.declared.errors.AsmErrorKind.{AsmErrorKind}
-use Rattle.assembler.specs.declared.errors.AsmError.{AsmError}
 use Rattle.assembler.specs.declared.gaps.Gap.{Gap}
-use Rattle.assembler.specs.Positions.{line_behind, column_behind, error_at}
 use Rattle.assembler.specs.Gaps.{without, gap_of, is_before, placed}
 
 abbrev feeds : List ℕ → ℕ

@@ -1,13 +1,5 @@
 -- Laws of the loop over the lexemes of a text: what each turn of it does.
-use Rattle.std.proofs.Common.{◌≡◌, ℕ, zero, suc, ◌+◌, ◌-◌, ◌<◌, ◌≤◌, ◌⊎◌, List, [], ◌∷◌, length, take, drop, refl, ap, ◌∙◌, arith, inl, inr, eq-zero-or-pos, Some, None, ok_or, Result, Ok, Err}
-use Rattle.std.proofs.lemmas.List.{length-drop}
-use Rattle.assembler.specs.declared.errors.AsmErrorKind.TheVariants.{UnknownByte}
-use Rattle.assembler.specs.declared.refusals.Refusal.{Refusal}
-use Rattle.assembler.specs.declared.tokens.Lexeme.{Lexeme}
-use Rattle.assembler.specs.Lexing.{lexeme_at, unknown_at}
-use Rattle.assembler.specs.Operands.{◌>>=◌}
-use Rattle.assembler.specs.Assembling.{ReadSoFar, accept, at_end, next_lexeme, read_on}
-use Rattle.assembler.specs.Drafts.{accept_short}
+use Rattle.assembler.proofs.Common.{◌≡◌, ℕ, zero, suc, ◌+◌, ◌-◌, ◌<◌, ◌≤◌, ◌⊎◌, List, [], ◌∷◌, length, take, drop, refl, ap, ◌∙◌, arith, inl, inr, eq-zero-or-pos, Some, None, ok_or, Result, Ok, Err, length-drop, UnknownByte, Refusal, Lexeme, lexeme_at, unknown_at, ◌>>=◌, ReadSoFar, accept, at_end, next_lexeme, read_on, accept_short}
 use Rattle.assembler.proofs.LongStatements.{accept-short}
 
 -- bytes that are passed over

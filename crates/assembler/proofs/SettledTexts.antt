@@ -1,34 +1,9 @@
 -- Laws of the loop over the first lexemes of a text: what they say of every text that begins so.
-use Rattle.std.proofs.Common.{◌≡◌, ℕ, zero, suc, ◌+◌, ◌-◌, ◌<◌, ◌≤◌, ◌==◌, List, [], ◌∷◌, ◌++◌, length, take, drop, sym, ap, ◌∙◌, arith, Bool, true, false, if◌then◌else◌, Option, Some, None, Result, Ok, Err, subst}
-use Rattle.std.specs.Prelude.{slice_get, nat_lt}
+use Rattle.assembler.proofs.Common.{◌≡◌, ℕ, zero, suc, ◌+◌, ◌-◌, ◌<◌, ◌≤◌, ◌==◌, List, [], ◌∷◌, ◌++◌, length, take, drop, sym, ap, ◌∙◌, arith, Bool, true, false, if◌then◌else◌, Option, Some, None, Result, Ok, Err, subst, slice_get, nat_lt, Token, Lexeme, Blank, End, Solid, lexeme_at, unknown_at, AsmErrorKind, UnknownByte, NoForm, OutOfRange, AsmError, Program, Insn, Refusal, Reading, Statement, Empty, Version, Row, Instruction, Wrong, Form, Range, Objection, ◌>>=◌, spelled_behind, has_form, label_length, objection, with_label, line_behind, column_behind, TokenSpan, ReadSoFar, start, offset_or, begins_at, refused_at, unless_wrong, unless_refused, with_insn, with_use, name_span, added, named_by, named, is_first, ended, at_end, read_on, error_in, program_in, assembled, finished, accept_short, shortened, pushed, cut, ReadsOn}
 use Rattle.std.proofs.lemmas.List.{length-append, length-drop, append-nil, take-append-le, drop-append-le}
-use Rattle.assembler.specs.declared.tokens.Token.{Token}
-use Rattle.assembler.specs.declared.tokens.Lexeme.{Lexeme}
-use Rattle.assembler.specs.declared.tokens.Lexeme.TheVariants.{Blank, End, Solid}
-use Rattle.assembler.specs.Lexing.{lexeme_at, unknown_at}
 use Rattle.assembler.proofs.LexingLaws.{unknown_at-within}
 use Rattle.assembler.proofs.LexemeFronts.{lexeme_at-append, EndsWithin, BeginsAlike}
-use Rattle.assembler.specs.declared.errors.AsmErrorKind.{AsmErrorKind}
-use Rattle.assembler.specs.declared.errors.AsmErrorKind.TheVariants.{UnknownByte, NoForm, OutOfRange}
-use Rattle.assembler.specs.declared.errors.AsmError.{AsmError}
-use Rattle.isa_model.specs.Code.Instructions.{Program}
-use Rattle.isa_model.specs.declared.instructions.Insn.{Insn}
-use Rattle.assembler.specs.declared.refusals.Refusal.{Refusal}
-use Rattle.assembler.specs.declared.readings.Reading.{Reading}
-use Rattle.assembler.specs.declared.readings.Statement.{Statement}
-use Rattle.assembler.specs.declared.readings.Statement.TheVariants.{Empty, Version, Row, Instruction}
-use Rattle.assembler.specs.declared.wrong.Wrong.{Wrong}
-use Rattle.assembler.specs.declared.wrong.Wrong.TheVariants.{Form, Range}
-use Rattle.assembler.specs.declared.wrong.Objection.{Objection}
-use Rattle.assembler.specs.Operands.{◌>>=◌}
-use Rattle.assembler.specs.Labelled.{spelled_behind, has_form, label_length}
-use Rattle.assembler.specs.MapTests.{objection}
-use Rattle.assembler.specs.Labels.{with_label}
-use Rattle.assembler.specs.Positions.{line_behind, column_behind}
-use Rattle.assembler.specs.Assembling.{TokenSpan, ReadSoFar, start, offset_or, begins_at, refused_at, unless_wrong, unless_refused, with_insn, with_use, name_span, added, named_by, named, is_first, ended, at_end, read_on, error_in, program_in, assembled, finished}
-use Rattle.assembler.specs.Drafts.{accept_short, shortened, pushed, cut}
 use Rattle.assembler.specs.Settled.{IsTextSettled}
-use Rattle.assembler.specs.Fronts.{ReadsOn}
 use Rattle.assembler.proofs.ReadingLoop.{loop_turn-none, loop_turn-refused, loop_turn-taken}
 
 -- ---- where a statement is refused: at one of its tokens, or at the start of the text

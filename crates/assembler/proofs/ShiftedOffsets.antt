@@ -1,33 +1,7 @@
 -- Laws of offsets: where those of the tokens are others, what is read is the same, and refusals
 -- have the others.
-use Rattle.std.proofs.Common.{◌≡◌, ℕ, zero, suc, ◌+◌, ◌-◌, ◌≤◌, ◌==◌, List, [], ◌∷◌, ◌++◌, length, take, drop, map, refl, sym, ap, ◌∙◌, arith, Bool, true, false, if◌then◌else◌, Option, Some, None, Result, Ok, Err, ok_or, option_map}
-use Rattle.std.specs.Prelude.{slice_get, nat_lt, is_none}
-use Rattle.std.proofs.lemmas.Option.{slice_get-map}
-use Rattle.std.proofs.lemmas.List.{map-append, take-map}
-use Rattle.assembler.specs.declared.tokens.Lexeme.{Lexeme}
-use Rattle.assembler.specs.declared.tokens.Lexeme.TheVariants.{Blank, End, Solid}
-use Rattle.assembler.specs.Lexing.{lexeme_at, unknown_at}
-use Rattle.isa_model.specs.Code.Instructions.{Program, slots}
+use Rattle.assembler.proofs.Common.{◌≡◌, ℕ, zero, suc, ◌+◌, ◌-◌, ◌≤◌, ◌==◌, List, [], ◌∷◌, ◌++◌, length, take, drop, map, refl, sym, ap, ◌∙◌, arith, Bool, true, false, if◌then◌else◌, Option, Some, None, Result, Ok, Err, ok_or, option_map, slice_get, nat_lt, is_none, slice_get-map, map-append, take-map, Lexeme, Blank, End, Solid, lexeme_at, unknown_at, Program, slots, count_refusal, Insn, AsmErrorKind, UnknownByte, NoForm, OutOfRange, SlotCount, Refusal, Reading, Statement, Empty, Version, Row, Instruction, Wrong, Form, Range, Objection, ◌>>=◌, spelled_behind, has_form, label_length, objection, with_label, slot_in, NameUse, aim_used, put, resolved, TokenSpan, ReadSoFar, offset_or, begins_at, refused_at, unless_wrong, unless_refused, with_insn, with_use, name_span, added, named_by, named, is_first, ended, at_end, accept, read_on, program_of, finished, accept_short, shortened, pushed, cut, shifted_span, shifted_use, shifted}
 use Rattle.image.specs.Images as image
-use Rattle.image.specs.Refusals.{count_refusal}
-use Rattle.isa_model.specs.declared.instructions.Insn.{Insn}
-use Rattle.assembler.specs.declared.errors.AsmErrorKind.{AsmErrorKind}
-use Rattle.assembler.specs.declared.errors.AsmErrorKind.TheVariants.{UnknownByte, NoForm, OutOfRange, SlotCount}
-use Rattle.assembler.specs.declared.refusals.Refusal.{Refusal}
-use Rattle.assembler.specs.declared.readings.Reading.{Reading}
-use Rattle.assembler.specs.declared.readings.Statement.{Statement}
-use Rattle.assembler.specs.declared.readings.Statement.TheVariants.{Empty, Version, Row, Instruction}
-use Rattle.assembler.specs.declared.wrong.Wrong.{Wrong}
-use Rattle.assembler.specs.declared.wrong.Wrong.TheVariants.{Form, Range}
-use Rattle.assembler.specs.declared.wrong.Objection.{Objection}
-use Rattle.assembler.specs.Operands.{◌>>=◌}
-use Rattle.assembler.specs.Labelled.{spelled_behind, has_form, label_length}
-use Rattle.assembler.specs.MapTests.{objection}
-use Rattle.assembler.specs.Labels.{with_label, slot_in}
-use Rattle.assembler.specs.Naming.{NameUse, aim_used, put, resolved}
-use Rattle.assembler.specs.Assembling.{TokenSpan, ReadSoFar, offset_or, begins_at, refused_at, unless_wrong, unless_refused, with_insn, with_use, name_span, added, named_by, named, is_first, ended, at_end, accept, read_on, program_of, finished}
-use Rattle.assembler.specs.Drafts.{accept_short, shortened, pushed, cut}
-use Rattle.assembler.specs.Fronts.{shifted_span, shifted_use, shifted}
 
 -- ---- the same with other offsets
 

@@ -1,26 +1,8 @@
 -- The statements that are read as instructions are those that spell one.
-use Rattle.std.proofs.Common.{◌≡◌, ℕ, suc, ◌+◌, ◌^◌, length, List, [], ◌∷◌, ◌++◌, refl, ap, ◌∙◌, subst, inl, inr, arith}
+use Rattle.assembler.proofs.Common.{◌≡◌, ℕ, suc, ◌+◌, ◌^◌, length, List, [], ◌∷◌, ◌++◌, refl, ap, ◌∙◌, subst, inl, inr, arith, ◌≢◌, Bool, Option, Some, Ok, Err, true, false, ◌==◌, if◌then◌else◌, ℤ, pos, Reg, Width, Full64, Size, Place, Insn, StoreConstant, Store, Atomic, Jump, JumpLong, JumpIf, CallHelper, CallLocal, Exit, width_size, Word, Sign, Token, Named, Number, Signed, Reading, Form, ◌>>=◌, keep, token_at, sign_at, atomic_op_of, comparison_of, width_of, word_at, expect_at, memory_at, register_at, operand_at, signed_at, target_at, as_register, as_size, constant_at, plain, stored_token, stored, locked, jump, long_jump, is_goto, goto_at, condition, tested, called_word, called, by_word, by_token, reading_of, changes, compares, reg, IsSigned, memory, IsTarget, Spells}
 use Rattle.std.proofs.Math.ListN.{length-append}
-use Rattle.std.specs.Prelude.{◌≢◌, Bool, Option, Some, Ok, Err, true, false, ◌==◌, if◌then◌else◌, ℤ, pos}
-use Rattle.isa_model.specs.declared.registers.Reg.{Reg}
-use Rattle.isa_model.specs.declared.sizes.Width.{Width}
-use Rattle.isa_model.specs.declared.sizes.Width.TheVariants.{Full64}
-use Rattle.isa_model.specs.declared.sizes.Size.{Size}
-use Rattle.isa_model.specs.declared.instructions.Place.{Place}
-use Rattle.isa_model.specs.declared.instructions.Insn.{Insn}
-use Rattle.isa_model.specs.declared.instructions.Insn.TheVariants.{StoreConstant, Store, Atomic, Jump, JumpLong, JumpIf, CallHelper, CallLocal, Exit}
-use Rattle.isa_model.specs.Code.Sizes.{width_size}
-use Rattle.assembler.specs.declared.tokens.Word.{Word}
 use Rattle.assembler.specs.declared.tokens.Word.TheVariants as word
-use Rattle.assembler.specs.declared.tokens.Sign.{Sign}
 use Rattle.assembler.specs.declared.tokens.Sign.TheVariants as sign
-use Rattle.assembler.specs.declared.tokens.Token.{Token}
-use Rattle.assembler.specs.declared.tokens.Token.TheVariants.{Named, Number, Signed}
-use Rattle.assembler.specs.declared.readings.Reading.{Reading}
-use Rattle.assembler.specs.declared.wrong.Wrong.TheVariants.{Form}
-use Rattle.assembler.specs.Operands.{◌>>=◌, keep, token_at, sign_at, atomic_op_of, comparison_of, width_of, word_at, expect_at, memory_at, register_at, operand_at, signed_at, target_at, as_register, as_size, constant_at}
-use Rattle.assembler.specs.Statements.{plain, stored_token, stored, locked, jump, long_jump, is_goto, goto_at, condition, tested, called_word, called, by_word, by_token, reading_of}
-use Rattle.assembler.specs.Spells.{changes, compares, reg, IsSigned, memory, IsTarget, Spells}
 use Rattle.assembler.proofs.SpellsTokens.{bind, kept, equal, At, HasTokensAt, whole, HasTokensAt-more, token, sign_at_token, word_at_token, expected, register_in, register, signed, constant, operand}
 use Rattle.assembler.proofs.SpellsParts.{memory_at_tokens, target, atomic_in, comparison_in, width_in, size_in, ends_at}
 use Rattle.assembler.proofs.SpellsReads.{Spells-reading_of}

@@ -1,35 +1,13 @@
 -- Which tokens were read where a part of a statement was found that spells a place, a target, the
 -- index of a map, an operation, a size or a width.
-use Rattle.std.proofs.Common.{◌≡◌, ℕ, suc, ◌+◌, ◌-◌, ◌<◌, ◌≤◌, ◌^◌, length, List, [], ◌∷◌, refl, sym, ap, ◌∙◌, subst, inl, inr, arith}
-use Rattle.std.specs.Prelude.{◌≢◌, Bool, Option, Some, None, Ok, Err, true, false, ◌==◌, if◌then◌else◌, slice_get, nat_lt, nat_le, ℤ, pos}
-use Rattle.isa_model.specs.declared.sizes.Width.{Width}
-use Rattle.isa_model.specs.declared.sizes.Width.TheVariants.{Low32, Full64}
-use Rattle.isa_model.specs.declared.sizes.Size.{Size}
+use Rattle.assembler.proofs.Common.{◌≡◌, ℕ, suc, ◌+◌, ◌-◌, ◌<◌, ◌≤◌, ◌^◌, length, List, [], ◌∷◌, refl, sym, ap, ◌∙◌, subst, inl, inr, arith, ◌≢◌, Bool, Option, Some, None, Ok, Err, true, false, ◌==◌, if◌then◌else◌, slice_get, nat_lt, nat_le, ℤ, pos, Width, Low32, Full64, Size, SignedSize, Extension, Low8, Low16, Full8, Full16, Full32, AluOp, AtomicOp, Comparison, Place, Insn, width_size, Word, Sign, Token, Named, Number, Signed, Reading, Form, Range, keep, token_at, number_at, word_at, expect_at, op_of, atomic_op_of, comparison_of, width_of, extension_of, wide_within, signed_at, place_at, memory_at, argument_at, as_size, as_signed_size, is_name, target_token, target_at, field_at, is_by_index, index_at, by_index_at, plain, is_wide, wide_at, assigns, changes, compares, extends, reg, IsSigned, field, IsTarget}
 use Rattle.isa_model.specs.declared.sizes.Size.TheVariants.{U32, U64}
-use Rattle.isa_model.specs.declared.sizes.SignedSize.{SignedSize}
 use Rattle.isa_model.specs.declared.sizes.SignedSize.TheVariants.{S8, S16, S32}
-use Rattle.isa_model.specs.declared.sizes.Extension.{Extension}
-use Rattle.isa_model.specs.declared.sizes.Extension.TheVariants.{Low8, Low16, Full8, Full16, Full32}
-use Rattle.isa_model.specs.declared.instructions.AluOp.{AluOp}
 use Rattle.isa_model.specs.declared.instructions.AluOp.TheVariants as op
-use Rattle.isa_model.specs.declared.instructions.AtomicOp.{AtomicOp}
 use Rattle.isa_model.specs.declared.instructions.AtomicOp.TheVariants as atomic
-use Rattle.isa_model.specs.declared.instructions.Comparison.{Comparison}
 use Rattle.isa_model.specs.declared.instructions.Comparison.TheVariants as comparison
-use Rattle.isa_model.specs.declared.instructions.Place.{Place}
-use Rattle.isa_model.specs.declared.instructions.Insn.{Insn}
-use Rattle.isa_model.specs.Code.Sizes.{width_size}
-use Rattle.assembler.specs.declared.tokens.Word.{Word}
 use Rattle.assembler.specs.declared.tokens.Word.TheVariants as word
-use Rattle.assembler.specs.declared.tokens.Sign.{Sign}
 use Rattle.assembler.specs.declared.tokens.Sign.TheVariants as sign
-use Rattle.assembler.specs.declared.tokens.Token.{Token}
-use Rattle.assembler.specs.declared.tokens.Token.TheVariants.{Named, Number, Signed}
-use Rattle.assembler.specs.declared.readings.Reading.{Reading}
-use Rattle.assembler.specs.declared.wrong.Wrong.TheVariants.{Form, Range}
-use Rattle.assembler.specs.Operands.{keep, token_at, number_at, word_at, expect_at, op_of, atomic_op_of, comparison_of, width_of, extension_of, wide_within, signed_at, place_at, memory_at, argument_at, as_size, as_signed_size, is_name, target_token, target_at, field_at, is_by_index, index_at, by_index_at}
-use Rattle.assembler.specs.Statements.{plain, is_wide, wide_at}
-use Rattle.assembler.specs.Spells.{assigns, changes, compares, extends, reg, IsSigned, field, IsTarget}
 use Rattle.assembler.proofs.SpellsTokens.{bind, kept, passed, At, token, number_at_token, word_at_token, expected, signed, based, HasTokensAt, equal, below, within}
 
 abbrev some : Token → Option Token

@@ -1,36 +1,8 @@
 -- Tokens that spell an instruction are read as that instruction.
-use Rattle.std.proofs.Common.{◌≡◌, ℕ, ◌+◌, ◌^◌, length, List, [], ◌∷◌, ◌++◌, refl, sym, ap, ◌∙◌, inl, inr, lt-ltb, le-leb}
-use Rattle.std.specs.Prelude.{◌≢◌, Option, Some, None, Result, Ok, true, false, ℤ, pos}
-use Rattle.isa_model.specs.declared.registers.Reg.{Reg}
-use Rattle.isa_model.specs.declared.registers.Reg.TheVariants.{R0}
-use Rattle.isa_model.specs.declared.sizes.Width.{Width}
-use Rattle.isa_model.specs.declared.sizes.Width.TheVariants.{Low32, Full64}
-use Rattle.isa_model.specs.declared.sizes.Size.{Size}
-use Rattle.isa_model.specs.declared.sizes.SignedSize.{SignedSize}
-use Rattle.isa_model.specs.declared.sizes.SwapWidth.{SwapWidth}
-use Rattle.isa_model.specs.declared.sizes.ByteOrder.{ByteOrder}
-use Rattle.isa_model.specs.declared.sizes.Extension.{Extension}
-use Rattle.isa_model.specs.declared.sizes.Extension.TheVariants.{Low8, Low16, Full8, Full16, Full32}
-use Rattle.isa_model.specs.declared.instructions.AluOp.{AluOp}
+use Rattle.assembler.proofs.Common.{◌≡◌, ℕ, ◌+◌, ◌^◌, length, List, [], ◌∷◌, ◌++◌, refl, sym, ap, ◌∙◌, inl, inr, lt-ltb, le-leb, ◌≢◌, Option, Some, None, Result, Ok, true, false, ℤ, pos, Reg, R0, Width, Low32, Full64, Size, SignedSize, SwapWidth, ByteOrder, Extension, Low8, Low16, Full8, Full16, Full32, AluOp, AtomicOp, Comparison, Operand, Constant, Register, Insn, Alu, Neg, MovSx, ByteSwap, LoadNumber, LoadMap, LoadMapValue, Load, LoadSx, StoreConstant, Store, Atomic, Exchange, CompareExchange, Jump, JumpLong, JumpIf, CallHelper, CallLocal, Exit, width_size, Word, Sign, Token, Named, Number, Signed, Reading, Wrong, ◌>>=◌, is_minus, signed_within, is_name, arithmetic, called_word, reading_of, assigns, changes, compares, extends, reg, IsSigned, SpellsConstant, IsWide, IsOperand, field, place, memory, IsTarget, Spells}
 use Rattle.isa_model.specs.declared.instructions.AluOp.TheVariants as op
-use Rattle.isa_model.specs.declared.instructions.AtomicOp.{AtomicOp}
-use Rattle.isa_model.specs.declared.instructions.Comparison.{Comparison}
-use Rattle.isa_model.specs.declared.instructions.Operand.{Operand}
-use Rattle.isa_model.specs.declared.instructions.Operand.TheVariants.{Constant, Register}
-use Rattle.isa_model.specs.declared.instructions.Insn.{Insn}
-use Rattle.isa_model.specs.declared.instructions.Insn.TheVariants.{Alu, Neg, MovSx, ByteSwap, LoadNumber, LoadMap, LoadMapValue, Load, LoadSx, StoreConstant, Store, Atomic, Exchange, CompareExchange, Jump, JumpLong, JumpIf, CallHelper, CallLocal, Exit}
-use Rattle.isa_model.specs.Code.Sizes.{width_size}
-use Rattle.assembler.specs.declared.tokens.Word.{Word}
 use Rattle.assembler.specs.declared.tokens.Word.TheVariants as word
-use Rattle.assembler.specs.declared.tokens.Sign.{Sign}
 use Rattle.assembler.specs.declared.tokens.Sign.TheVariants as sign
-use Rattle.assembler.specs.declared.tokens.Token.{Token}
-use Rattle.assembler.specs.declared.tokens.Token.TheVariants.{Named, Number, Signed}
-use Rattle.assembler.specs.declared.readings.Reading.{Reading}
-use Rattle.assembler.specs.declared.wrong.Wrong.{Wrong}
-use Rattle.assembler.specs.Operands.{◌>>=◌, is_minus, signed_within, is_name}
-use Rattle.assembler.specs.Statements.{arithmetic, called_word, reading_of}
-use Rattle.assembler.specs.Spells.{assigns, changes, compares, extends, reg, IsSigned, SpellsConstant, IsWide, IsOperand, field, place, memory, IsTarget, Spells}
 use Rattle.assembler.proofs.FormReads.{atomic-back, comparison-back, same-register, same-width, width-back}
 
 abbrev read : Insn → Option ℕ → Result Reading Wrong

@@ -1,32 +1,8 @@
 -- A text each of whose statements spells something is refused neither for a byte that begins no
 -- token, nor for a statement that fits no form, nor for a number out of range.
-use Rattle.std.proofs.Common.{◌≡◌, ℕ, zero, suc, ◌+◌, ◌-◌, length, drop, take, List, [], ◌∷◌, ◌++◌, refl, sym, ap, subst, inl, inr, ◌⊎◌}
-use Rattle.std.specs.Prelude.{Bool, Option, Some, None, Result, Ok, Err, ok_or, true, false, ◌==◌, ◌&&◌, if◌then◌else◌, is_some, is_none, nat_lt, slice_get}
-use Rattle.isa_model.specs.declared.map_defs.MapDef.{MapDef}
-use Rattle.isa_model.specs.declared.instructions.Insn.{Insn}
-use Rattle.isa_model.specs.declared.instructions.Insn.TheVariants.{LoadMap, LoadMapValue}
-use Rattle.isa_model.specs.Code.Instructions.{Program, slots}
+use Rattle.assembler.proofs.Common.{◌≡◌, ℕ, zero, suc, ◌+◌, ◌-◌, length, drop, take, List, [], ◌∷◌, ◌++◌, refl, sym, ap, subst, inl, inr, ◌⊎◌, Bool, Option, Some, None, Result, Ok, Err, ok_or, true, false, ◌==◌, ◌&&◌, if◌then◌else◌, is_some, is_none, nat_lt, slice_get, MapDef, Insn, LoadMap, LoadMapValue, Program, slots, count_refusal, is_array, Token, Lexeme, Blank, End, Solid, lexeme_at, AsmError, AsmErrorKind, UnknownByte, NoForm, OutOfRange, DefinedTwice, NotDefined, TooFar, MapLine, NoMap, NotOneValue, PastValue, LateVersion, SlotCount, Refusal, Statement, Wrong, Objection, ◌>>=◌, spelled_behind, label_length, slot_in, with_label, takes_row, objection_to_value, objection_to_load, objection, error_at, NameUse, aimed, or_too_far, distance, aim, aim_used, put, resolved, ReadSoFar, TokenSpan, start, unless_wrong, refused_by, unless_refused, is_first, named_by, named, begins_at, refused_at, has_room, with_insn, ended, at_end_behind, accept, next_lexeme, read_on, finished, error_in, program_in, assembled}
 use Rattle.image.specs.Images as image
-use Rattle.image.specs.Refusals.{count_refusal, is_array}
-use Rattle.assembler.specs.declared.tokens.Token.{Token}
-use Rattle.assembler.specs.declared.tokens.Lexeme.{Lexeme}
-use Rattle.assembler.specs.declared.tokens.Lexeme.TheVariants.{Blank, End, Solid}
-use Rattle.assembler.specs.Lexing.{lexeme_at}
-use Rattle.assembler.specs.declared.errors.AsmError.{AsmError}
-use Rattle.assembler.specs.declared.errors.AsmErrorKind.{AsmErrorKind}
-use Rattle.assembler.specs.declared.errors.AsmErrorKind.TheVariants.{UnknownByte, NoForm, OutOfRange, DefinedTwice, NotDefined, TooFar, MapLine, NoMap, NotOneValue, PastValue, LateVersion, SlotCount}
-use Rattle.assembler.specs.declared.refusals.Refusal.{Refusal}
-use Rattle.assembler.specs.declared.readings.Statement.{Statement}
 use Rattle.assembler.specs.declared.readings.Statement.TheVariants as said
-use Rattle.assembler.specs.declared.wrong.Wrong.{Wrong}
-use Rattle.assembler.specs.declared.wrong.Objection.{Objection}
-use Rattle.assembler.specs.Operands.{◌>>=◌}
-use Rattle.assembler.specs.Labelled.{spelled_behind, label_length}
-use Rattle.assembler.specs.Labels.{slot_in, with_label}
-use Rattle.assembler.specs.MapTests.{takes_row, objection_to_value, objection_to_load, objection}
-use Rattle.assembler.specs.Positions.{error_at}
-use Rattle.assembler.specs.Naming.{NameUse, aimed, or_too_far, distance, aim, aim_used, put, resolved}
-use Rattle.assembler.specs.Assembling.{ReadSoFar, TokenSpan, start, unless_wrong, refused_by, unless_refused, is_first, named_by, named, begins_at, refused_at, has_room, with_insn, ended, at_end_behind, accept, next_lexeme, read_on, finished, error_in, program_in, assembled}
 use Rattle.assembler.proofs.SpellsTexts.{SpellsSome, IsSpelled, SpellsSome-spelled_behind, at_end_spells, same_tokens, AtLexeme, OnLexeme, EachStatement}
 
 -- none of A1, A2 and A3

@@ -1,32 +1,8 @@
 -- Statements that begin with a register: the instruction that is read is the one that they spell.
-use Rattle.std.proofs.Common.{◌≡◌, ℕ, ◌^◌, List, [], ◌∷◌, refl, sym, ap, ◌∙◌, subst, inl, inr, ◌⊎◌, arith}
-use Rattle.std.specs.Prelude.{Bool, Option, Some, None, Result, Ok, Err, true, false, if◌then◌else◌}
-use Rattle.isa_model.specs.declared.registers.Reg.{Reg}
-use Rattle.isa_model.specs.declared.registers.Reg.TheVariants.{R0}
-use Rattle.isa_model.specs.declared.sizes.Width.{Width}
-use Rattle.isa_model.specs.declared.sizes.Width.TheVariants.{Low32, Full64}
-use Rattle.isa_model.specs.declared.sizes.Size.{Size}
-use Rattle.isa_model.specs.declared.sizes.SignedSize.{SignedSize}
-use Rattle.isa_model.specs.declared.sizes.SwapWidth.{SwapWidth}
-use Rattle.isa_model.specs.declared.sizes.ByteOrder.{ByteOrder}
-use Rattle.isa_model.specs.declared.instructions.AluOp.{AluOp}
+use Rattle.assembler.proofs.Common.{◌≡◌, ℕ, ◌^◌, List, [], ◌∷◌, refl, sym, ap, ◌∙◌, subst, inl, inr, ◌⊎◌, arith, Bool, Option, Some, None, Result, Ok, Err, true, false, if◌then◌else◌, Reg, R0, Width, Low32, Full64, Size, SignedSize, SwapWidth, ByteOrder, AluOp, AtomicOp, Place, Insn, Alu, Neg, MovSx, ByteSwap, LoadNumber, LoadMap, LoadMapValue, Load, LoadSx, Atomic, Exchange, CompareExchange, Word, Sign, Token, Named, Number, Signed, Reading, Wrong, Form, ◌>>=◌, token_at, sign_at, op_of, extension_of, number_at, word_at, expect_at, memory_at, argument_at, again_at, register_at, operand_at, index_at, by_index_at, field_at, as_signed_size, same_register, wide_within, arithmetic, wide_at, wide, negated, extended, load_of, loaded, swapped, exchanged_place, fetched, exchanged, compared, map_loaded, map_value_loaded, moved_word, moved, assigned_by, assigned, assigns, extends, reg, IsSigned, place, memory, Spells}
 use Rattle.isa_model.specs.declared.instructions.AluOp.TheVariants as op
-use Rattle.isa_model.specs.declared.instructions.AtomicOp.{AtomicOp}
-use Rattle.isa_model.specs.declared.instructions.Place.{Place}
-use Rattle.isa_model.specs.declared.instructions.Insn.{Insn}
-use Rattle.isa_model.specs.declared.instructions.Insn.TheVariants.{Alu, Neg, MovSx, ByteSwap, LoadNumber, LoadMap, LoadMapValue, Load, LoadSx, Atomic, Exchange, CompareExchange}
-use Rattle.assembler.specs.declared.tokens.Word.{Word}
 use Rattle.assembler.specs.declared.tokens.Word.TheVariants as word
-use Rattle.assembler.specs.declared.tokens.Sign.{Sign}
 use Rattle.assembler.specs.declared.tokens.Sign.TheVariants as sign
-use Rattle.assembler.specs.declared.tokens.Token.{Token}
-use Rattle.assembler.specs.declared.tokens.Token.TheVariants.{Named, Number, Signed}
-use Rattle.assembler.specs.declared.readings.Reading.{Reading}
-use Rattle.assembler.specs.declared.wrong.Wrong.{Wrong}
-use Rattle.assembler.specs.declared.wrong.Wrong.TheVariants.{Form}
-use Rattle.assembler.specs.Operands.{◌>>=◌, token_at, sign_at, op_of, extension_of, number_at, word_at, expect_at, memory_at, argument_at, again_at, register_at, operand_at, index_at, by_index_at, field_at, as_signed_size, same_register, wide_within}
-use Rattle.assembler.specs.Statements.{arithmetic, wide_at, wide, negated, extended, load_of, loaded, swapped, exchanged_place, fetched, exchanged, compared, map_loaded, map_value_loaded, moved_word, moved, assigned_by, assigned}
-use Rattle.assembler.specs.Spells.{assigns, extends, reg, IsSigned, place, memory, Spells}
 use Rattle.assembler.proofs.SpellsTokens.{bind, At, HasTokensAt, whole, token, sign_at_token, number_at_token, word_at_token, expected, registers, register, again, operand}
 use Rattle.assembler.proofs.SpellsParts.{memory_at_tokens, argument_at_tokens, field_at_token, index_at_tokens, by_index_at_tokens, op_in, extension_in, signed_size_in, wide_at_token, wide_number, wide_negative, ends_at}
 

@@ -1,29 +1,7 @@
 -- A text is read to its end only where each of its statements spells something.
-use Rattle.std.proofs.Common.{◌≡◌, ℕ, zero, suc, ◌+◌, ◌-◌, length, drop, take, List, [], ◌∷◌, ◌++◌, refl, sym, ap, ◌∙◌, subst, inl, inr, ◌⊎◌, arith, ne_eqb}
-use Rattle.std.specs.Prelude.{Bool, Option, Some, None, Result, Ok, Err, ok_or, true, false, ◌==◌, if◌then◌else◌, nat_le, slice_get}
-use Rattle.isa_model.specs.declared.map_defs.MapDef.{MapDef}
-use Rattle.isa_model.specs.declared.map_defs.MapType.{MapType}
-use Rattle.isa_model.specs.declared.instructions.Insn.{Insn}
-use Rattle.isa_model.specs.Code.Instructions.{Program}
-use Rattle.assembler.specs.declared.tokens.Word.{Word}
+use Rattle.assembler.proofs.Common.{◌≡◌, ℕ, zero, suc, ◌+◌, ◌-◌, length, drop, take, List, [], ◌∷◌, ◌++◌, refl, sym, ap, ◌∙◌, subst, inl, inr, ◌⊎◌, arith, ne_eqb, Bool, Option, Some, None, Result, Ok, Err, ok_or, true, false, ◌==◌, if◌then◌else◌, nat_le, slice_get, MapDef, MapType, Insn, Program, Word, Token, Named, Number, Signed, Lexeme, Blank, End, Solid, lexeme_at, Refusal, Reading, Statement, Wrong, Form, Range, ◌>>=◌, number_at, word_at, as_map_type, field_at, reading_of, map_line, begins_map_line, begins_version_line, version_number, version_line, spelled, spelled_behind, label_length, objection, ReadSoFar, TokenSpan, start, unless_wrong, unless_refused, is_first, named, begins_at, refused_at, with_insn, ended, at_end_behind, accept, next_lexeme, read_on, error_in, program_in, assembled, Spells}
 use Rattle.assembler.specs.declared.tokens.Word.TheVariants as word
-use Rattle.assembler.specs.declared.tokens.Token.{Token}
-use Rattle.assembler.specs.declared.tokens.Token.TheVariants.{Named, Number, Signed}
-use Rattle.assembler.specs.declared.tokens.Lexeme.{Lexeme}
-use Rattle.assembler.specs.declared.tokens.Lexeme.TheVariants.{Blank, End, Solid}
-use Rattle.assembler.specs.Lexing.{lexeme_at}
-use Rattle.assembler.specs.declared.refusals.Refusal.{Refusal}
-use Rattle.assembler.specs.declared.readings.Reading.{Reading}
-use Rattle.assembler.specs.declared.readings.Statement.{Statement}
 use Rattle.assembler.specs.declared.readings.Statement.TheVariants as said
-use Rattle.assembler.specs.declared.wrong.Wrong.{Wrong}
-use Rattle.assembler.specs.declared.wrong.Wrong.TheVariants.{Form, Range}
-use Rattle.assembler.specs.Operands.{◌>>=◌, number_at, word_at, as_map_type, field_at}
-use Rattle.assembler.specs.Statements.{reading_of, map_line}
-use Rattle.assembler.specs.Labelled.{begins_map_line, begins_version_line, version_number, version_line, spelled, spelled_behind, label_length}
-use Rattle.assembler.specs.MapTests.{objection}
-use Rattle.assembler.specs.Assembling.{ReadSoFar, TokenSpan, start, unless_wrong, unless_refused, is_first, named, begins_at, refused_at, with_insn, ended, at_end_behind, accept, next_lexeme, read_on, error_in, program_in, assembled}
-use Rattle.assembler.specs.Spells.{Spells}
 use Rattle.assembler.proofs.SpellsTokens.{bind, kept, passed, equal, At, whole, number_at_token, word_at_token}
 use Rattle.assembler.proofs.SpellsReads.{Spells-reading_of}
 use Rattle.assembler.proofs.SpellsLaws.{reading_of-Spells}

@@ -1,27 +1,14 @@
 -- The canonical text of an image's program is read back: it spells that program.
-use Rattle.std.proofs.lemmas.List.Sums.{sum_by-append, sum_by-cons}
+use Rattle.assembler.proofs.Common.{sum_by-append, sum_by-cons, MapDef, Insn, One, Two, Program, slots, IsRow, NamesRows, count_refusal, row_fits, SlotCount, Refusal, ◌>>=◌, takes_row, objection_to_load, slot_in, resolved, ReadSoFar, finished, program_in}
 use Rattle.std.proofs.lemmas.List.Elements.{All-nil, All-cons, All-head, All-tail}
 use Rattle.std.proofs.Common.{◌≡◌, ℕ, suc, ◌+◌, ◌≤◌, ◌==◌, nat_lt, nat_le, lt-ltb, le-leb, sum_by, All, Bool, true, false, not, if◌then◌else◌, is_none, List, [], ◌∷◌, ◌++◌, length, Option, Some, None, Result, Ok, Err, refl, sym, ap, ◌∙◌, arith, append_assoc, append-nil, length-append, le-ltb, ne_eqb}
-use Rattle.isa_model.specs.declared.map_defs.MapDef.{MapDef}
-use Rattle.isa_model.specs.declared.instructions.Insn.{Insn}
 use Rattle.isa_model.specs.declared.versions.Version.{Version}
-use Rattle.isa_model.specs.declared.versions.Version.TheVariants.{One, Two}
-use Rattle.isa_model.specs.Code.Instructions.{Program, slots}
 use Rattle.isa_model.specs.Text.CanonicalText.{version_line, canonical_text, code_text, rows_text, row_line, instructions}
-use Rattle.isa_model.specs.Code.MapRows.{IsRow, NamesRows}
 use Rattle.isa_model.specs.Code.Limits.{max_maps, max_map_room, max_slots}
 use Rattle.image.specs.Images.{IsImage, NamesMaps, room_of, program_of}
 use Rattle.image.proofs.CodeLaws.{AllFit, AllFit-instructions, slots-append, slots-instructions}
-use Rattle.image.specs.Refusals.{count_refusal, row_fits}
 use Rattle.image.proofs.RowLaws.{row_fits-IsRow}
-use Rattle.assembler.specs.declared.errors.AsmErrorKind.TheVariants.{SlotCount}
-use Rattle.assembler.specs.declared.refusals.Refusal.{Refusal}
-use Rattle.assembler.specs.Operands.{◌>>=◌}
-use Rattle.assembler.specs.MapTests.{takes_row, objection_to_load}
 use Rattle.assembler.proofs.MapLaws.{objection_to_load-NamesRows}
-use Rattle.assembler.specs.Labels.{slot_in}
-use Rattle.assembler.specs.Naming.{resolved}
-use Rattle.assembler.specs.Assembling.{ReadSoFar, finished, program_in}
 use Rattle.assembler.specs.Assembling as text
 use Rattle.assembler.proofs.PlainTexts.{Parts, takes, read_rest, has_room, start}
 use Rattle.assembler.proofs.PlainTexts as plain

@@ -1,42 +1,15 @@
 -- Tokens of canonical text are read.
-use Rattle.std.proofs.Common.{◌≡◌, ℕ, suc, ◌<◌, ◌^◌, List, [], ◌∷◌, ◌++◌, length, refl, ap, ◌∙◌, arith, append_assoc}
-use Rattle.std.specs.Prelude.{codes, Some, false, slice_index, ◌==◌, decimal, ℤ, pos, negsuc}
-use Rattle.std.specs.Int.{w16, w32}
-use Rattle.std.specs.Int.RustNames.{FitsSigned}
-use Rattle.isa_model.specs.declared.registers.Reg.{Reg}
-use Rattle.isa_model.specs.declared.registers.Reg.TheVariants.{R0, R1, R2, R3, R4, R5, R6, R7, R8, R9, R10}
-use Rattle.isa_model.specs.declared.sizes.Width.{Width}
-use Rattle.isa_model.specs.declared.sizes.Width.TheVariants.{Low32, Full64}
-use Rattle.isa_model.specs.declared.sizes.Size.{Size}
+use Rattle.assembler.proofs.Common.{◌≡◌, ℕ, suc, ◌<◌, ◌^◌, List, [], ◌∷◌, ◌++◌, length, refl, ap, ◌∙◌, arith, append_assoc, codes, Some, false, slice_index, ◌==◌, decimal, ℤ, pos, negsuc, w16, w32, FitsSigned, Reg, R0, R1, R2, R3, R4, R5, R6, R7, R8, R9, R10, Width, Low32, Full64, Size, SignedSize, Extension, Low8, Low16, Full8, Full16, Full32, SwapWidth, ByteOrder, AluOp, AtomicOp, Comparison, Operand, Constant, Register, Place, MapType, OperandFits, reg_text, size_text, signed_text, extension_text, span_text, order_text, width_text, op_text, comparison_text, atomic_text, fetch_text, operand_text, offset_text, distance_text, map_type_text, Token, Named, Number, Signed, Solid, is_word_byte, lexeme_at, assigns, changes, compares, extends}
 use Rattle.isa_model.specs.declared.sizes.Size.TheVariants.{U8, U16, U32, U64}
-use Rattle.isa_model.specs.declared.sizes.SignedSize.{SignedSize}
 use Rattle.isa_model.specs.declared.sizes.SignedSize.TheVariants.{S8, S16, S32}
-use Rattle.isa_model.specs.declared.sizes.Extension.{Extension}
-use Rattle.isa_model.specs.declared.sizes.Extension.TheVariants.{Low8, Low16, Full8, Full16, Full32}
-use Rattle.isa_model.specs.declared.sizes.SwapWidth.{SwapWidth}
 use Rattle.isa_model.specs.declared.sizes.SwapWidth.TheVariants.{B16, B32, B64}
-use Rattle.isa_model.specs.declared.sizes.ByteOrder.{ByteOrder}
 use Rattle.isa_model.specs.declared.sizes.ByteOrder.TheVariants.{Little, Big, Swap}
-use Rattle.isa_model.specs.declared.instructions.AluOp.{AluOp}
 use Rattle.isa_model.specs.declared.instructions.AluOp.TheVariants as op
-use Rattle.isa_model.specs.declared.instructions.AtomicOp.{AtomicOp}
 use Rattle.isa_model.specs.declared.instructions.AtomicOp.TheVariants as atomic
-use Rattle.isa_model.specs.declared.instructions.Comparison.{Comparison}
 use Rattle.isa_model.specs.declared.instructions.Comparison.TheVariants as comparison
-use Rattle.isa_model.specs.declared.instructions.Operand.{Operand}
-use Rattle.isa_model.specs.declared.instructions.Operand.TheVariants.{Constant, Register}
-use Rattle.isa_model.specs.declared.instructions.Place.{Place}
-use Rattle.isa_model.specs.declared.map_defs.MapType.{MapType}
 use Rattle.isa_model.specs.declared.map_defs.MapType.TheVariants.{Hash, Array}
-use Rattle.isa_model.specs.Code.Spelling.{OperandFits}
-use Rattle.isa_model.specs.Text.CanonicalText.{reg_text, size_text, signed_text, extension_text, span_text, order_text, width_text, op_text, comparison_text, atomic_text, fetch_text, operand_text, offset_text, distance_text, map_type_text}
 use Rattle.assembler.specs.declared.tokens.Word.TheVariants as word
 use Rattle.assembler.specs.declared.tokens.Sign.TheVariants as sign
-use Rattle.assembler.specs.declared.tokens.Token.{Token}
-use Rattle.assembler.specs.declared.tokens.Token.TheVariants.{Named, Number, Signed}
-use Rattle.assembler.specs.declared.tokens.Lexeme.TheVariants.{Solid}
-use Rattle.assembler.specs.Lexing.{is_word_byte, lexeme_at}
-use Rattle.assembler.specs.Spells.{assigns, changes, compares, extends}
 use Rattle.assembler.proofs.PlainTexts.{Parts, PlainReadSoFar, read_rest}
 use Rattle.assembler.proofs.FrontTokens.{token}
 use Rattle.assembler.proofs.Digits.{decimal-read, no-equals}

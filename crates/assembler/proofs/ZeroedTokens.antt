@@ -1,9 +1,5 @@
 -- Laws of tokens whose numbers were replaced by 0.
-use Rattle.std.proofs.Common.{◌≡◌, ◌≤◌, ℕ, false, List, ◌++◌, map, take, drop, length, ap, ◌∙◌, sym, append-nil, arith, slice_range, le_of_eq, ◌-◌}
-use Rattle.std.proofs.lemmas.List.{take_all, drop_all, length-drop}
-use Rattle.assembler.specs.declared.tokens.Token.{Token}
-use Rattle.assembler.specs.Statements.{reading_of}
-use Rattle.assembler.specs.Labelled.{zeroed, has_form}
+use Rattle.assembler.proofs.Common.{◌≡◌, ◌≤◌, ℕ, false, List, ◌++◌, map, take, drop, length, ap, ◌∙◌, sym, append-nil, arith, slice_range, le_of_eq, ◌-◌, take_all, drop_all, length-drop, Token, reading_of, zeroed, has_form}
 
 -- the first n items are those that were written over a vector's items
 pub same-items : (n : ℕ) (xs ys : List Token) → length xs ≡ n → length ys ≡ n

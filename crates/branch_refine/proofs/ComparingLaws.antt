@@ -1,35 +1,22 @@
 -- What the outcome of a comparison says of the members of a state, and that a defined comparison
 -- has an outcome.
-use Rattle.std.specs.Prelude.{◌≡◌, ℕ, ◌<◌, ◌==◌, ℤ, pos, negsuc, ◌+ℤ◌, ◌≤ℤ◌, Bool, true, false, int_lt, int_le, if◌then◌else◌, Option, Some, None, Result, Ok, refl}
-use Rattle.std.proofs.Common.{sym, ◌∙◌, subst, arith}
+use Rattle.branch_refine.proofs.Common.{◌≡◌, ℕ, ◌<◌, ◌==◌, ℤ, pos, negsuc, ◌+ℤ◌, ◌≤ℤ◌, Bool, true, false, int_lt, int_le, if◌then◌else◌, Option, Some, None, Result, Ok, sym, ◌∙◌, subst, arith, refl, Width, Cond, Operand, Constant, Register, Program, tested, test_of, Kind, Number, Packet, PacketEnd, MapValue, MapValueOrNull, Assigned, Allows, AllowsOrNull, IsProved, State, MeansBy, kind_of}
 use Rattle.std.proofs.lemmas.Bool.Decides.{nat_tests}
 use Rattle.std.proofs.lemmas.Int.{ints}
-use Rattle.isa_model.specs.declared.sizes.Width.{Width}
 use Rattle.isa_model.specs.declared.sizes.Width.TheVariants.{Low32, Full64}
 use Rattle.isa_model.specs.declared.instructions.Comparison.{Comparison}
 use Rattle.isa_model.specs.declared.instructions.Comparison.TheVariants.{Equal, NotEqual, Greater, GreaterEqual, Less, LessEqual}
-use Rattle.isa_model.specs.declared.instructions.Cond.{Cond}
-use Rattle.isa_model.specs.declared.instructions.Operand.{Operand}
-use Rattle.isa_model.specs.declared.instructions.Operand.TheVariants.{Constant, Register}
 use Rattle.isa_model.specs.declared.values.Region.TheVariants as region
 use Rattle.isa_model.specs.declared.values.Value.{Value}
 use Rattle.isa_model.specs.declared.values.Value.TheVariants.{Ptr}
 use Rattle.isa_model.specs.declared.ends.TrapReason.{TrapReason}
 use Rattle.isa_model.specs.Code.Numbers.{holds, unsigned}
-use Rattle.isa_model.specs.Code.Instructions.{Program}
 use Rattle.isa_model.specs.Machine.States.{reg}
 use Rattle.isa_model.specs.Machine.States as Machine
 use Rattle.isa_model.specs.Machine.Pointers.{packet_order, compared, compared_constant}
-use Rattle.isa_model.specs.Machine.Steps.{tested, test_of}
 use Rattle.reg_state.specs.declared.scalars.Scalar.{Scalar}
-use Rattle.reg_state.specs.declared.kinds.Kind.{Kind}
-use Rattle.reg_state.specs.declared.kinds.Kind.TheVariants.{Number, Packet, PacketEnd, MapValue, MapValueOrNull}
-use Rattle.reg_state.specs.Kinds.{Assigned, Allows, AllowsOrNull, IsProved}
 use Rattle.reg_state.specs.Going.{exchanged}
-use Rattle.stack_state.specs.declared.states.State.{State}
-use Rattle.stack_state.specs.Meaning.{MeansBy}
 use Rattle.stack_state.proofs.MeaningLaws.{reg_allowed}
-use Rattle.stack_state.specs.Places.{kind_of}
 use Rattle.stack_state.proofs.KindEffects.{IsNull}
 use Rattle.branch_refine.specs.declared.comparing.Compared.{Compared}
 use Rattle.branch_refine.specs.declared.comparing.Compared.TheVariants as comparing

@@ -1,27 +1,14 @@
 -- What is kept where two numbers are compared and other numbers are put in their place.
-use Rattle.std.specs.Prelude.{◌≡◌, ◌≢◌, ℕ, ◌<◌, ◌^◌, Bool, true, false, Some, None, Ok, refl}
-use Rattle.std.proofs.Common.{sym, ap, ◌∙◌, subst, inl, inr}
+use Rattle.branch_refine.proofs.Common.{◌≡◌, ◌≢◌, ℕ, ◌<◌, ◌^◌, Bool, true, false, Some, None, Ok, sym, ap, ◌∙◌, subst, inl, inr, refl, Width, Cond, Operand, Constant, Register, Program, operand_value, tested, test_of, Kind, Number, Assigned, Allows, State, MeansBy, kind_of, with_register}
 use Rattle.isa_model.specs.declared.registers.Reg.{Reg}
 use Rattle.isa_model.specs.declared.registers.Reg.TheVariants.{R10}
-use Rattle.isa_model.specs.declared.sizes.Width.{Width}
-use Rattle.isa_model.specs.declared.instructions.Cond.{Cond}
-use Rattle.isa_model.specs.declared.instructions.Operand.{Operand}
-use Rattle.isa_model.specs.declared.instructions.Operand.TheVariants.{Constant, Register}
 use Rattle.isa_model.specs.declared.values.Value.TheVariants.{Num}
 use Rattle.isa_model.specs.Code.Numbers.{unsigned, holds}
-use Rattle.isa_model.specs.Code.Instructions.{Program}
 use Rattle.isa_model.specs.Machine.States.{reg}
 use Rattle.isa_model.specs.Machine.States as Machine
-use Rattle.isa_model.specs.Machine.Steps.{operand_value, tested, test_of}
-use Rattle.reg_state.specs.declared.kinds.Kind.{Kind}
-use Rattle.reg_state.specs.declared.kinds.Kind.TheVariants.{Number}
 use Rattle.reg_state.specs.declared.scalars.Scalar.{Scalar}
 use Rattle.reg_state.specs.Scalars.{Has, IsConstant}
 use Rattle.reg_state.specs.Constants.{bits_constant_has, range_constant_has}
-use Rattle.reg_state.specs.Kinds.{Assigned, Allows}
-use Rattle.stack_state.specs.declared.states.State.{State}
-use Rattle.stack_state.specs.Meaning.{MeansBy}
-use Rattle.stack_state.specs.Places.{kind_of, with_register}
 use Rattle.stack_state.proofs.MeaningLaws.{reg_allowed, MeansBy-narrow}
 use Rattle.stack_state.proofs.PlaceLaws.{same_or_other, kind_of-with_same, kind_of-with_other}
 use Rattle.branch_refine.specs.Refining.{IsNumberKind, IsNumberOperand, IsJust, IsJustOperand, KeepsMembers, Narrows, KeepsOtherRegisters}

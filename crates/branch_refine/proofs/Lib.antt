@@ -1,3 +1,4 @@
+mod Common
 pub mod Kept
 pub mod ComparingLaws
 pub mod RefiningLaws

@@ -1,26 +1,13 @@
 -- What is kept where pointers are compared. Numbers are compared exactly where both operands are
 -- known to be numbers.
-use Rattle.std.specs.Prelude.{◌≡◌, ◌≢◌, ℕ, zero, suc, ◌==◌, ℤ, pos, ◌+ℤ◌, ◌≤ℤ◌, max, Bool, true, false, not, if◌then◌else◌, IsTrue, refl}
-use Rattle.std.proofs.Common.{sym, ap, ◌∙◌, subst, arith}
-use Rattle.isa_model.specs.declared.sizes.Width.{Width}
+use Rattle.branch_refine.proofs.Common.{◌≡◌, ◌≢◌, ℕ, zero, suc, ◌==◌, ℤ, pos, ◌+ℤ◌, ◌≤ℤ◌, max, Bool, true, false, not, if◌then◌else◌, IsTrue, sym, ap, ◌∙◌, subst, arith, refl, Width, Cond, Operand, Constant, Register, Program, test_of, Kind, Number, Packet, PacketEnd, MapValue, MapValueOrNull, Assigned, Allows, IsProved, State, MeansBy, kind_of}
 use Rattle.isa_model.specs.declared.sizes.Width.TheVariants.{Low32, Full64}
 use Rattle.isa_model.specs.declared.instructions.Comparison.{Comparison}
 use Rattle.isa_model.specs.declared.instructions.Comparison.TheVariants.{Equal, NotEqual, Greater, GreaterEqual, Less, LessEqual}
-use Rattle.isa_model.specs.declared.instructions.Cond.{Cond}
-use Rattle.isa_model.specs.declared.instructions.Operand.{Operand}
-use Rattle.isa_model.specs.declared.instructions.Operand.TheVariants.{Constant, Register}
-use Rattle.isa_model.specs.Code.Instructions.{Program}
 use Rattle.isa_model.specs.Machine.States as Machine
-use Rattle.isa_model.specs.Machine.Steps.{test_of}
-use Rattle.reg_state.specs.declared.kinds.Kind.{Kind}
-use Rattle.reg_state.specs.declared.kinds.Kind.TheVariants.{Number, Packet, PacketEnd, MapValue, MapValueOrNull}
-use Rattle.reg_state.specs.Kinds.{Assigned, Allows, IsProved}
 use Rattle.reg_state.specs.Going.{exchanged}
-use Rattle.stack_state.specs.declared.states.State.{State}
-use Rattle.stack_state.specs.Meaning.{MeansBy}
-use Rattle.stack_state.specs.Places.{kind_of}
 use Rattle.stack_state.specs.Effects.{map_kinds, proved_kind}
-use Rattle.stack_state.proofs.KindEffects.{MeansBy-map_kinds, MeansBy-proved, MeansBy-tested}
+use Rattle.stack_state.proofs.KindEffects.{MeansBy-map_kinds, MeansBy-proved, MeansBy-tested, proved_kind-none}
 use Rattle.branch_refine.specs.declared.comparing.Compared.{Compared}
 use Rattle.branch_refine.specs.declared.comparing.Compared.TheVariants as compared
 use Rattle.branch_refine.specs.declared.comparing.Compared.TheVariants.{Numbers, OrNull, Live, Undefined}
@@ -29,19 +16,6 @@ use Rattle.branch_refine.proofs.ComparingLaws.{SaysUnder, test-outcome, OutcomeI
 use Rattle.branch_refine.specs.Refining.{IsNumberKind, IsNumberOperand, IsJust, IsJustOperand, AreCompared, KeepsMembers, LearnsOf, Refines}
 
 -- ---- what is kept
-
--- no bytes are proved: a kind stays
-pub proved_kind-none : (i : ℕ) (k : Kind) → proved_kind i 0 k ≡ k
-proved_kind-none i (Packet fixed identity least greatest proved) =
-    elim (identity == i) as (λ b.
-    Packet fixed identity least greatest (if b then max proved 0 else proved)
-    ≡ Packet fixed identity least greatest proved) [
-      | true ↦
-          let more : max proved 0 ≡ proved = omega arith in
-          ap (Packet fixed identity least greatest) more
-      | false ↦ refl
-    ]
-proved_kind-none i k = refl
 
 -- n bytes after the identity's number are in the packet, if n is not 0
 pub MeansBy-proves : (p : Program) (e : Assigned) (a : State) (s : Machine.State) (i n : ℕ)

@@ -1,3 +1,4 @@
+mod Common
 pub mod RowLaws
 pub mod SessionStreamLaws
 pub mod StreamLaws

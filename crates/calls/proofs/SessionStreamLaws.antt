@@ -1,7 +1,6 @@
 -- A run over a stream in memory on an open machine.
-use Rattle.std.proofs.Common.{◌≡◌, [], ℕ, List, Some, Ok, inl, inr, subst}
+use Rattle.calls.proofs.Common.{◌≡◌, [], ℕ, List, Some, Ok, inl, inr, subst, Running}
 use Rattle.isa_model.specs.Machine.States.{KeyValues}
-use Rattle.machine.specs.Running.{Running}
 use Rattle.frames.specs.Sources.{in_memory}
 use Rattle.frames.proofs.InputsLaws.{AreReadFrom-in_memory}
 use Rattle.host.specs.declared.tallies.Tally.{Tally}

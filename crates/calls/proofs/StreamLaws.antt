@@ -1,5 +1,5 @@
 -- A stream in memory is read to the end of its bytes.
-use Rattle.std.proofs.Common.{◌≡◌, [], ℕ, List, Option, Some, None, refl, sym, ap, ◌∙◌, subst, inl, inr, Ok}
+use Rattle.calls.proofs.Common.{◌≡◌, [], ℕ, List, Option, Some, None, refl, sym, ap, ◌∙◌, subst, inl, inr, Ok, Bounded}
 use Rattle.isa_model.specs.declared.streams.Fault.{Fault}
 use Rattle.isa_model.specs.declared.streams.Fault.TheVariants.{BadMagic, TruncatedHead, TooLong, TruncatedBody, ReadFailed, TooManyRecords}
 use Rattle.isa_model.specs.declared.streams.Finish.{Finish}
@@ -9,7 +9,6 @@ use Rattle.isa_model.specs.Reporting.Streams.{ByEnd, Stream, stream_of}
 use Rattle.frames.specs.Sources.{in_memory}
 use Rattle.frames.proofs.InputsLaws.{AreReadFrom-in_memory}
 use Rattle.frames.proofs.Stopping.{stream_of-sound}
-use Rattle.bounds.specs.Bounds.{Bounded}
 use Rattle.host.specs.declared.tallies.Tally.{Tally}
 use Rattle.host.specs.Accepted.{ReportsRunFrom, RunsWholeFrom, ShowsTallied}
 use Rattle.host.specs.Tallies.{fault_of, ShowsTally}

@@ -1,36 +1,19 @@
 -- What a `Loose` and a `Session` are in compiled code, and what they own there. Assumes `Logic`.
-use Rattle.std.proofs.Common.{◌≡◌, ℕ, List, [], ◌∷◌, ◌++◌, refl, subst}
+use Rattle.calls.proofs.Common.{◌≡◌, ℕ, List, [], ◌∷◌, ◌++◌, refl, subst, Option, None, Some, impl, tnil, dnil, Val, vptr, vstruct, vcons, vnil, of_list, has_ty, WT, never, id⊢, via, fst∗, snd∗, guard_i, Fml, fact_use, Item, Goal, Seq, Step, step, ‵, ◌$◌, move, drop, fsplit, fjoin, fpick, fpack, feq_i, feq_l, use1, given, learn, RattleType, Valss, Ptr, Testable, block_ptr, null_ptr, ptr_val, in_a_block, nothing, layout, Laws, Al, handle_tells, Good, box_owns, ghosts, Running}
 use mathlib.Core.Bool.{true, ◌&&◌}
 use lib.Dec.{T}
 use seplogic.Ra.Ura.{Ura}
-use mir.Syntax.{impl, tnil, dnil}
 use mir.Raw.{raw as bare}
-use mir.Val.{Val, vptr, vstruct, vcons, vnil, of_list, has_ty, WT}
-use base.Logic.{never, id⊢, via, fst∗, snd∗, guard_i}
-use base.Fml.{Fml}
-use contract.Monad.{fact_use}
 use types.Logic.{Logic, sem}
-use types.Kit.{Item, Goal, Seq, Step, step, ‵, ◌$◌, move, drop, fsplit, fjoin, fpick, fpack, feq_i, feq_l, use1, given, learn}
-use denote.RattleType.{RattleType, Valss}
 use denote.Builtin.{RawPtr}
 use denote.Memory.{lone}
-use denote.RawPtr.{Ptr, Testable, block_ptr, null_ptr, ptr_val, in_a_block}
-use denote.Steps.{nothing}
-use denote.Param.{layout}
-use denote.Param.Laws.{Laws}
 use denote.Struct.Struct.{within}
 use denote.Struct.Owning.{shape}
 use Rattle.std.specs.declared.alloc.Allocator.{Ghosts}
-use Rattle.std.proofs.alloc.Calls.{Al, handle_tells}
-use Rattle.std.proofs.cell.Inside.{Good}
-use Rattle.std.specs.Box.Ownership.{box_owns}
 use Rattle.std.proofs.ResultValues.{and_tt}
-use Rattle.std.specs.Prelude.{Option, None, Some}
 use Rattle.std.specs.declared.alloc.Global.{Global}
 use Rattle.std.specs.Ptr.{points_to}
 use Rattle.std.proofs.GlobalToken.{dealloc_token-Testable}
-use Rattle.std.specs.contracts.impls.GlobalAllocator.TheImpl.{ghosts}
-use Rattle.machine.specs.Running.{Running}
 use Rattle.machine.specs.contracts.machines.Machine as machine
 use Rattle.calls.specs.Ownership.{session_owns}
 use Rattle.calls.specs.contracts.loose.Loose as loose

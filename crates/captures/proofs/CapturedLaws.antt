@@ -1,22 +1,7 @@
 -- Laws of the definitions in specs/Captured.
-use Rattle.std.proofs.Common.{◌≡◌, ℕ, zero, suc, ◌+◌, ◌<◌, ◌≤◌, List, [], ◌∷◌, ◌++◌, length, take, drop, Bool, true, false, Result, Ok, Err, refl, sym, ap, ◌∙◌, arith, le-ltb, lt-ltb, ltb-false, length-drop, inl, inr}
-use Rattle.std.specs.Prelude.{nat_lt, if◌then◌else◌}
-use Rattle.std.proofs.lemmas.Bool.{cases_lt}
-use Rattle.std.proofs.lemmas.Bool.Decides.{nat_tests}
-use Rattle.captures.specs.declared.forms.PcapForm.{PcapForm}
-use Rattle.captures.specs.declared.forms.Reasons.{Reasons}
-use Rattle.captures.specs.declared.forms.NumberOrder.TheVariants.{HighFirst}
-use Rattle.captures.specs.declared.forms.CaptureRefusal.TheVariants.{TruncatedFileHead}
-use Rattle.captures.specs.declared.forms.CaptureFormat.{CaptureFormat}
+use Rattle.captures.proofs.Common.{◌≡◌, ℕ, zero, suc, ◌+◌, ◌<◌, ◌≤◌, List, [], ◌∷◌, ◌++◌, length, take, drop, Bool, true, false, Result, Ok, Err, refl, sym, ap, ◌∙◌, arith, le-ltb, lt-ltb, ltb-false, length-drop, inl, inr, nat_lt, if◌then◌else◌, cases_lt, nat_tests, PcapForm, Reasons, HighFirst, TruncatedFileHead, CaptureFormat, Interface, PacketFault, TruncatedRecord, TooLong, TruncatedPacket, PacketEnd, is_section, CapturedPacket, opened, max_captured, captured_length, packet_size, begun, begun_by, head_size, max_record, record_size, SaidRecord, record_said, FoundRecord, found_said, found_sized, first_record, moved, packets_from}
 use Rattle.captures.specs.declared.forms.CaptureFormat.TheVariants as formats
-use Rattle.captures.specs.declared.interfaces.Interface.{Interface}
-use Rattle.captures.specs.declared.packets.PacketFault.{PacketFault}
-use Rattle.captures.specs.declared.packets.PacketFault.TheVariants.{TruncatedRecord, TooLong, TruncatedPacket}
-use Rattle.captures.specs.declared.packets.PacketEnd.{PacketEnd}
 use Rattle.captures.specs.declared.packets.PacketEnd.TheVariants as ending
-use Rattle.captures.specs.Pcapng.{is_section}
-use Rattle.captures.specs.Pcap.{CapturedPacket, opened, max_captured, captured_length, packet_size}
-use Rattle.captures.specs.Captured.{begun, begun_by, head_size, max_record, record_size, SaidRecord, record_said, FoundRecord, found_said, found_sized, first_record, moved, packets_from}
 use Rattle.captures.proofs.PcapLaws.{field-append}
 use Rattle.captures.proofs.PcapngLaws.{block_size-append, block_size-least, block_size-most}
 

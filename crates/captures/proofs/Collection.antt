@@ -1,11 +1,6 @@
 -- Laws of bytes that are taken to the front of a buffer.
-use Rattle.std.proofs.Common.{◌≡◌, ℕ, ◌+◌, ◌-◌, ◌≤◌, List, ◌++◌, length, take, drop, Option, Some, None, sym, ap, ◌∙◌, append_assoc, arith}
-use Rattle.std.proofs.lemmas.List.{take-append-le, take_at, drop_at, length-take-le}
-use Rattle.std.proofs.lemmas.Slice.{take-put_mid}
-use Rattle.std.specs.Io.KnownBytes.{Consumes, Keeps, prepend_known}
-use borrow.Rule.Slice.PartMut.{put_mid, post_of}
+use Rattle.captures.proofs.Common.{◌≡◌, ℕ, ◌+◌, ◌-◌, ◌≤◌, List, ◌++◌, length, take, drop, Option, Some, None, sym, ap, ◌∙◌, append_assoc, arith, take-append-le, take_at, drop_at, length-take-le, take-put_mid, Consumes, Keeps, prepend_known, put_mid, post_of, Collects}
 use lib.Seq.{take-add}
-use Rattle.captures.specs.Collecting.{Collects}
 
 -- what the source lost is at the end of the front
 kept_more : (old new : Option (List ℕ)) (front more : List ℕ) → Consumes old new more

@@ -1,20 +1,12 @@
 -- One more turn of the loop over a stream's frames, and how the loop ends.
-use Rattle.std.proofs.Common.{◌≡◌, ◌∙◌, ℕ, ◌+◌, ◌<◌, ◌≤◌, List, [], ◌∷◌, ◌++◌, Option, Result, length, sym, ap, subst, append_assoc, append-nil, length-append, arith, inl, inr}
-use Rattle.std.specs.Prelude.{Bool, cond}
-use Rattle.std.specs.List.{count_by, flat_map}
+use Rattle.captures.proofs.Common.{◌≡◌, ◌∙◌, ℕ, ◌+◌, ◌<◌, ◌≤◌, List, [], ◌∷◌, ◌++◌, Option, Result, length, sym, ap, subst, append_assoc, append-nil, length-append, arith, inl, inr, Bool, cond, count_by, flat_map, Appends, Keeps, Appends-kept, Appends-trans, AppendsBeginning, One, max_body, PacketFrame, max_frames, stream_with}
 use Rattle.std.proofs.lemmas.List.Sums.{count_by-le-length, sum_by-append}
-use Rattle.std.specs.Io.KnownBytes.{Appends, Keeps}
-use Rattle.std.proofs.KnownBytes.{Appends-kept, Appends-trans}
 use Rattle.std.proofs.lemmas.Grind.{flat_map-append}
-use Rattle.exact_io.specs.Transfers.{AppendsBeginning}
 use Rattle.exact_io.proofs.TransferLaws.{AppendsBeginning-second}
 use Rattle.isa_model.specs.declared.streams.Fault.{Fault}
 use Rattle.isa_model.specs.declared.streams.Finish.{Finish}
 use Rattle.isa_model.specs.declared.streams.Finish.TheVariants as finish
 use Rattle.isa_model.specs.declared.versions.Version.{Version}
-use Rattle.isa_model.specs.declared.versions.Version.TheVariants.{One}
-use Rattle.isa_model.specs.Code.Limits.{max_body}
-use Rattle.isa_model.specs.Reporting.Streams.{PacketFrame, max_frames, stream_with}
 use Rattle.frames.specs.Sources.{Origin}
 use Rattle.frames.specs.Readers.{Position, Fresh}
 use Rattle.frames.specs.Reading.{OpensStream, begun_at, Found, Stopped, Finds}

@@ -1,19 +1,9 @@
 -- What a step finds, by the bytes that were taken to the front of the block.
-use Rattle.std.proofs.Common.{◌≡◌, ℕ, suc, List, [], ◌++◌, length, Option, Some, None, Ok, Err, IfSome, sym, ap, ◌∙◌, subst, arith, length-append}
-use Rattle.std.proofs.lemmas.List.{drop_at, take_at}
-use Rattle.std.specs.Io.KnownBytes.{Keeps, prepend_known}
-use Rattle.captures.specs.declared.forms.CaptureFormat.{CaptureFormat}
-use Rattle.captures.specs.declared.interfaces.Interface.{Interface}
-use Rattle.captures.specs.declared.packets.PacketFault.{PacketFault}
-use Rattle.captures.specs.declared.packets.PacketEnd.{PacketEnd}
+use Rattle.captures.proofs.Common.{◌≡◌, ℕ, suc, List, [], ◌++◌, length, Option, Some, None, Ok, Err, IfSome, sym, ap, ◌∙◌, subst, arith, length-append, drop_at, take_at, Keeps, prepend_known, CaptureFormat, Interface, PacketFault, PacketEnd, Collects, CapturedPacket, record_size, SaidRecord, record_said, found_said, first_record, moved, packets_from, Before, Past, CaptureFinding, FoundEnd, Unread, FindsPacket, then_packets, IsRecordPart}
 use Rattle.captures.specs.declared.packets.PacketEnd.TheVariants as ending
 use Rattle.captures.specs.declared.gathering.Gathered.{Gathered}
 use Rattle.captures.specs.declared.gathering.Gathered.TheVariants as gathered
-use Rattle.captures.specs.Collecting.{Collects}
-use Rattle.captures.specs.Pcap.{CapturedPacket}
-use Rattle.captures.specs.Captured.{record_size, SaidRecord, record_said, found_said, first_record, moved, packets_from}
 use Rattle.captures.specs.Steps.{IsGathered}
-use Rattle.captures.specs.Reading.{Before, Past, CaptureFinding, FoundEnd, Unread, FindsPacket, then_packets, IsRecordPart}
 use Rattle.captures.proofs.CapturedLaws.{head_size-some, record_size-append, record_size-least, first_record-whole, packets_from-stops, packets_from-goes_on, packets_behind, with_packets, packets_from-fuel}
 
 module _ (format : CaptureFormat) (interfaces : List Interface) (offset : ℕ)

@@ -1,19 +1,9 @@
 -- Laws of a record that is taken to the front of a block.
-use Rattle.std.proofs.Common.{◌≡◌, ℕ, ◌≤◌, ◌<◌, List, ◌++◌, length, take, drop, max, Option, Some, None, Result, Ok, Err, IfSome, IfOk, sym, ap, ◌∙◌, subst, arith, length-append, append-nil, inl, inr}
-use Rattle.std.proofs.lemmas.Bool.{cases_lt}
+use Rattle.captures.proofs.Common.{◌≡◌, ℕ, ◌≤◌, ◌<◌, List, ◌++◌, length, take, drop, max, Option, Some, None, Result, Ok, Err, IfSome, IfOk, sym, ap, ◌∙◌, subst, arith, length-append, append-nil, inl, inr, cases_lt, IsAtEnd, CaptureFormat, Interface, PacketEnd, PacketFault, TruncatedRecord, TruncatedPacket, Collects, IsCollected, head_size, record_size, first_record, IsRecordPart}
 use Rattle.std.proofs.lemmas.List.{length-take-le, take-append-drop}
-use Rattle.std.specs.Io.KnownBytes.{IsAtEnd}
 use Rattle.captures.specs.declared.collecting.Collected.{Collected}
 use Rattle.captures.specs.declared.collecting.Collected.TheVariants.{Whole, Ended, Failed}
-use Rattle.captures.specs.declared.forms.CaptureFormat.{CaptureFormat}
-use Rattle.captures.specs.declared.interfaces.Interface.{Interface}
-use Rattle.captures.specs.declared.packets.PacketEnd.{PacketEnd}
 use Rattle.captures.specs.declared.packets.PacketEnd.TheVariants as ending
-use Rattle.captures.specs.declared.packets.PacketFault.{PacketFault}
-use Rattle.captures.specs.declared.packets.PacketFault.TheVariants.{TruncatedRecord, TruncatedPacket}
-use Rattle.captures.specs.Collecting.{Collects, IsCollected}
-use Rattle.captures.specs.Captured.{head_size, record_size, first_record}
-use Rattle.captures.specs.Reading.{IsRecordPart}
 use Rattle.captures.proofs.CapturedLaws.{record_size-append, record_size-least, first_record-end, first_record-part, first_record-none, first_record-short}
 
 -- how collecting ended

@@ -1,3 +1,4 @@
+mod Common
 pub mod PcapLaws
 pub mod PcapngLaws
 pub mod CapturedLaws

@@ -1,11 +1,8 @@
 -- Laws of the Ethernet frame that is made in the place of a packet.
-use Rattle.std.proofs.Common.{◌≡◌, ℕ, ◌+◌, ◌-◌, ◌≤◌, List, ◌++◌, length, take, drop, min, slice_range, replicate, sym, ap, ◌∙◌, refl, arith, length-append, length-drop, false, nat_lt, le-ltb, inl, inr}
-use Rattle.std.proofs.lemmas.Bool.{cases_lt}
+use Rattle.captures.proofs.Common.{◌≡◌, ℕ, ◌+◌, ◌-◌, ◌≤◌, List, ◌++◌, length, take, drop, min, slice_range, replicate, sym, ap, ◌∙◌, refl, arith, length-append, length-drop, false, nat_lt, le-ltb, inl, inr, cases_lt, put_mid, post_of, ethernet_frame, ethernet_head}
 use Rattle.std.proofs.lemmas.List.{drop_at, take_at, drop_all, length-take-le, drop-drop, drop-append-le, drop-take, append_assoc}
 use lib.Seq.{paste}
-use borrow.Rule.Slice.PartMut.{put_mid, post_of}
 use Rattle.captures.specs.declared.forms.LinkType.TheVariants.{Cooked, Cooked2}
-use Rattle.captures.specs.Links.{ethernet_frame, ethernet_head}
 
 -- what stands from the place on where bytes were written
 drop-put_mid_at : (a k : ℕ) (xs ys : List ℕ) → a ≤ length xs

@@ -1,25 +1,8 @@
 -- Laws of the head of a capture that was read.
-use Rattle.std.proofs.Common.{◌≡◌, ℕ, suc, ◌+◌, ◌*◌, ◌<◌, ◌≤◌, List, [], ◌++◌, length, take, drop, max, get_or, Bool, true, false, Option, Some, None, Result, Ok, Err, IfOk, refl, sym, ap, subst, ◌∙◌, arith, le-ltb, length-append, append-nil, length-drop}
-use Rattle.std.specs.Prelude.{nat_lt}
-use Rattle.std.proofs.lemmas.Bool.Decides.{nat_tests}
-use Rattle.std.proofs.lemmas.List.{drop-append-le, length-take-le}
-use Rattle.std.specs.Io.KnownBytes.{Consumes, IsAtEnd, prepend_known}
-use Rattle.captures.specs.declared.forms.NumberOrder.{NumberOrder}
-use Rattle.captures.specs.declared.forms.NumberOrder.TheVariants.{HighFirst, LowFirst}
-use Rattle.captures.specs.declared.forms.PcapForm.{PcapForm}
-use Rattle.captures.specs.declared.forms.PcapngForm.{PcapngForm}
-use Rattle.captures.specs.declared.forms.Reasons.{Reasons}
-use Rattle.captures.specs.declared.forms.CaptureFormat.{CaptureFormat}
+use Rattle.captures.proofs.Common.{◌≡◌, ℕ, suc, ◌+◌, ◌*◌, ◌<◌, ◌≤◌, List, [], ◌++◌, length, take, drop, max, get_or, Bool, true, false, Option, Some, None, Result, Ok, Err, IfOk, refl, sym, ap, subst, ◌∙◌, arith, le-ltb, length-append, append-nil, length-drop, nat_lt, nat_tests, drop-append-le, length-take-le, Consumes, IsAtEnd, prepend_known, NumberOrder, HighFirst, LowFirst, PcapForm, PcapngForm, Reasons, CaptureFormat, TruncatedFileHead, PacketEnd, PacketFault, CapturedPacket, field, opened, is_section, block_size, least_size, begun, begun_by, first_offset, captured, captured_by, packets_from, Before, CaptureState, IsOpened, OpensCapture, IsRecordPart, packets_left}
 use Rattle.captures.specs.declared.forms.CaptureFormat.TheVariants as formats
 use Rattle.captures.specs.declared.forms.CaptureRefusal.{CaptureRefusal}
-use Rattle.captures.specs.declared.forms.CaptureRefusal.TheVariants.{TruncatedFileHead}
-use Rattle.captures.specs.declared.packets.PacketEnd.{PacketEnd}
-use Rattle.captures.specs.declared.packets.PacketFault.{PacketFault}
 use Rattle.captures.specs.declared.reader.OpenFailure.TheVariants as failure
-use Rattle.captures.specs.Pcap.{CapturedPacket, field, opened}
-use Rattle.captures.specs.Pcapng.{is_section, block_size, least_size}
-use Rattle.captures.specs.Captured.{begun, begun_by, first_offset, captured, captured_by, packets_from}
-use Rattle.captures.specs.Reading.{Before, CaptureState, IsOpened, OpensCapture, IsRecordPart, packets_left}
 use Rattle.captures.specs.Steps.{BeginsAfter}
 use Rattle.captures.proofs.PcapLaws.{opened-append}
 use Rattle.captures.proofs.PcapngLaws.{is_section-append, block_size-is}

@@ -1,15 +1,6 @@
 -- Laws of a packet whose Ethernet frame is made in a block.
-use Rattle.std.proofs.Common.{◌≡◌, ℕ, ◌+◌, ◌-◌, ◌*◌, ◌<◌, ◌≤◌, List, length, take, drop, slice_range, Some, Ok, Err, sym, ap, ◌∙◌, refl, arith, le-ltb, lt-ltb}
-use Rattle.std.proofs.lemmas.List.{drop-take}
-use Rattle.captures.specs.declared.forms.NumberOrder.{NumberOrder}
-use Rattle.captures.specs.declared.forms.LinkType.{LinkType}
-use Rattle.captures.specs.declared.forms.PcapForm.{PcapForm}
-use Rattle.captures.specs.declared.interfaces.Interface.{Interface}
+use Rattle.captures.proofs.Common.{◌≡◌, ℕ, ◌+◌, ◌-◌, ◌*◌, ◌<◌, ◌≤◌, List, length, take, drop, slice_range, Some, Ok, Err, sym, ap, ◌∙◌, refl, arith, le-ltb, lt-ltb, drop-take, NumberOrder, LinkType, PcapForm, Interface, BadBlock, link_of, interface_of, ethernet_frame, field, nanoseconds, captured_length, packet_size, packet_bytes, packet_of, short_field, option_value, interface_options, interface_in, scale_by, offset_by, packet_by}
 use Rattle.captures.specs.declared.interfaces.TimeScale.{TimeScale}
-use Rattle.captures.specs.declared.packets.PacketFault.TheVariants.{BadBlock}
-use Rattle.captures.specs.Links.{link_of, interface_of, ethernet_frame}
-use Rattle.captures.specs.Pcap.{field, nanoseconds, captured_length, packet_size, packet_bytes, packet_of}
-use Rattle.captures.specs.Pcapng.{short_field, option_value, interface_options, interface_in, scale_by, offset_by, packet_by}
 use Rattle.captures.specs.Packets.{packet_with}
 
 -- ---- pcap

@@ -1,16 +1,6 @@
 -- Laws of the definitions in specs/Pcap.
-use Rattle.std.proofs.Common.{◌≡◌, ℕ, ◌+◌, ◌%◌, ◌^◌, ◌<◌, ◌≤◌, List, ◌++◌, length, drop, Option, Some, None, Ok, Err, refl, sym, ap, ◌∙◌, arith, le-ltb, length-append, length-drop}
-use Rattle.std.proofs.lemmas.Bool.Decides.{nat_tests}
-use Rattle.std.proofs.lemmas.List.{drop-append-le}
-use Rattle.byteorder.specs.Endian.{big_number, little_number}
-use Rattle.byteorder.specs.Numbers.{big_from-append, little_from-append}
-use Rattle.captures.specs.declared.forms.NumberOrder.{NumberOrder}
-use Rattle.captures.specs.declared.forms.NumberOrder.TheVariants.{HighFirst, LowFirst}
+use Rattle.captures.proofs.Common.{◌≡◌, ℕ, ◌+◌, ◌%◌, ◌^◌, ◌<◌, ◌≤◌, List, ◌++◌, length, drop, Option, Some, None, Ok, Err, refl, sym, ap, ◌∙◌, arith, le-ltb, length-append, length-drop, nat_tests, drop-append-le, big_number, little_number, big_from-append, little_from-append, NumberOrder, HighFirst, LowFirst, LinkType, TruncatedFileHead, NoCapture, UnknownLink, link_of, field, pcap_start, with_link, with_start, opened}
 use Rattle.captures.specs.declared.forms.TimeUnit.{TimeUnit}
-use Rattle.captures.specs.declared.forms.LinkType.{LinkType}
-use Rattle.captures.specs.declared.forms.CaptureRefusal.TheVariants.{TruncatedFileHead, NoCapture, UnknownLink}
-use Rattle.captures.specs.Links.{link_of}
-use Rattle.captures.specs.Pcap.{field, pcap_start, with_link, with_start, opened}
 
 -- ---- the file head
 

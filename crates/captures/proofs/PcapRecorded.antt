@@ -1,23 +1,9 @@
 -- How the records of a pcap that was written are read.
-use Rattle.std.proofs.Common.{◌≡◌, ◌∙◌, ℕ, ◌+◌, ◌*◌, ◌%◌, ◌^◌, ◌≤◌, List, [], ◌∷◌, ◌++◌, Ok, length, refl, sym, ap, arith, length-append, le-ltb}
-use Rattle.std.specs.Prelude.{nat_lt, false}
-use Rattle.std.proofs.Math.Seq.{take-length}
-use Rattle.byteorder.specs.Numbers.{little_number-reads_back}
-use Rattle.isa_model.specs.Code.Limits.{max_packet}
-use Rattle.isa_model.specs.Reporting.Streams.{PacketFrame}
-use Rattle.captures.specs.declared.forms.CaptureFormat.{CaptureFormat}
+use Rattle.captures.proofs.Common.{◌≡◌, ◌∙◌, ℕ, ◌+◌, ◌*◌, ◌%◌, ◌^◌, ◌≤◌, List, [], ◌∷◌, ◌++◌, Ok, length, refl, sym, ap, arith, length-append, le-ltb, nat_lt, false, take-length, little_number-reads_back, max_packet, PacketFrame, CaptureFormat, LowFirst, PcapForm, Reasons, CapturedPacket, captured_length, max_captured, opened, packet_of, pcap_start, SaidRecord, begun, record_said, record_size, Pcap, packet_head, pcap_head, pcap_packet, pcap_second, read_back}
 use Rattle.captures.specs.declared.forms.CaptureFormat.TheVariants as formats
-use Rattle.captures.specs.declared.forms.NumberOrder.TheVariants.{LowFirst}
 use Rattle.captures.specs.declared.forms.TimeUnit.TheVariants.{Nanoseconds}
 use Rattle.captures.specs.declared.forms.LinkType.TheVariants.{Ethernet}
-use Rattle.captures.specs.declared.forms.PcapForm.{PcapForm}
-use Rattle.captures.specs.declared.forms.Reasons.{Reasons}
-use Rattle.captures.specs.Pcap.{CapturedPacket, captured_length, max_captured, opened, packet_of, pcap_start}
-use Rattle.captures.specs.Captured.{SaidRecord, begun, record_said, record_size}
 use Rattle.captures.proofs.OpeningLaws.{begun-append}
-use Rattle.captures.specs.declared.kinds.CaptureKind.TheVariants.{Pcap}
-use Rattle.captures.specs.CaptureBytes.{packet_head, pcap_head, pcap_packet, pcap_second}
-use Rattle.captures.specs.ReadBack.{read_back}
 use Rattle.captures.proofs.Recorded.{Read, Reads, reads-record}
 
 -- the form of each pcap that is written

@@ -1,16 +1,5 @@
 -- Laws of the definitions in specs/Pcapng.
-use Rattle.std.proofs.Common.{◌≡◌, ℕ, zero, suc, ◌+◌, ◌<◌, ◌≤◌, List, [], ◌++◌, ◌-◌, length, take, drop, min, ◌∷◌, Bool, true, false, Option, Some, None, Ok, Err, refl, sym, ap, subst, ◌∙◌, arith, ltb-false, le-ltb, lt-ltb, length-drop}
-use Rattle.std.specs.Prelude.{nat_lt, ◌==◌, ◌%◌, not, if◌then◌else◌}
-use Rattle.std.proofs.lemmas.Bool.Decides.{nat_tests}
-use Rattle.std.proofs.lemmas.List.{drop-append-le, drop_min, take_min}
-use Rattle.byteorder.specs.Endian.{big_number, little_number}
-use Rattle.byteorder.specs.Numbers.{big_from-append, little_from-append}
-use Rattle.captures.specs.declared.forms.NumberOrder.{NumberOrder}
-use Rattle.captures.specs.declared.forms.PcapngForm.{PcapngForm}
-use Rattle.captures.specs.declared.interfaces.Interface.{Interface}
-use Rattle.captures.specs.declared.packets.PacketFault.TheVariants.{TooLong, BadBlock}
-use Rattle.captures.specs.Pcap.{field}
-use Rattle.captures.specs.Pcapng.{short_field, padded, option_in, option_value, options_in, option_values, section_order, is_section, block_order, least_size, sized_by, block_size, max_block, PcapngSection, says_nothing, said_in, said_by, block_said}
+use Rattle.captures.proofs.Common.{◌≡◌, ℕ, zero, suc, ◌+◌, ◌<◌, ◌≤◌, List, [], ◌++◌, ◌-◌, length, take, drop, min, ◌∷◌, Bool, true, false, Option, Some, None, Ok, Err, refl, sym, ap, subst, ◌∙◌, arith, ltb-false, le-ltb, lt-ltb, length-drop, nat_lt, ◌==◌, ◌%◌, not, if◌then◌else◌, nat_tests, drop-append-le, drop_min, take_min, big_number, little_number, big_from-append, little_from-append, NumberOrder, PcapngForm, Interface, TooLong, BadBlock, field, short_field, padded, option_in, option_value, options_in, option_values, section_order, is_section, block_order, least_size, sized_by, block_size, max_block, PcapngSection, says_nothing, said_in, said_by, block_said}
 use Rattle.captures.proofs.PcapLaws.{field-append}
 
 -- ---- how long a block is

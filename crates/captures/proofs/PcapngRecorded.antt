@@ -1,30 +1,13 @@
 -- How the blocks of a pcapng that was written are read.
-use Rattle.std.proofs.Common.{◌≡◌, ◌∙◌, ℕ, zero, suc, ◌+◌, ◌*◌, ◌-◌, ◌/◌, ◌%◌, ◌^◌, ◌<◌, ◌≤◌, Bool, true, false, List, [], ◌∷◌, ◌++◌, Some, Ok, length, take, drop, refl, sym, ap, subst, arith, append_assoc, length-append, lt-ltb, le-ltb, ltb-true, eq-eqb}
-use Rattle.std.specs.Prelude.{◌==◌, codes, decimal, if◌then◌else◌, nat_lt, replicate, slice_get}
+use Rattle.captures.proofs.Common.{◌≡◌, ◌∙◌, ℕ, zero, suc, ◌+◌, ◌*◌, ◌-◌, ◌/◌, ◌%◌, ◌^◌, ◌<◌, ◌≤◌, Bool, true, false, List, [], ◌∷◌, ◌++◌, Some, Ok, length, take, drop, refl, sym, ap, subst, arith, append_assoc, length-append, lt-ltb, le-ltb, ltb-true, eq-eqb, ◌==◌, codes, decimal, if◌then◌else◌, nat_lt, replicate, slice_get, length-replicate, take_at, drop_at, little_bytes, little_number, little_number-reads_back, max_packet, PacketFrame, CaptureFormat, HighFirst, LowFirst, PcapngForm, Reasons, Interface, CapturedPacket, field, begun, said_of_block, nat_tests, Pcapng, block_head, block_length, interface_block, interface_blocks, named_interface, packet_block, packet_options, padding, reason_comment, reason_options, section_block, read_back, reason_back}
 use Rattle.std.proofs.lemmas.Fmt.{length-decimal-le}
-use Rattle.std.proofs.lemmas.List.{length-replicate, take_at, drop_at}
-use Rattle.byteorder.specs.Endian.{little_bytes, little_number}
-use Rattle.byteorder.specs.Numbers.{little_number-reads_back}
-use Rattle.isa_model.specs.Code.Limits.{max_packet}
-use Rattle.isa_model.specs.Reporting.Streams.{PacketFrame}
-use Rattle.captures.specs.declared.forms.CaptureFormat.{CaptureFormat}
 use Rattle.captures.specs.declared.forms.CaptureFormat.TheVariants as formats
-use Rattle.captures.specs.declared.forms.NumberOrder.TheVariants.{HighFirst, LowFirst}
-use Rattle.captures.specs.declared.forms.PcapngForm.{PcapngForm}
-use Rattle.captures.specs.declared.forms.Reasons.{Reasons}
 use Rattle.captures.specs.declared.forms.Reasons.TheVariants.{Ignored, Read as Taken}
-use Rattle.captures.specs.declared.interfaces.Interface.{Interface}
 use Rattle.captures.specs.declared.interfaces.TimeScale.TheVariants.{PowerOf10}
-use Rattle.captures.specs.Pcap.{CapturedPacket, field}
 use Rattle.captures.specs.Pcapng.{block_order, block_said, block_size, interface_in, is_section, max_block, max_interfaces, option_in, option_reason, packet_options as packet_options_of, padded, reason_by, reason_in, short_field, time_at, timed_packet}
-use Rattle.captures.specs.Captured.{begun, said_of_block}
 use Rattle.captures.proofs.OpeningLaws.{begun-append}
 use Rattle.captures.proofs.PcapngLaws.{block_size-append}
 use Rattle.captures.proofs.ReasonLaws.{reason_in-found, reason_in-none, reason_number-decimal}
-use Rattle.std.proofs.lemmas.Bool.Decides.{nat_tests}
-use Rattle.captures.specs.declared.kinds.CaptureKind.TheVariants.{Pcapng}
-use Rattle.captures.specs.CaptureBytes.{block_head, block_length, interface_block, interface_blocks, named_interface, packet_block, packet_options, padding, reason_comment, reason_options, section_block}
-use Rattle.captures.specs.ReadBack.{read_back, reason_back}
 use Rattle.captures.proofs.Recorded.{Read, Reads, reads-record}
 
 -- the format of each pcapng that is written, and the interface that its blocks describe

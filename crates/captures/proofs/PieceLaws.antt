@@ -1,12 +1,5 @@
 -- Laws of pieces that are put one after the other to the front of a buffer.
-use Rattle.std.proofs.Common.{◌≡◌, ◌∙◌, ℕ, ◌+◌, ◌-◌, ◌<◌, ◌≤◌, List, [], ◌∷◌, ◌++◌, Option, Result, Ok, Err, zero, suc, length, take, refl, sym, ap, subst, append_assoc, append-nil, length-append, arith}
-use Rattle.std.specs.Prelude.{OnErr, replicate}
-use Rattle.std.specs.Io.KnownBytes.{Appends}
-use Rattle.std.proofs.lemmas.List.{length-take-le, take-append-le}
-use Rattle.std.proofs.Math.Seq.{take-append-add}
-use Rattle.std.proofs.KnownBytes.{Appends-trans}
-use Rattle.exact_io.specs.Transfers.{AppendsBeginning}
-use Rattle.captures.specs.CaptureBytes.{interface_block, interface_blocks}
+use Rattle.captures.proofs.Common.{◌≡◌, ◌∙◌, ℕ, ◌+◌, ◌-◌, ◌<◌, ◌≤◌, List, [], ◌∷◌, ◌++◌, Option, Result, Ok, Err, zero, suc, length, take, refl, sym, ap, subst, append_assoc, append-nil, length-append, arith, OnErr, replicate, Appends, length-take-le, take-append-le, take-append-add, Appends-trans, AppendsBeginning, interface_block, interface_blocks}
 
 -- five pieces
 pub five_pieces : (two three four five a b c d e : List ℕ) → two ≡ a ++ b → three ≡ two ++ c

@@ -1,18 +1,9 @@
 -- A capture that was written is read as exactly the frames that were written, and then its end.
-use Rattle.std.proofs.Common.{◌≡◌, ◌∙◌, ℕ, suc, ◌+◌, ◌-◌, ◌≤◌, Bool, true, false, List, [], ◌∷◌, ◌++◌, Ok, length, map, sym, ap, subst, arith, append_assoc, append-nil}
-use Rattle.std.specs.Prelude.{All, if◌then◌else◌}
+use Rattle.captures.proofs.Common.{◌≡◌, ◌∙◌, ℕ, suc, ◌+◌, ◌-◌, ◌≤◌, Bool, true, false, List, [], ◌∷◌, ◌++◌, Ok, length, map, sym, ap, subst, arith, append_assoc, append-nil, All, if◌then◌else◌, Two, IsPacketFrame, PacketFrame, Reasons, max_interfaces, captured, captured_by, Pcap, Pcapng, CaptureSoFar, capture_of, described_after, empty_capture, file_start, interface_block, interface_blocks, is_kept, packet_block, packet_spelled, pcap_head, section_block, with_frames, with_packet, kept_frames, read_back}
 use Rattle.std.proofs.lemmas.List.Elements.{All-cons, All-head, All-tail}
-use Rattle.isa_model.specs.declared.versions.Version.TheVariants.{Two}
-use Rattle.isa_model.specs.Reporting.Streams.{IsPacketFrame, PacketFrame}
-use Rattle.captures.specs.declared.forms.Reasons.{Reasons}
 use Rattle.captures.specs.declared.packets.PacketEnd.TheVariants as ending
-use Rattle.captures.specs.Pcapng.{max_interfaces}
-use Rattle.captures.specs.Captured.{captured, captured_by}
 use Rattle.captures.specs.declared.kinds.CaptureKind.{CaptureKind}
-use Rattle.captures.specs.declared.kinds.CaptureKind.TheVariants.{Pcap, Pcapng}
 use Rattle.captures.specs.declared.kinds.CaptureForm.{CaptureForm}
-use Rattle.captures.specs.CaptureBytes.{CaptureSoFar, capture_of, described_after, empty_capture, file_start, interface_block, interface_blocks, is_kept, packet_block, packet_spelled, pcap_head, section_block, with_frames, with_packet}
-use Rattle.captures.specs.ReadBack.{kept_frames, read_back}
 use Rattle.captures.proofs.PieceLaws.{interface_blocks-one}
 use Rattle.captures.proofs.Recorded.{Read, Reads, reads-end}
 use Rattle.captures.proofs.PcapRecorded.{own_pcap, pcap-begun, pcap-packet}

@@ -1,19 +1,13 @@
 -- Laws of the reasons that comments say.
-use Rattle.std.proofs.Common.{◌≡◌, ◌∙◌, ℕ, zero, suc, ◌+◌, ◌-◌, ◌<◌, ◌≤◌, ◌^◌, Bool, true, false, List, [], ◌∷◌, Option, Some, None, length, take, drop, min, refl, ap, arith, lt-ltb, le-leb, le-ltb, length-drop}
-use Rattle.std.specs.Prelude.{◌&&◌, ◌==◌, decimal, nat_le, nat_lt, unwrap_or, if◌then◌else◌}
-use Rattle.std.specs.List.{list_all}
+use Rattle.captures.proofs.Common.{◌≡◌, ◌∙◌, ℕ, zero, suc, ◌+◌, ◌-◌, ◌<◌, ◌≤◌, ◌^◌, Bool, true, false, List, [], ◌∷◌, Option, Some, None, length, take, drop, min, refl, ap, arith, lt-ltb, le-leb, le-ltb, length-drop, ◌&&◌, ◌==◌, decimal, nat_le, nat_lt, if◌then◌else◌, list_all, leb-true, nat_tests, take_min, NumberOrder, first_reason, option_reason, padded, reason_in, reason_number, reason_said, short_field}
+use Rattle.std.specs.Prelude.{unwrap_or}
 use Rattle.std.specs.Int.{IsInRange}
 use Rattle.std.specs.Char.{is_ascii_digit}
 use Rattle.std.specs.Str.{IsAscii, IsUtf8}
 use Rattle.std.specs.Str.Parse.{AllDigits, IsNumeral, digits_value, without_leading_plus}
-use Rattle.std.proofs.lemmas.Bool.{leb-true}
-use Rattle.std.proofs.lemmas.Bool.Decides.{nat_tests}
-use Rattle.std.proofs.lemmas.List.{take_min}
 use Rattle.std.proofs.lemmas.Str.{IsUtf8-from_ascii, digit_value_digit}
 use Rattle.std.proofs.lemmas.Str.Parse.{digit_from_value, without_leading_plus_none}
 use Rattle.std.proofs.lemmas.Fmt.{decimal_is_IsNumeral, length-decimal-le}
-use Rattle.captures.specs.declared.forms.NumberOrder.{NumberOrder}
-use Rattle.captures.specs.Pcapng.{first_reason, option_reason, padded, reason_in, reason_number, reason_said, short_field}
 use Rattle.captures.proofs.PcapngLaws.{option_values-end, option_values-found, option_values-later, option_values-none}
 
 -- ---- numbers

@@ -1,12 +1,6 @@
 -- How records that stand one after the other are read.
-use Rattle.std.proofs.Common.{◌≡◌, ◌∙◌, ℕ, zero, suc, ◌+◌, ◌<◌, List, [], ◌++◌, Ok, length, take, drop, refl, ap, arith, length-append}
-use Rattle.std.proofs.lemmas.List.{take_at, drop_at}
-use Rattle.captures.specs.declared.forms.CaptureFormat.{CaptureFormat}
-use Rattle.captures.specs.declared.interfaces.Interface.{Interface}
-use Rattle.captures.specs.declared.packets.PacketEnd.{PacketEnd}
+use Rattle.captures.proofs.Common.{◌≡◌, ◌∙◌, ℕ, zero, suc, ◌+◌, ◌<◌, List, [], ◌++◌, Ok, length, take, drop, refl, ap, arith, length-append, take_at, drop_at, CaptureFormat, Interface, PacketEnd, CapturedPacket, FoundRecord, SaidRecord, first_record, found_said, moved, packets_from, record_said, record_size}
 use Rattle.captures.specs.declared.packets.PacketEnd.TheVariants as ending
-use Rattle.captures.specs.Pcap.{CapturedPacket}
-use Rattle.captures.specs.Captured.{FoundRecord, SaidRecord, first_record, found_said, moved, packets_from, record_said, record_size}
 use Rattle.captures.proofs.CapturedLaws.{first_record-end, first_record-whole, packets_from-goes_on, packets_from-stops, with_packets}
 
 -- packets, and how they end

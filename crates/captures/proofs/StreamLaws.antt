@@ -1,13 +1,7 @@
 -- Laws of the bytes that a capture's frame stream has left.
-use Rattle.std.proofs.Common.{◌≡◌, ℕ, Bool, true, List, slice_range, Option, Some, None, refl, sym, subst, ap, ◌∙◌}
-use Rattle.std.specs.Prelude.{option_map}
-use Rattle.std.specs.Io.KnownBytes.{IsAtEnd, prepend_known}
+use Rattle.captures.proofs.Common.{◌≡◌, ℕ, Bool, true, List, slice_range, Option, Some, None, refl, sym, subst, ap, ◌∙◌, option_map, IsAtEnd, prepend_known, PacketEnd, CapturePosition, FindsPacket, FoundEnd, Past, packets_left, stream_rest, CapturedPacket}
 use Rattle.frames.proofs.BuffersLaws.{none_ahead}
-use Rattle.captures.specs.declared.packets.PacketEnd.{PacketEnd}
 use Rattle.captures.specs.Damage.{KeepsEnd, end_by}
-use Rattle.captures.specs.Reading.{CapturePosition, FindsPacket, FoundEnd, Past, packets_left}
-use Rattle.captures.specs.FrameBytes.{stream_rest}
-use Rattle.captures.specs.Pcap.{CapturedPacket}
 
 -- after the end nothing is left
 pub rest-ended : (held : List ℕ) (given count : ℕ) (ended : Bool) (at : CapturePosition)

@@ -1,13 +1,7 @@
 -- Laws of the lines of a frame's bytes.
-use Rattle.std.proofs.Common.{◌≡◌, ◌∙◌, ℕ, zero, suc, ◌+◌, ◌-◌, ◌<◌, List, [], ◌++◌, Option, Result, Ok, Err, length, take, drop, min, refl, sym, ap, subst, append_assoc, append-nil, length-drop, arith}
-use Rattle.std.specs.Prelude.{OnErr, OnOk}
-use Rattle.std.specs.Io.KnownBytes.{Appends}
-use Rattle.std.proofs.KnownBytes.{Appends-trans}
-use Rattle.std.proofs.lemmas.List.{take_all, take_min}
-use Rattle.exact_io.specs.Transfers.{AppendsBeginning}
+use Rattle.captures.proofs.Common.{◌≡◌, ◌∙◌, ℕ, zero, suc, ◌+◌, ◌-◌, ◌<◌, List, [], ◌++◌, Option, Result, Ok, Err, length, take, drop, min, refl, sym, ap, subst, append_assoc, append-nil, length-drop, arith, OnErr, OnOk, Appends, Appends-trans, take_all, take_min, AppendsBeginning, head_line, row_at, rows_text}
 use Rattle.exact_io.proofs.TransferLaws.{AppendsBeginning-first, AppendsBeginning-second}
 use Rattle.isa_model.specs.declared.frames.FrameHead.{FrameHead}
-use Rattle.captures.specs.Texts.{head_line, row_at, rows_text}
 
 -- ---- pieces of bytes
 

@@ -1,21 +1,13 @@
 -- Laws of what a writer of captures has written.
-use Rattle.std.proofs.Common.{◌≡◌, ◌∙◌, ℕ, ◌+◌, ◌-◌, Bool, true, false, List, [], ◌∷◌, ◌++◌, Option, Some, None, Result, Ok, Err, length, take, refl, sym, ap, subst, append_assoc, append-nil, length-append, arith}
-use Rattle.std.specs.Prelude.{OnErr}
-use Rattle.std.specs.Io.KnownBytes.{Appends, Keeps}
+use Rattle.captures.proofs.Common.{◌≡◌, ◌∙◌, ℕ, ◌+◌, ◌-◌, Bool, true, false, List, [], ◌∷◌, ◌++◌, Option, Some, None, Result, Ok, Err, length, take, refl, sym, ap, subst, append_assoc, append-nil, length-append, arith, OnErr, Appends, Keeps, take-append-add, take-length, Appends-trans, Appends-kept, Appends-nil, PacketFrame, record_bytes, records_bytes, CaptureSoFar, capture_of, empty_capture, file_start, interface_blocks, is_kept, with_frame, with_frames, AppendsBeginning, no_head}
 use Rattle.std.specs.declared.io.ErrorKind.{ErrorKind}
-use Rattle.std.proofs.Math.Seq.{take-append-add, take-length}
-use Rattle.std.proofs.KnownBytes.{Appends-trans, Appends-kept, Appends-nil}
 use Rattle.std.proofs.lemmas.Grind.{flat_map-append}
 use Rattle.isa_model.specs.declared.versions.Version.{Version}
 use Rattle.isa_model.specs.Code.Versions.{stream_magic}
-use Rattle.isa_model.specs.Reporting.Streams.{PacketFrame, record_bytes, records_bytes}
 use Rattle.captures.specs.declared.kinds.CaptureForm.{CaptureForm}
 use Rattle.captures.specs.declared.kinds.LostCounts.{LostCounts}
 use Rattle.captures.specs.declared.taking.PartTaken.{PartTaken}
 use Rattle.captures.specs.declared.taking.PartTaken.TheVariants as taken
-use Rattle.captures.specs.CaptureBytes.{CaptureSoFar, capture_of, empty_capture, file_start, interface_blocks, is_kept, with_frame, with_frames}
-use Rattle.exact_io.specs.Transfers.{AppendsBeginning}
-use Rattle.captures.specs.FrameBytes.{no_head}
 use Rattle.captures.specs.Writing.{AppendsFront, FailsAt, HasWrittenPart, IsWrittenSoFar, TakesFrame, TakesPart, handed_bytes, no_bytes}
 
 -- ---- captures

@@ -1,22 +1,12 @@
 -- The effect of an instruction is that of its form's function.
-use Rattle.std.proofs.Common.{◌≡◌, ◌<◌, ℕ, false, List, length, Some, None, Result, Ok, Err, refl, ap, ◌∙◌, inl, inr, arith, unwrap_or, slice_index_or, ℤ}
+use Rattle.checked_vm.proofs.Common.{◌≡◌, ◌<◌, ℕ, false, List, length, Some, None, Result, Ok, Err, refl, ap, ◌∙◌, inl, inr, arith, unwrap_or, slice_index_or, ℤ, option_flatten, cases_lt, get_or_past, max_call_frames, TrapReason, Program, fetch, reads, writes, is_frame_pointer, State, reg, Next, Trapped, target, calls, exits, is_unset, act, step, performed, performed_at, Core, KeepsFrames, IsRunning, StaysRunning, Performs, PerformsApart, PerformsIn}
 use Rattle.std.specs.List.{list_any}
-use Rattle.std.specs.Option.{option_flatten}
-use Rattle.std.proofs.lemmas.Bool.{cases_lt}
 use Rattle.std.proofs.lemmas.Bool.Decides.{nat_tests}
-use Rattle.std.proofs.lemmas.List.{get_or_past}
 use Rattle.std.proofs.lemmas.Option.{slice_get_past, slice_get-get_or}
-use Rattle.isa_model.specs.Code.Limits.{max_call_frames}
 use Rattle.isa_model.specs.declared.instructions.Insn.{Insn}
-use Rattle.isa_model.specs.declared.ends.TrapReason.{TrapReason}
 use Rattle.isa_model.specs.declared.ends.TrapReason.TheVariants.{NoCode}
 use Rattle.isa_model.specs.declared.versions.Version.{Version}
-use Rattle.isa_model.specs.Code.Instructions.{Program, fetch, reads, writes, is_frame_pointer}
-use Rattle.isa_model.specs.Machine.States.{State, reg}
 use Rattle.isa_model.specs.Machine.Calls.{enter, leave}
-use Rattle.isa_model.specs.Machine.Steps.{Next, Trapped, target, calls, exits, is_unset, act, step, performed, performed_at}
-use Rattle.checked_vm.specs.declared.core_state.Core.{Core}
-use Rattle.checked_vm.specs.Machine.{KeepsFrames, IsRunning, StaysRunning, Performs, PerformsApart, PerformsIn}
 
 pub performs_in : {A : Type 0} (slots : ℕ) (i j : Insn) (r : Result A TrapReason) (old : Core)
     (before : List ℕ) (new : Core) (after : List ℕ) → j ≡ i → Performs i r old before new after

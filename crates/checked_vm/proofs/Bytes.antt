@@ -1,23 +1,12 @@
 -- The results of reads and writes of the packet and of map values.
-use Rattle.std.proofs.Common.{◌≡◌, ℕ, true, List, map, take, drop, Option, Result, Ok, Some, ◌+◌, ◌-◌, ◌≤◌, leb, length, slice_set, ℤ, sym, ap, ◌∙◌, arith}
-use Rattle.std.specs.Option.{option_map}
-use Rattle.std.proofs.lemmas.List.{length-map, drop-drop}
-use Rattle.std.proofs.lemmas.Bool.{le-leb}
+use Rattle.checked_vm.proofs.Common.{◌≡◌, ℕ, true, List, map, take, drop, Option, Result, Ok, Some, ◌+◌, ◌-◌, ◌≤◌, leb, length, slice_set, ℤ, sym, ap, ◌∙◌, arith, option_map, length-map, drop-drop, le-leb, Byte, TrapReason, State, content_of, and_then, region_cells, index_of_serial, put_value, place_in, number_in, value_in, index_at, read, write, bytes_in, bytes_at, value_bytes, Core, state_of}
 use borrow.Rule.Slice.PartMut.{put_mid}
 use Rattle.isa_model.specs.declared.values.Region.{Region}
 use Rattle.isa_model.specs.declared.values.Region.TheVariants.{Packet, MapValue}
 use Rattle.isa_model.specs.declared.values.Cell.{Cell}
-use Rattle.isa_model.specs.declared.values.Cell.TheVariants.{Byte}
-use Rattle.isa_model.specs.declared.ends.TrapReason.{TrapReason}
 use Rattle.isa_model.specs.Code.Numbers.{number_from}
 use Rattle.isa_model.specs.declared.values.Value.TheVariants.{Num}
-use Rattle.isa_model.specs.Machine.States.{State, content_of}
-use Rattle.isa_model.specs.Machine.Memory.{and_then, region_cells, index_of_serial, put_value, place_in, number_in, value_in, index_at, read, write}
-use Rattle.isa_model.specs.Machine.HelperCalls.{bytes_in, bytes_at}
 use Rattle.isa_model.proofs.ByteCells.{list_any-is_unwritten-Byte, list_all-is_byte-Byte, map-byte_in-Byte, number_in-Byte, value_in-Byte, take-drop-Byte}
-use Rattle.live_maps.specs.Live.{value_bytes}
-use Rattle.checked_vm.specs.declared.core_state.Core.{Core}
-use Rattle.checked_vm.specs.Machine.{state_of}
 use Rattle.checked_vm.proofs.ReadsLaws.{value_cells}
 
 -- a read of the packet returns the cells of its bytes there

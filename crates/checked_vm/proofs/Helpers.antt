@@ -1,23 +1,13 @@
 -- Calls of helpers: the registers that they keep, their answers, and the maps after them.
-use Rattle.std.specs.Prelude.{◌≡◌, ℕ, suc, ◌<◌, ◌==◌, Bool, true, false, if◌then◌else◌, List, [], ◌∷◌, drop, length, pos, Option, Some, None, Result, Ok, refl}
-use Rattle.std.specs.Option.{option_map}
-use Rattle.std.proofs.Common.{sym, ap, ◌∙◌, arith, drop-cons}
+use Rattle.checked_vm.proofs.Common.{◌≡◌, ℕ, suc, ◌<◌, ◌==◌, Bool, true, false, if◌then◌else◌, List, [], ◌∷◌, drop, length, pos, Option, Some, None, Result, Ok, sym, ap, ◌∙◌, arith, drop-cons, option_map, TrapReason, Program, Stored, State, value_at, reg, and_then, update_answer, delete_answer, MapArgument, map_argument, BytesArgument, bytes_argument, number_argument, bytes_at, lookup_call, update_call, delete_call, Live, content_at, with_bytes, without, Core, state_of}
+use Rattle.std.specs.Prelude.{refl}
 use Rattle.std.proofs.Math.ListN.{drop_of_length-le}
 use Rattle.isa_model.specs.declared.registers.Reg.TheVariants.{R1, R2, R3, R4}
 use Rattle.isa_model.specs.declared.map_defs.MapDef.{MapDef}
 use Rattle.isa_model.specs.declared.values.Value.{Value}
 use Rattle.isa_model.specs.declared.values.Value.TheVariants.{Unset, Num, Ptr}
 use Rattle.isa_model.specs.declared.values.Region.TheVariants.{MapValue}
-use Rattle.isa_model.specs.declared.ends.TrapReason.{TrapReason}
-use Rattle.isa_model.specs.Code.Instructions.{Program}
-use Rattle.isa_model.specs.Machine.States.{Stored, State, value_at, reg}
-use Rattle.isa_model.specs.Machine.Memory.{and_then}
-use Rattle.isa_model.specs.Machine.MapContents.{update_answer, delete_answer}
 use Rattle.isa_model.specs.Machine.MapHelpers.{Helped, map_lookup_elem, map_update_elem, map_delete_elem, put_bytes, remove_key, pointer_or_zero}
-use Rattle.isa_model.specs.Machine.HelperCalls.{MapArgument, map_argument, BytesArgument, bytes_argument, number_argument, bytes_at, lookup_call, update_call, delete_call}
-use Rattle.live_maps.specs.Live.{Live, content_at, with_bytes, without}
-use Rattle.checked_vm.specs.declared.core_state.Core.{Core}
-use Rattle.checked_vm.specs.Machine.{state_of}
 
 -- the registers from r6 on
 pub last_registers : (regs : List Value) → length regs ≡ 11

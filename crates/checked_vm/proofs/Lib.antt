@@ -1,5 +1,6 @@
 pub mod Bytes
 pub mod Acts
+mod Common
 pub mod Turns
 pub mod Helpers
 pub mod ReadsLaws

@@ -1,10 +1,6 @@
 -- Laws of the definitions in specs/Reads.
-use Rattle.std.specs.Prelude.{◌≡◌, ℕ, map, Option, Some, None, refl}
-use Rattle.std.specs.Option.{option_map}
-use Rattle.isa_model.specs.declared.values.Cell.TheVariants.{Byte}
-use Rattle.isa_model.specs.Machine.States.{Content}
-use Rattle.isa_model.specs.Machine.Memory.{index_of_serial, key_value_at}
-use Rattle.live_maps.specs.Live.{value_bytes}
+use Rattle.checked_vm.proofs.Common.{◌≡◌, ℕ, map, Option, Some, None, option_map, Byte, Content, index_of_serial, key_value_at, value_bytes}
+use Rattle.std.specs.Prelude.{refl}
 
 -- the cells of a map value are its bytes
 pub value_cells : (content : Content) (n : ℕ)

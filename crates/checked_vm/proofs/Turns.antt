@@ -1,12 +1,7 @@
 -- A run so far, and the result of its next step.
-use Rattle.std.proofs.Common.{◌≡◌, ℕ, zero, suc, ◌+◌, ◌-◌, ◌<◌, List, [], ◌∷◌, ◌++◌, refl, sym, ap, ◌∙◌, arith, add-one, add-suc, add-zero, append_assoc, append-nil}
+use Rattle.checked_vm.proofs.Common.{◌≡◌, ℕ, zero, suc, ◌+◌, ◌-◌, ◌<◌, List, [], ◌∷◌, ◌++◌, refl, sym, ap, ◌∙◌, arith, add-one, add-suc, add-zero, append_assoc, append-nil, TrapReason, Program, State, Next, Finished, Trapped, step, Progress, GoesOn, Ended, after_step, advanced, progress, left, turn_of}
 use Rattle.isa_model.specs.declared.ends.End.{End}
 use Rattle.isa_model.specs.declared.ends.End.TheVariants.{Exit, Trap}
-use Rattle.isa_model.specs.declared.ends.TrapReason.{TrapReason}
-use Rattle.isa_model.specs.Code.Instructions.{Program}
-use Rattle.isa_model.specs.Machine.States.{State}
-use Rattle.isa_model.specs.Machine.Steps.{Next, Finished, Trapped, step}
-use Rattle.isa_model.specs.Running.Runs.{Progress, GoesOn, Ended, after_step, advanced, progress, left, turn_of}
 use Rattle.isa_model.proofs.RunLaws.{progress-suc, progress-ended, progress-exit}
 use Rattle.checked_vm.specs.Stops.{state_at}
 use Rattle.checked_vm.specs.Watching.{beginning, begun_in}

@@ -17,7 +17,8 @@ pub use Rattle.messages.proofs.Written.{ok_behind, err_behind, ok_text, err_text
 pub use Rattle.messages.specs.Lines.{bound_line, verdict_line, text_line}
 pub use Rattle.messages.specs.declared.forms.FileForm.{FileForm}
 pub use Rattle.table_entries.specs.declared.errors.WriteTableError.{WriteTableError}
-pub use Rattle.words.specs.Asked.{asked, AsksFor}
+pub use Rattle.words.specs.Asked.{AsksFor}
+unfoldable pub use Rattle.words.specs.Asked.{asked}
 pub use Rattle.words.specs.Requests.{TaskRequest, RunFiles, Trace, Run, Verify, Prove, Recheck, Assemble, Disassemble, Explain, TableFiles, request_of, table_files_of, files_of}
 pub use Rattle.words.specs.declared.tasks.WordsError.{WordsError}
 pub use Rattle.words.specs.declared.tasks.WordsError.TheVariants.{Wrong, NotUnicode, Memory}

@@ -1,16 +1,7 @@
 -- The jumps to each slot, as chains: what the loop that links them keeps, and what following a
 -- chain finds.
-use Rattle.std.proofs.Common.{◌≡◌, ℕ, ◌+◌, ◌<◌, ◌≤◌, Bool, List, [], ◌∷◌, ◌++◌, length, get_or, set, Option, Some, None, sym, ap, ◌∙◌, subst, arith, inl, inr}
-use Rattle.std.specs.Prelude.{◌↔◌, ◌⊎◌}
-use Rattle.std.proofs.lemmas.Bool.{cases_lt, cases_eq, cases_order}
-use Rattle.std.proofs.lemmas.Option.{same_Some}
-use Rattle.std.proofs.lemmas.List.{get_or-set_same, get_or-set_other, length-set, length-append}
-use Rattle.std.proofs.Math.ListN.{get_or-append}
-use Rattle.std.proofs.Math.Seq.{get_or-append_seam}
-use Rattle.control_flow.specs.declared.nodes.Node.{Node}
-use Rattle.control_flow.specs.Nodes.{fall_from, jump_from, ComesFrom, FallsNear}
+use Rattle.control_flow.proofs.Common.{◌≡◌, ℕ, ◌+◌, ◌<◌, ◌≤◌, Bool, List, [], ◌∷◌, ◌++◌, length, get_or, set, Option, Some, None, sym, ap, ◌∙◌, subst, arith, inl, inr, ◌↔◌, ◌⊎◌, cases_lt, cases_eq, cases_order, same_Some, get_or-set_same, get_or-set_other, length-set, length-append, get_or-append, get_or-append_seam, Node, fall_from, jump_from, ComesFrom, FallsNear, Extends}
 use Rattle.control_flow.specs.Sources.{IsLastBelow, HasJump, AreSources}
-use Rattle.control_flow.specs.Searches.{Extends}
 use Rattle.control_flow.proofs.Graphs.{jump_from-inside}
 use Rattle.control_flow.proofs.SlotSearch.{Extends-next, Extends-same}
 

@@ -1,20 +1,7 @@
 -- What a loop from the last slot to the first marks: the slots from which only plain code follows.
-use Rattle.std.proofs.Common.{◌≡◌, ℕ, ◌+◌, ◌<◌, ◌≤◌, Bool, true, false, not, nat_lt, List, length, replicate, Option, Some, None, sym, ◌∙◌, subst, arith, inl, inr}
-use Rattle.std.specs.Prelude.{◌↔◌, ◌≢◌, IsTrue}
-use Rattle.std.proofs.lemmas.Bool.{not-true, not_from_false, ltb-true, lt-ltb}
-use Rattle.std.proofs.lemmas.Option.{same_Some}
-use Rattle.std.proofs.lemmas.List.{length-replicate}
-use Rattle.isa_model.specs.declared.registers.Reg.{Reg}
-use Rattle.isa_model.specs.declared.registers.Reg.TheVariants.{R10}
+use Rattle.control_flow.proofs.Common.{◌≡◌, ℕ, ◌+◌, ◌<◌, ◌≤◌, Bool, true, false, not, nat_lt, List, length, replicate, Option, Some, None, sym, ◌∙◌, subst, arith, inl, inr, ◌↔◌, ◌≢◌, IsTrue, not-true, not_from_false, ltb-true, lt-ltb, same_Some, length-replicate, Reg, R10, Insn, Program, fetch, writes, is_frame_pointer, IsPlainForm, is_frame_pointer-other, fall_to, jump_to, GoesTo, IsMarked}
 use Rattle.isa_model.specs.declared.versions.Version.TheVariants.{One}
-use Rattle.isa_model.specs.declared.instructions.Insn.{Insn}
-use Rattle.isa_model.specs.Code.Instructions.{Program, fetch, writes, is_frame_pointer}
-use Rattle.isa_model.specs.MustAccept.Paths.{IsPlainForm}
-use Rattle.isa_model.proofs.InstructionLaws.{is_frame_pointer-other}
-use Rattle.control_flow.specs.Graph.{fall_to, jump_to}
-use Rattle.control_flow.specs.Liveness.{GoesTo}
 use Rattle.control_flow.specs.Endings.{EndsPlainly, Ends}
-use Rattle.control_flow.specs.Flows.{IsMarked}
 use Rattle.control_flow.proofs.FlowLaws.{BeginsInsn-inside, fetch-BeginsInsn}
 use Rattle.control_flow.proofs.MarkLemmas.{new-IsMarked}
 

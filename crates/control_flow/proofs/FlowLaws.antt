@@ -1,19 +1,6 @@
 -- What follows from good control flow, instruction by instruction, and what its tests say.
-use Rattle.std.proofs.Common.{◌≡◌, ℕ, ◌+◌, ◌<◌, ◌≤◌, ℤ, Bool, true, false, length, Option, Some, None, refl, sym, ap, ◌∙◌, subst, inl, inr, arith, if◌then◌else◌}
-use Rattle.std.specs.Prelude.{IsSome}
-use Rattle.std.specs.Option.{option_map, option_and_then, option_flatten}
-use Rattle.std.proofs.lemmas.Bool.{cases_lt, cases_order}
-use Rattle.std.proofs.lemmas.Option.{slice_get_past, cond_some}
-use Rattle.isa_model.specs.declared.instructions.Insn.{Insn}
-use Rattle.isa_model.specs.Code.Instructions.{Program, fetch, slots_filled}
+use Rattle.control_flow.proofs.Common.{◌≡◌, ℕ, ◌+◌, ◌<◌, ◌≤◌, ℤ, Bool, true, false, length, Option, Some, None, refl, sym, ap, ◌∙◌, subst, inl, inr, arith, if◌then◌else◌, IsSome, option_map, option_and_then, option_flatten, cases_lt, cases_order, slice_get_past, cond_some, Insn, Program, fetch, slots_filled, jump_distance, falls_through, Follows, slots_filled-some, FlowError, TargetOutside, SecondHalf, OtherFunction, FallsOff, Unreachable, Memory, call_distance, BeginsInsn, jump_to, call_to, slot_behind, fall_to, HasEdge, Falls, Jumps, Calls, SameFunction, EndsFunction, IsFlow, HasTarget, Fails, IsFirst}
 use Rattle.isa_model.specs.Machine.Steps.{destination}
-use Rattle.isa_model.specs.Machine.Successors.{jump_distance, falls_through, Follows}
-use Rattle.isa_model.proofs.InstructionLaws.{slots_filled-some}
-use Rattle.control_flow.specs.declared.errors.FlowError.{FlowError}
-use Rattle.control_flow.specs.declared.errors.FlowError.TheVariants.{TargetOutside, SecondHalf, OtherFunction, FallsOff, Unreachable, Memory}
-use Rattle.control_flow.specs.Graph.{call_distance, BeginsInsn, jump_to, call_to, slot_behind, fall_to, HasEdge, Falls, Jumps, Calls}
-use Rattle.control_flow.specs.Functions.{SameFunction, EndsFunction}
-use Rattle.control_flow.specs.Flows.{IsFlow, HasTarget, Fails, IsFirst}
 
 -- ---- slots at which instructions begin
 

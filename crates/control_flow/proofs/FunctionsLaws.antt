@@ -1,14 +1,6 @@
 -- The functions of slots: what the loop that finds them keeps, and that two slots have different
 -- functions exactly where one begins between them.
-use Rattle.std.proofs.Common.{◌≡◌, ℕ, ◌+◌, ◌<◌, ◌≤◌, Bool, not, nat_eq, List, [], ◌∷◌, ◌++◌, length, get_or, sym, ap, ◌∙◌, subst, arith, inl, inr}
-use Rattle.std.specs.Prelude.{◌↔◌, IsTrue}
-use Rattle.std.proofs.lemmas.Bool.{cases_lt, eqb-false, ne_eqb, not-true, not_from_false}
-use Rattle.std.proofs.lemmas.List.{length-append}
-use Rattle.std.proofs.Math.ListN.{get_or-append}
-use Rattle.std.proofs.Math.Seq.{get_or-append_seam}
-use Rattle.isa_model.specs.Code.Instructions.{Program}
-use Rattle.control_flow.specs.Graph.{call_to, Calls}
-use Rattle.control_flow.specs.Functions.{BeginsFunction, SameFunction, IsFunctionOf, MarksFunctions}
+use Rattle.control_flow.proofs.Common.{◌≡◌, ℕ, ◌+◌, ◌<◌, ◌≤◌, Bool, not, nat_eq, List, [], ◌∷◌, ◌++◌, length, get_or, sym, ap, ◌∙◌, subst, arith, inl, inr, ◌↔◌, IsTrue, cases_lt, eqb-false, ne_eqb, not-true, not_from_false, length-append, get_or-append, get_or-append_seam, Program, call_to, Calls, BeginsFunction, SameFunction, IsFunctionOf, MarksFunctions}
 use Rattle.control_flow.proofs.FlowLaws.{HasEdge-inside}
 use Rattle.control_flow.proofs.MarkLemmas.{MarksBelow}
 

@@ -1,26 +1,6 @@
 -- The graph of slots that is made of the code.
-use Rattle.std.proofs.Common.{◌≡◌, ℕ, zero, suc, ◌+◌, ◌<◌, List, [], ◌∷◌, ◌++◌, length, Option, Some, None, refl, sym, ap, ◌∙◌, subst, arith, inl, inr}
-use Rattle.std.specs.Prelude.{◌↔◌, ◌⊎◌, Bool, IsTrue, slice_get}
-use Rattle.std.specs.Option.{option_and_then}
-use Rattle.std.proofs.lemmas.Option.{same_Some, slice_get_within, slice_get_cases}
-use Rattle.isa_model.specs.declared.registers.Reg.{Reg}
-use Rattle.isa_model.specs.declared.instructions.Place.{Place}
-use Rattle.isa_model.specs.declared.instructions.Insn.{Insn}
-use Rattle.isa_model.specs.declared.instructions.Insn.TheVariants.{Load, LoadSx, Store, Atomic, Exchange, CompareExchange}
-use Rattle.isa_model.specs.Code.Instructions.{Program, fetch}
-use Rattle.isa_model.specs.MustAccept.Paths.{IsOneOf}
-use Rattle.isa_model.proofs.InstructionLaws.{slots_filled-cases}
-use Rattle.control_flow.specs.declared.homes.HomeMask.{HomeMask}
-use Rattle.control_flow.specs.declared.nodes.Node.{Node}
-use Rattle.control_flow.specs.Accesses.{read_registers}
+use Rattle.control_flow.proofs.Common.{◌≡◌, ℕ, zero, suc, ◌+◌, ◌<◌, List, [], ◌∷◌, ◌++◌, length, Option, Some, None, refl, sym, ap, ◌∙◌, subst, arith, inl, inr, ◌↔◌, ◌⊎◌, Bool, IsTrue, slice_get, option_and_then, same_Some, slice_get_within, slice_get_cases, Reg, Place, Insn, Load, LoadSx, Store, Atomic, Exchange, CompareExchange, Program, fetch, IsOneOf, slots_filled-cases, HomeMask, Node, read_registers, Fails, TargetOutside, HasRegister, HasSlot, HasHome, no_slots, no_homes, FrameAddressIsTaken, Home, InRegister, InSlot, IsReadBy, IsWrittenBy, TestsNumbers, TestsHome, MayBeInSlot, MayRead, MayWrite, HasEdges, IsBlankNode, ShowsReads, ShowsTests, AreNodes, fall_from, jump_from, FallsNear}
 use Rattle.control_flow.proofs.FlowLaws.{fall_to-behind}
-use Rattle.control_flow.specs.Flows.{Fails}
-use Rattle.control_flow.specs.declared.errors.FlowError.TheVariants.{TargetOutside}
-use Rattle.control_flow.specs.Masks.{HasRegister, HasSlot, HasHome, no_slots, no_homes}
-use Rattle.control_flow.specs.StackUse.{FrameAddressIsTaken}
-use Rattle.control_flow.specs.Liveness.{Home, InRegister, InSlot, IsReadBy, IsWrittenBy}
-use Rattle.control_flow.specs.TestedNumbers.{TestsNumbers, TestsHome, MayBeInSlot, MayRead, MayWrite}
-use Rattle.control_flow.specs.Nodes.{HasEdges, IsBlankNode, ShowsReads, ShowsTests, AreNodes, fall_from, jump_from, FallsNear}
 use Rattle.control_flow.proofs.MaskLemmas.{no_home, no_slot}
 use Rattle.control_flow.proofs.TargetTests.{jump-inside}
 

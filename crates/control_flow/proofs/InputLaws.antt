@@ -1,10 +1,5 @@
 -- What a loop over the slots finds out about the calls and the input of a program.
-use Rattle.std.proofs.Common.{◌≡◌, ℕ, ◌+◌, ◌<◌, ◌≤◌, Bool, true, false, length, Some, refl, subst, arith, inl, inr}
-use Rattle.std.specs.Prelude.{◌↔◌, ◌≢◌, ◌||◌, IsTrue}
-use Rattle.std.proofs.lemmas.Bool.{cases_lt}
-use Rattle.isa_model.specs.Code.Instructions.{Program}
-use Rattle.control_flow.specs.Graph.{call_to, Calls}
-use Rattle.control_flow.specs.TestedNumbers.{TakesInputAt, HasInput, MayForgetNumbers}
+use Rattle.control_flow.proofs.Common.{◌≡◌, ℕ, ◌+◌, ◌<◌, ◌≤◌, Bool, true, false, length, Some, refl, subst, arith, inl, inr, ◌↔◌, ◌≢◌, ◌||◌, IsTrue, cases_lt, Program, call_to, Calls, TakesInputAt, HasInput, MayForgetNumbers}
 use Rattle.control_flow.proofs.FlowLaws.{BeginsInsn-inside, fetch-BeginsInsn, HasEdge-inside}
 
 -- an instruction below slot n takes input

@@ -1,11 +1,5 @@
 -- Masks of what is kept at each slot, as they are made slot by slot.
-use Rattle.std.proofs.Common.{◌≡◌, ℕ, ◌+◌, List, [], ◌∷◌, ◌++◌, length, sym, subst, arith, inl, inr}
-use Rattle.std.proofs.Math.Seq.{get_or-append_seam}
-use Rattle.std.proofs.lemmas.Bool.{cases_lt, cases_eq}
-use Rattle.std.proofs.lemmas.List.{get_or_append_left, get_or_past, length-append}
-use Rattle.control_flow.specs.declared.homes.HomeMask.{HomeMask}
-use Rattle.control_flow.specs.Liveness.{Home}
-use Rattle.control_flow.specs.Masks.{HasHome, no_homes, mask_at, AreWithin}
+use Rattle.control_flow.proofs.Common.{◌≡◌, ℕ, ◌+◌, List, [], ◌∷◌, ◌++◌, length, sym, subst, arith, inl, inr, get_or-append_seam, cases_lt, cases_eq, get_or_append_left, get_or_past, length-append, HomeMask, Home, HasHome, no_homes, mask_at, AreWithin}
 use Rattle.control_flow.proofs.MaskLemmas.{no_home}
 
 -- the masks of the slots below n have nothing but what the others have there

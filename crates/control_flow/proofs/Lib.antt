@@ -1,3 +1,4 @@
+mod Common
 mod TargetTests
 mod MarkLemmas
 mod FunctionsLaws

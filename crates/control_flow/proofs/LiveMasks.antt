@@ -1,16 +1,7 @@
 -- What a `Flow` says of a slot of the code, by what it knows of all slots.
-use Rattle.std.proofs.Common.{◌≡◌, ℕ, Bool, List, Result, sym, ap, ◌∙◌, subst}
-use Rattle.std.specs.Prelude.{◌↔◌, IsTrue, IfOk}
-use Rattle.std.proofs.lemmas.Result.{IfOk-weaker}
-use Rattle.isa_model.specs.declared.registers.Reg.{Reg}
-use Rattle.isa_model.specs.Code.Instructions.{Program}
-use Rattle.control_flow.specs.declared.homes.HomeMask.{HomeMask}
+use Rattle.control_flow.proofs.Common.{◌≡◌, ℕ, Bool, List, Result, sym, ap, ◌∙◌, subst, ◌↔◌, IsTrue, IfOk, IfOk-weaker, Reg, Program, HomeMask, Home, InRegister, InSlot, IsLive, IsSlotLive, IsHomeLive, MayForgetNumbers, IsNumberTested, HasRegister, HasSlot, HasHome, AreWithin, mask_at, AreLiveMasks, IsMarked, MarksEndings, AreTestedMasks, KeepsTested}
 use Rattle.control_flow.specs.declared.kept_numbers.KeptNumbers.{KeptNumbers}
 use Rattle.control_flow.specs.Endings.{EndsPlainly}
-use Rattle.control_flow.specs.Liveness.{Home, InRegister, InSlot, IsLive, IsSlotLive, IsHomeLive}
-use Rattle.control_flow.specs.TestedNumbers.{MayForgetNumbers, IsNumberTested}
-use Rattle.control_flow.specs.Masks.{HasRegister, HasSlot, HasHome, AreWithin, mask_at}
-use Rattle.control_flow.specs.Flows.{AreLiveMasks, IsMarked, MarksEndings, AreTestedMasks, KeepsTested}
 
 -- the mask of a slot has the homes of which it holds there, if the masks of all slots do
 home_has : (Holds : Program → Home → ℕ → Type 0) (p q : Program) (masks items : List HomeMask)

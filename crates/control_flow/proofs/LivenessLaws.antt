@@ -1,14 +1,6 @@
 -- What is live, instruction by instruction.
-use Rattle.std.proofs.Common.{◌≡◌, ℕ, zero, suc, Some, sym, ap, ◌∙◌, subst, inl, inr}
-use Rattle.isa_model.specs.declared.registers.Reg.{Reg}
-use Rattle.isa_model.specs.declared.instructions.Insn.{Insn}
-use Rattle.isa_model.specs.Code.Instructions.{Program, fetch}
-use Rattle.isa_model.specs.Machine.Successors.{Follows}
-use Rattle.isa_model.specs.MustAccept.Paths.{IsOneOf}
+use Rattle.control_flow.proofs.Common.{◌≡◌, ℕ, zero, suc, Some, sym, ap, ◌∙◌, subst, inl, inr, Reg, Insn, Program, fetch, Follows, IsOneOf, read_registers, written_registers, Home, InRegister, InSlot, WritesHome, IsWrittenBy, GoesTo, IsHomeLive, IsLive, IsSlotLive, ReadsSlot, WritesSlot}
 use Rattle.control_flow.proofs.FlowLaws.{some_slot, jump_to-insn, fall_to-insn}
-use Rattle.control_flow.specs.Accesses.{read_registers, written_registers}
-use Rattle.control_flow.specs.Liveness.{Home, InRegister, InSlot, WritesHome, IsWrittenBy, GoesTo, IsHomeLive, IsLive, IsSlotLive}
-use Rattle.control_flow.specs.StackUse.{ReadsSlot, WritesSlot}
 
 -- control goes from an instruction to each slot that follows it
 pub GoesTo-Follows : (p : Program) (slot next : ℕ) → Follows p slot next → GoesTo p slot next

@@ -1,9 +1,5 @@
 -- What the search for the body of a loop keeps: it stays inside the code.
-use Rattle.std.proofs.Common.{◌≡◌, ℕ, ◌<◌, Bool, List, [], ◌∷◌, ◌++◌, length, sym, ◌∙◌, subst, arith, inl, inr}
-use Rattle.std.specs.Prelude.{Contains}
-use Rattle.std.proofs.lemmas.List.Elements.{Contains-append_left}
-use Rattle.control_flow.specs.declared.nodes.Node.{Node}
-use Rattle.control_flow.specs.Searches.{Extends}
+use Rattle.control_flow.proofs.Common.{◌≡◌, ℕ, ◌<◌, Bool, List, [], ◌∷◌, ◌++◌, length, sym, ◌∙◌, subst, arith, inl, inr, Contains, Contains-append_left, Node, Extends}
 use Rattle.control_flow.proofs.MarkLemmas.{IsMarked-inside}
 use Rattle.control_flow.proofs.SlotSearch.{on_top}
 

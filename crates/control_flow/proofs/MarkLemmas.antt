@@ -1,12 +1,5 @@
 -- Marks that a loop over the slots sets at the targets that it finds.
-use Rattle.std.proofs.Common.{◌≡◌, ℕ, ◌+◌, ◌<◌, ◌≤◌, Bool, true, false, List, length, get_or, set, replicate, Option, Some, None, refl, sym, ap, ◌∙◌, subst, arith, inl, inr}
-use Rattle.std.specs.Prelude.{◌⊎◌}
-use Rattle.std.proofs.lemmas.Bool.{cases_lt, cases_eq}
-use Rattle.std.proofs.lemmas.Option.{same_Some, get_or_from_slice_get, slice_get_read}
-use Rattle.std.proofs.lemmas.List.{get_or-set_same, get_or-set_other, length-set, length-replicate, get_or-replicate, get_or_past}
-use Rattle.isa_model.specs.Code.Instructions.{Program}
-use Rattle.control_flow.specs.Graph.{jump_to, Jumps}
-use Rattle.control_flow.specs.Flows.{IsMarked, MarksJoins}
+use Rattle.control_flow.proofs.Common.{◌≡◌, ℕ, ◌+◌, ◌<◌, ◌≤◌, Bool, true, false, List, length, get_or, set, replicate, Option, Some, None, refl, sym, ap, ◌∙◌, subst, arith, inl, inr, ◌⊎◌, cases_lt, cases_eq, same_Some, get_or_from_slice_get, slice_get_read, get_or-set_same, get_or-set_other, length-set, length-replicate, get_or-replicate, get_or_past, Program, jump_to, Jumps, IsMarked, MarksJoins}
 use Rattle.control_flow.proofs.FlowLaws.{HasEdge-inside}
 
 -- the slots that are marked: those of the start, and the targets from the slots below n

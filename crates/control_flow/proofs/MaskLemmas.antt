@@ -1,21 +1,10 @@
 -- Masks: what each of their methods does, register by register and stack slot by stack slot.
-use Rattle.std.proofs.Common.{◌≡◌, ℕ, Bool, true, false, not, nat_eq, Option, Some, ◌+◌, ◌-◌, ◌*◌, ◌/◌, ◌^◌, ◌%◌, ◌<◌, ◌≤◌, replicate, sym, ap, ◌∙◌, arith, inl, inr, bit_or, bit_and, bit_xor, w16, w64}
-use Rattle.std.specs.Prelude.{◌↔◌, ◌⊎◌, ◌≢◌, IsTrue, max, min}
+use Rattle.control_flow.proofs.Common.{◌≡◌, ℕ, Bool, true, false, not, nat_eq, Option, Some, ◌+◌, ◌-◌, ◌*◌, ◌/◌, ◌^◌, ◌%◌, ◌<◌, ◌≤◌, replicate, sym, ap, ◌∙◌, arith, inl, inr, bit_or, bit_and, bit_xor, w16, w64, ◌↔◌, ◌⊎◌, ◌≢◌, IsTrue, max, min, cases_lt, cases_eq, eqb-false, ne_eqb, not-true, not_from_false, iff_false, shr-shr, and_le_r, same_Some, length-replicate, get_or-replicate, get_or_past, Reg, reg_number, RegisterMask, HomeMask, Home, InRegister, InSlot, no_registers, HasRegister, no_slots, HasSlot, no_homes, HasHome, mask_at}
 use Rattle.std.specs.Int.{bit_at, trailing_zeros}
-use Rattle.std.proofs.lemmas.Bool.{cases_lt, cases_eq, eqb-false, ne_eqb, not-true, not_from_false, iff_false}
-use Rattle.std.proofs.lemmas.Nat.{shr-shr, and_le_r}
 use Rattle.std.proofs.lemmas.Nat.Bits.{bit_at-zero, bit_at_ones, bit_at_ones_above, bit_at_above, bit_at-lt, bit_at_or, bit_at_and, bit_at_xor, bit_at_set_same, bit_at_set_other, bit_at-trailing_zeros}
-use Rattle.std.proofs.lemmas.Option.{same_Some}
-use Rattle.std.proofs.lemmas.List.{length-replicate, get_or-replicate, get_or_past}
-use Rattle.isa_model.specs.declared.registers.Reg.{Reg}
-use Rattle.isa_model.specs.Code.Registers.{reg_number}
 use Rattle.isa_model.proofs.RegisterLaws.{same_number, reg_number-below}
-use Rattle.control_flow.specs.declared.masks.RegisterMask.{RegisterMask}
 use Rattle.control_flow.specs.declared.slot_masks.SlotMask.{SlotMask}
 use Rattle.control_flow.proofs.RegisterLaws.{numbered}
-use Rattle.control_flow.specs.declared.homes.HomeMask.{HomeMask}
-use Rattle.control_flow.specs.Liveness.{Home, InRegister, InSlot}
-use Rattle.control_flow.specs.Masks.{no_registers, HasRegister, no_slots, HasSlot, no_homes, HasHome, mask_at}
 
 -- ---- one register more
 

@@ -1,16 +1,6 @@
 -- One slot that is taken from the work list: what it adds to the masks, and that a mask which
 -- grows has less room.
-use Rattle.std.proofs.Common.{◌≡◌, ℕ, zero, suc, ◌^◌, ◌<◌, ◌≤◌, true, false, eqb, eq-eqb, List, length, set, Option, Some, None, refl, sym, ap, ◌∙◌, subst, arith, inl, inr}
-use Rattle.std.specs.Prelude.{◌↔◌, ◌⊎◌, ◌&&◌, slice_get}
-use Rattle.std.proofs.lemmas.Bool.{cases_eq}
-use Rattle.std.proofs.lemmas.Option.{same_Some}
-use Rattle.std.proofs.lemmas.List.{get_or-set_same, get_or-set_other, length-set}
-use Rattle.std.proofs.lemmas.List.Sums.{sum_by-set}
-use Rattle.control_flow.specs.declared.homes.HomeMask.{HomeMask}
-use Rattle.control_flow.specs.declared.nodes.Node.{Node}
-use Rattle.control_flow.specs.Masks.{HasHome, no_homes, mask_at}
-use Rattle.control_flow.specs.Liveness.{Home}
-use Rattle.control_flow.specs.Nodes.{IsWanted, HasBehind, IsWantedBehind, IsWantedBefore, AreSound, room_in, AddsAt}
+use Rattle.control_flow.proofs.Common.{◌≡◌, ℕ, zero, suc, ◌^◌, ◌<◌, ◌≤◌, true, false, eqb, eq-eqb, List, length, set, Option, Some, None, refl, sym, ap, ◌∙◌, subst, arith, inl, inr, ◌↔◌, ◌⊎◌, ◌&&◌, slice_get, cases_eq, same_Some, get_or-set_same, get_or-set_other, length-set, sum_by-set, HomeMask, Node, HasHome, no_homes, mask_at, Home, IsWanted, HasBehind, IsWantedBehind, IsWantedBefore, AreSound, room_in, AddsAt}
 
 -- ---- one slot
 

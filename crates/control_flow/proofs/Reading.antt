@@ -1,15 +1,5 @@
 -- Which registers instructions read and write: what the tests of one register say.
-use Rattle.std.proofs.Common.{◌≡◌, ◌++◌, ◌∷◌, [], List, Option, Some, None, refl, sym, ◌∙◌, inl, inr}
-use Rattle.std.specs.Prelude.{◌↔◌, ◌⊎◌, ℤ}
-use Rattle.std.specs.Option.{option_to_list}
-use Rattle.std.proofs.lemmas.Option.{same_Some}
-use Rattle.isa_model.specs.declared.registers.Reg.{Reg}
-use Rattle.isa_model.specs.declared.instructions.Insn.{Insn}
-use Rattle.isa_model.specs.declared.instructions.Insn.TheVariants.{CallHelper, CallLocal, Exit}
-use Rattle.isa_model.specs.Code.Instructions.{reads, writes}
-use Rattle.isa_model.specs.MustAccept.Paths.{IsOneOf}
-use Rattle.isa_model.proofs.InstructionLaws.{IsOneOf-option}
-use Rattle.control_flow.specs.Accesses.{read_registers, written_registers}
+use Rattle.control_flow.proofs.Common.{◌≡◌, ◌++◌, ◌∷◌, [], List, Option, Some, None, refl, sym, ◌∙◌, inl, inr, ◌↔◌, ◌⊎◌, ℤ, option_to_list, same_Some, Reg, Insn, CallHelper, CallLocal, Exit, reads, writes, IsOneOf, IsOneOf-option, read_registers, written_registers}
 
 -- ---- registers among registers
 

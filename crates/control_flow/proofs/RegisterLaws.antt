@@ -1,9 +1,5 @@
 -- Registers and their numbers.
-use Rattle.std.proofs.Common.{◌≡◌, ℕ, zero, suc, ◌<◌, Some, refl, ap, ◌∙◌, arith}
-use Rattle.std.proofs.lemmas.Option.{same_Some}
-use Rattle.isa_model.specs.declared.registers.Reg.{Reg}
-use Rattle.isa_model.specs.declared.registers.Reg.TheVariants.{R0, R1, R2, R3, R4, R5, R6, R7, R8, R9, R10}
-use Rattle.isa_model.specs.Code.Registers.{reg_number, reg_numbered}
+use Rattle.control_flow.proofs.Common.{◌≡◌, ℕ, zero, suc, ◌<◌, Some, refl, ap, ◌∙◌, arith, same_Some, Reg, R0, R1, R2, R3, R4, R5, R6, R7, R8, R9, R10, reg_number, reg_numbered}
 
 -- each number below 11 is a register's
 pub numbered : (n : ℕ) → n < 11 → (r : Reg) × (reg_numbered n ≡ Some r) × (reg_number r ≡ n)

@@ -1,15 +1,5 @@
 -- Searches for slots: what the finding of a slot changes, and what the loop of a search keeps.
-use Rattle.std.proofs.Common.{◌≡◌, ℕ, zero, suc, ◌+◌, ◌<◌, Bool, true, false, not, cond, List, [], ◌∷◌, ◌++◌, length, get_or, set, replicate, Option, Some, refl, sym, ap, ◌∙◌, subst, arith, inl, inr}
-use Rattle.std.specs.Prelude.{◌↔◌, ◌⊎◌, count_by, sum_by, Contains}
-use Rattle.std.proofs.lemmas.Bool.{cases_eq}
-use Rattle.std.proofs.lemmas.Option.{same_Some}
-use Rattle.std.proofs.lemmas.List.{length-set, length-append, length-replicate}
-use Rattle.std.proofs.lemmas.List.Sums.{sum_by-set}
-use Rattle.std.proofs.lemmas.List.Elements.{Contains-append_left, Contains-append_right, Contains-append_cases}
-use Rattle.isa_model.specs.Code.Instructions.{Program}
-use Rattle.control_flow.specs.Graph.{HasEdge, Falls, Jumps, Calls, ReachedIn, Reached, fall_to, jump_to, call_to}
-use Rattle.control_flow.specs.Flows.{IsMarked}
-use Rattle.control_flow.specs.Searches.{Extends}
+use Rattle.control_flow.proofs.Common.{◌≡◌, ℕ, zero, suc, ◌+◌, ◌<◌, Bool, true, false, not, cond, List, [], ◌∷◌, ◌++◌, length, get_or, set, replicate, Option, Some, refl, sym, ap, ◌∙◌, subst, arith, inl, inr, ◌↔◌, ◌⊎◌, count_by, sum_by, Contains, cases_eq, same_Some, length-set, length-append, length-replicate, sum_by-set, Contains-append_left, Contains-append_right, Contains-append_cases, Program, HasEdge, Falls, Jumps, Calls, ReachedIn, Reached, fall_to, jump_to, call_to, IsMarked, Extends}
 use Rattle.control_flow.proofs.MarkLemmas.{IsMarked-inside, IsMarked-set, set-IsMarked, set-IsMarked_here, new-IsMarked}
 
 -- ---- elements

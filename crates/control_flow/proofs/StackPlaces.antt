@@ -1,14 +1,7 @@
 -- The byte and the stack slot of a call frame at a place, by what `byte_of` returns of it.
-use Rattle.std.proofs.Common.{◌≡◌, ℕ, ◌*◌, ◌/◌, ◌%◌, ◌<◌, Option, Some, sym, ap, ◌∙◌, arith, inl, inr}
-use Rattle.std.specs.Prelude.{◌↔◌, ℤ, pos, ◌-ℤ◌}
-use Rattle.std.proofs.lemmas.Option.{same_Some}
-use Rattle.isa_model.specs.declared.registers.Reg.{Reg}
-use Rattle.isa_model.specs.declared.registers.Reg.TheVariants.{R10}
-use Rattle.isa_model.specs.declared.instructions.Place.{Place}
+use Rattle.control_flow.proofs.Common.{◌≡◌, ℕ, ◌*◌, ◌/◌, ◌%◌, ◌<◌, Option, Some, sym, ap, ◌∙◌, arith, inl, inr, ◌↔◌, ℤ, pos, ◌-ℤ◌, same_Some, Reg, R10, Place, IsByte, IsWithinSlot, IsWholeSlot, MayBeInSlot}
 use Rattle.isa_model.specs.Code.Limits.{stack_size}
 use Rattle.isa_model.specs.MustAccept.Determined.{stack_slot_offset}
-use Rattle.control_flow.specs.StackUse.{IsByte, IsWithinSlot, IsWholeSlot}
-use Rattle.control_flow.specs.TestedNumbers.{MayBeInSlot}
 
 abbrev some_number : ℕ → Option ℕ
 some_number n = Some n

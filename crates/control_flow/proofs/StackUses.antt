@@ -1,18 +1,8 @@
 -- Which stack slots instructions read and write, and which take the call frame's address.
-use Rattle.std.proofs.Common.{◌≡◌, ℕ, ◌<◌, ◌≤◌, length, refl, arith}
-use Rattle.std.specs.Prelude.{◌↔◌, ℤ}
+use Rattle.control_flow.proofs.Common.{◌≡◌, ℕ, ◌<◌, ◌≤◌, length, refl, arith, ◌↔◌, ℤ, Reg, R10, Place, Insn, Load, LoadSx, Store, StoreConstant, Program, IsOneOf, read_registers, ReadsSlot, WritesSlot, TakesFrameAddress, TakesFrameAddressAt, FrameAddressIsTaken}
 use Rattle.isa_model.specs.declared.sizes.Size.{Size}
 use Rattle.isa_model.specs.declared.sizes.Size.TheVariants.{U64}
 use Rattle.isa_model.specs.declared.sizes.SignedSize.{SignedSize}
-use Rattle.isa_model.specs.declared.registers.Reg.{Reg}
-use Rattle.isa_model.specs.declared.registers.Reg.TheVariants.{R10}
-use Rattle.isa_model.specs.declared.instructions.Place.{Place}
-use Rattle.isa_model.specs.declared.instructions.Insn.{Insn}
-use Rattle.isa_model.specs.declared.instructions.Insn.TheVariants.{Load, LoadSx, Store, StoreConstant}
-use Rattle.isa_model.specs.Code.Instructions.{Program}
-use Rattle.isa_model.specs.MustAccept.Paths.{IsOneOf}
-use Rattle.control_flow.specs.Accesses.{read_registers}
-use Rattle.control_flow.specs.StackUse.{ReadsSlot, WritesSlot, TakesFrameAddress, TakesFrameAddressAt, FrameAddressIsTaken}
 use Rattle.control_flow.proofs.FlowLaws.{BeginsInsn-inside, fetch-BeginsInsn}
 
 pub reads_below : (i : Insn) (j : ℕ) → ReadsSlot i j → j < 64

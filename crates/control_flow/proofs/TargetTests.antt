@@ -1,18 +1,6 @@
 -- How a loop over the slots finds the lowest one at which a test fails, and what the tests return.
-use Rattle.std.proofs.Common.{◌≡◌, ℕ, ◌+◌, ◌<◌, ◌≤◌, Bool, false, not, length, Option, Some, None, refl, sym, ◌∙◌, subst, arith, inl, inr}
-use Rattle.std.specs.Prelude.{◌↔◌, IsTrue, IsSome}
-use Rattle.std.proofs.lemmas.Option.{none-some, same_Some}
-use Rattle.std.proofs.lemmas.Bool.{cases_lt, iff_false, not-true, not_from_false, false_from_ne_true}
-use Rattle.std.specs.Option.{option_map, option_and_then}
-use Rattle.isa_model.specs.declared.instructions.Insn.{Insn}
-use Rattle.isa_model.specs.declared.instructions.Insn.TheVariants.{Jump, JumpLong, JumpIf, CallLocal}
-use Rattle.isa_model.specs.Code.Instructions.{Program, fetch}
+use Rattle.control_flow.proofs.Common.{◌≡◌, ℕ, ◌+◌, ◌<◌, ◌≤◌, Bool, false, not, length, Option, Some, None, refl, sym, ◌∙◌, subst, arith, inl, inr, ◌↔◌, IsTrue, IsSome, none-some, same_Some, cases_lt, iff_false, not-true, not_from_false, false_from_ne_true, option_map, option_and_then, Insn, Jump, JumpLong, JumpIf, CallLocal, Program, fetch, jump_distance, FlowError, TargetOutside, SecondHalf, BeginsInsn, IsSecondHalf, call_distance, jump_to, call_to, Fails, HasTarget}
 use Rattle.isa_model.specs.Machine.Steps.{destination}
-use Rattle.isa_model.specs.Machine.Successors.{jump_distance}
-use Rattle.control_flow.specs.declared.errors.FlowError.{FlowError}
-use Rattle.control_flow.specs.declared.errors.FlowError.TheVariants.{TargetOutside, SecondHalf}
-use Rattle.control_flow.specs.Graph.{BeginsInsn, IsSecondHalf, call_distance, jump_to, call_to}
-use Rattle.control_flow.specs.Flows.{Fails, HasTarget}
 use Rattle.control_flow.proofs.FlowLaws.{Fails-inside}
 
 -- ---- loops

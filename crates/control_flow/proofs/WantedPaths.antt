@@ -1,18 +1,5 @@
 -- What is wanted in a graph of nodes is what is live, or tested, in the program that they show.
-use Rattle.std.proofs.Common.{◌≡◌, ℕ, zero, suc, ◌<◌, List, length, Some, refl, sym, ◌∙◌, subst, inl, inr}
-use Rattle.std.specs.Prelude.{◌↔◌, ◌⊎◌, slice_get}
-use Rattle.std.proofs.lemmas.Option.{same_Some}
-use Rattle.isa_model.specs.declared.instructions.Insn.{Insn}
-use Rattle.isa_model.specs.Code.Instructions.{Program, fetch}
-use Rattle.control_flow.specs.declared.homes.HomeMask.{HomeMask}
-use Rattle.control_flow.specs.declared.nodes.Node.{Node}
-use Rattle.control_flow.specs.Graph.{HasEdge, Falls, Jumps}
-use Rattle.control_flow.specs.Flows.{AreLiveMasks, AreTestedMasks}
-use Rattle.control_flow.specs.Masks.{HasHome}
-use Rattle.control_flow.specs.StackUse.{FrameAddressIsTaken}
-use Rattle.control_flow.specs.Liveness.{Home, InRegister, InSlot, IsWrittenBy, GoesTo, IsReadAfter, IsHomeLive}
-use Rattle.control_flow.specs.TestedNumbers.{TestsHome, MayRead, MayWrite, PassesAt, IsTestedAfter, IsNumberTested}
-use Rattle.control_flow.specs.Nodes.{HasEdges, ShowsReads, ShowsTests, AreNodes, PassesOn, IsWantedAfter, IsWanted, AreWantedMasks}
+use Rattle.control_flow.proofs.Common.{◌≡◌, ℕ, zero, suc, ◌<◌, List, length, Some, refl, sym, ◌∙◌, subst, inl, inr, ◌↔◌, ◌⊎◌, slice_get, same_Some, Insn, Program, fetch, HomeMask, Node, HasEdge, Falls, Jumps, AreLiveMasks, AreTestedMasks, HasHome, FrameAddressIsTaken, Home, InRegister, InSlot, IsWrittenBy, GoesTo, IsReadAfter, IsHomeLive, TestsHome, MayRead, MayWrite, PassesAt, IsTestedAfter, IsNumberTested, HasEdges, ShowsReads, ShowsTests, AreNodes, PassesOn, IsWantedAfter, IsWanted, AreWantedMasks}
 use Rattle.control_flow.proofs.FlowLaws.{BeginsInsn-inside, fetch-BeginsInsn, HasEdge-inside, HasEdge-insn}
 use Rattle.control_flow.proofs.MaskLemmas.{no_home}
 use Rattle.control_flow.proofs.Graphs.{node_at}

@@ -1,16 +1,7 @@
 -- The tests as a whole: what they say together.
-use Rattle.std.proofs.Common.{◌≡◌, ℕ, ◌+◌, ◌<◌, ◌≤◌, Bool, false, List, length, Some, None, refl, ap, ◌∙◌, subst, arith, inl, inr}
-use Rattle.std.specs.Prelude.{◌↔◌, ◌≢◌, slice_index_or}
-use Rattle.std.proofs.lemmas.Bool.{cases_lt, cases_eq, cases_Bool}
-use Rattle.isa_model.specs.Code.Instructions.{Program, fetch, slots_filled}
-use Rattle.isa_model.proofs.InstructionLaws.{slots_filled-cases}
+use Rattle.control_flow.proofs.Common.{◌≡◌, ℕ, ◌+◌, ◌<◌, ◌≤◌, Bool, false, List, length, Some, None, refl, ap, ◌∙◌, subst, arith, inl, inr, ◌↔◌, ◌≢◌, slice_index_or, cases_lt, cases_eq, cases_Bool, Program, fetch, slots_filled, slots_filled-cases, FlowError, TargetOutside, SecondHalf, OtherFunction, FallsOff, Unreachable, Memory, BeginsInsn, fall_to, HasEdge, Falls, Jumps, Calls, Reached, BeginsFunction, SameFunction, IsFlow, IsMarked, Fails, test_rank, IsRefusal}
 use Rattle.image.specs.Images.{IsImage}
 use Rattle.image.proofs.ImageLaws.{fetch-next, fetch-second}
-use Rattle.control_flow.specs.declared.errors.FlowError.{FlowError}
-use Rattle.control_flow.specs.declared.errors.FlowError.TheVariants.{TargetOutside, SecondHalf, OtherFunction, FallsOff, Unreachable, Memory}
-use Rattle.control_flow.specs.Graph.{BeginsInsn, fall_to, HasEdge, Falls, Jumps, Calls, Reached}
-use Rattle.control_flow.specs.Functions.{BeginsFunction, SameFunction}
-use Rattle.control_flow.specs.Flows.{IsFlow, IsMarked, Fails, test_rank, IsRefusal}
 use Rattle.control_flow.proofs.FlowLaws.{BeginsInsn-insn, fetch-BeginsInsn, fall_to-behind, IsFlow-Fails}
 use Rattle.control_flow.proofs.TargetTests.{jump-inside, call-inside, target-BeginsInsn}
 

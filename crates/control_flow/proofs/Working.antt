@@ -1,20 +1,6 @@
 -- The loop of the work list: what the list keeps, that it ends, and what the masks have when it is
 -- empty.
-use Rattle.std.proofs.Common.{◌≡◌, ◌≢◌, ℕ, zero, suc, ◌+◌, ◌*◌, ◌<◌, ◌≤◌, Bool, true, false, not, cond, List, [], ◌∷◌, ◌++◌, length, take, drop, replicate, get_or, set, sum_by, Option, Some, None, refl, sym, ap, ◌∙◌, subst, arith, inl, inr}
-use Rattle.std.specs.Prelude.{◌⊎◌, slice_get, count_by, Contains}
-use Rattle.std.proofs.lemmas.Bool.{cases_eq}
-use Rattle.std.proofs.lemmas.Option.{same_Some, slice_get_within}
-use Rattle.std.proofs.lemmas.List.{get_or-set_same, get_or-set_other, length-set, length-append, length-replicate, get_or-replicate, append-nil, take_all}
-use Rattle.std.proofs.Math.ListN.{drop_of_length-le}
-use Rattle.std.proofs.lemmas.List.Sums.{sum_by-set, sum_by-cons}
-use Rattle.std.proofs.lemmas.List.Elements.{Contains-append_left, Contains-append_cases}
-use Rattle.control_flow.specs.declared.homes.HomeMask.{HomeMask}
-use Rattle.control_flow.specs.declared.nodes.Node.{Node}
-use Rattle.control_flow.specs.Flows.{IsMarked}
-use Rattle.control_flow.specs.Masks.{HasHome, no_homes, mask_at}
-use Rattle.control_flow.specs.Liveness.{Home}
-use Rattle.control_flow.specs.Nodes.{IsWantedAfter, AreWantedMasks, ComesFrom, HasBehind, IsWantedBefore, AreSound, HasWantedBefore, room_left, AddsAt}
-use Rattle.control_flow.specs.Searches.{Extends, HasAll}
+use Rattle.control_flow.proofs.Common.{◌≡◌, ◌≢◌, ℕ, zero, suc, ◌+◌, ◌*◌, ◌<◌, ◌≤◌, Bool, true, false, not, cond, List, [], ◌∷◌, ◌++◌, length, take, drop, replicate, get_or, set, sum_by, Option, Some, None, refl, sym, ap, ◌∙◌, subst, arith, inl, inr, ◌⊎◌, slice_get, count_by, Contains, cases_eq, same_Some, slice_get_within, get_or-set_same, get_or-set_other, length-set, length-append, length-replicate, get_or-replicate, append-nil, take_all, drop_of_length-le, sum_by-set, sum_by-cons, Contains-append_left, Contains-append_cases, HomeMask, Node, IsMarked, HasHome, no_homes, mask_at, Home, IsWantedAfter, AreWantedMasks, ComesFrom, HasBehind, IsWantedBefore, AreSound, HasWantedBefore, room_left, AddsAt, Extends, HasAll}
 use Rattle.control_flow.proofs.MarkLemmas.{IsMarked-inside}
 use Rattle.control_flow.proofs.MaskLemmas.{no_home, mask_at-none}
 use Rattle.control_flow.proofs.SlotSearch.{Contains-one, no-Contains, on_top}

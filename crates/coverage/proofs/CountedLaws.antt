@@ -1,8 +1,5 @@
 -- Laws of counts by index.
-use Rattle.std.proofs.Common.{◌≡◌, ℕ, ◌+◌, ◌<◌, ◌≤◌, ◌%◌, ◌^◌, if◌then◌else◌, cond, Bool, true, false, List, [], ◌∷◌, ◌++◌, length, slice_index, get_or, replicate, count_by, sym, ap, ◌∙◌, subst, refl, arith, mod-eq_of_lt}
-use Rattle.std.proofs.lemmas.List.{get_or-replicate, length-replicate}
-use Rattle.std.proofs.lemmas.List.Sums.{sum_by_push, count_by-le-length}
-use Rattle.coverage.specs.Counted.{CountsExactly, CountsModulo}
+use Rattle.coverage.proofs.Common.{◌≡◌, ℕ, ◌+◌, ◌<◌, ◌≤◌, ◌%◌, ◌^◌, if◌then◌else◌, cond, Bool, true, false, List, [], ◌∷◌, ◌++◌, length, slice_index, get_or, replicate, count_by, sym, ap, ◌∙◌, subst, refl, arith, mod-eq_of_lt, get_or-replicate, length-replicate, sum_by_push, count_by-le-length, CountsExactly, CountsModulo}
 
 -- one more element is counted where it passes
 pub count_by-push : {A : Type 0} (p : A → Bool) (xs : List A) (x : A)

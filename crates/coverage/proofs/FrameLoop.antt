@@ -1,16 +1,10 @@
 -- The loops over the frames of a stream.
-use Rattle.std.proofs.Common.{◌≡◌, ℕ, ◌+◌, ◌<◌, ◌≤◌, List, [], ◌∷◌, ◌++◌, length, Bool, Option, Result, sym, ap, ◌∙◌, subst, arith, length-append, inl}
+use Rattle.coverage.proofs.Common.{◌≡◌, ℕ, ◌+◌, ◌<◌, ◌≤◌, List, [], ◌∷◌, ◌++◌, length, Bool, Option, Result, sym, ap, ◌∙◌, subst, arith, length-append, inl, Version, Program, KeyValues, PacketFrame, max_frames, checked_rule, contents_after, contents_left, turn_on, HasBegun, HasBegun-opens, HasBegun-found}
 use Rattle.isa_model.specs.declared.streams.Fault.{Fault}
-use Rattle.isa_model.specs.declared.versions.Version.{Version}
-use Rattle.isa_model.specs.Code.Instructions.{Program}
-use Rattle.isa_model.specs.Machine.States.{KeyValues}
-use Rattle.isa_model.specs.Reporting.Streams.{PacketFrame, max_frames}
-use Rattle.isa_model.specs.Reporting.Reports.{checked_rule, contents_after, contents_left, turn_on}
 use Rattle.frames.specs.Sources.{Origin}
 use Rattle.frames.specs.Readers.{Position, Fresh, ReaderState}
 use Rattle.frames.specs.Reading.{OpensStream, begun_at, Finds, Found}
 use Rattle.frames.specs.Inputs.{IsBegunVersion}
-use Rattle.frames.proofs.InputsLaws.{HasBegun, HasBegun-opens, HasBegun-found}
 use Rattle.coverage.proofs.RunsLaws.{contents_after-one}
 
 -- a reader of a source that was made, and then read the magic

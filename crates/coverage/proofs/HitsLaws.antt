@@ -1,20 +1,9 @@
 -- Laws of what is counted over a stream.
-use Rattle.std.proofs.Common.{◌≡◌, ℕ, ◌+◌, ◌*◌, ◌<◌, ◌≤◌, ◌%◌, ◌^◌, ◌==◌, if◌then◌else◌, Bool, true, false, List, [], ◌∷◌, ◌++◌, length, map, cond, count_by, slice_index, Option, append-nil, sym, ap, ◌∙◌, subst, refl, arith, mod-eq_of_lt, mul-le-mul_right, mul-le-mul_left, lit<, length-append}
+use Rattle.coverage.proofs.Common.{◌≡◌, ℕ, ◌+◌, ◌*◌, ◌<◌, ◌≤◌, ◌%◌, ◌^◌, ◌==◌, if◌then◌else◌, Bool, true, false, List, [], ◌∷◌, ◌++◌, length, map, cond, count_by, slice_index, Option, append-nil, sym, ap, ◌∙◌, subst, refl, arith, mod-eq_of_lt, mul-le-mul_right, mul-le-mul_left, lit<, length-append, End, Program, State, KeyValues, PacketFrame, max_frames, sum_by-cons, count_by-le-length, checked_rule, contents_after, begun_on, CountsExactly, CountsModulo, states_of, states_in, ends_of, ends_in, steps_by, is_number, is_at, jumps_at, falls_at, takes, ends_by, has_reason, HasCounted, HasCountedFrames, CountsFrames}
 use Rattle.isa_model.specs.declared.instructions.Insn.{Insn}
-use Rattle.isa_model.specs.declared.ends.End.{End}
-use Rattle.isa_model.specs.Code.Instructions.{Program}
 use Rattle.isa_model.specs.Code.Limits.{max_steps}
-use Rattle.isa_model.specs.Machine.States.{State, KeyValues}
-use Rattle.isa_model.specs.Reporting.Streams.{PacketFrame, max_frames}
-use Rattle.std.proofs.lemmas.List.Sums.{sum_by-cons, count_by-le-length}
-use Rattle.isa_model.specs.Reporting.Reports.{checked_rule, contents_after}
-use Rattle.checked_vm.specs.Watching.{begun_on}
 use Rattle.coverage.specs.declared.slot_hits.SlotHits.{SlotHits}
 use Rattle.coverage.specs.declared.stream_hits.StreamHits.{StreamHits}
-use Rattle.coverage.specs.Counted.{CountsExactly, CountsModulo}
-use Rattle.coverage.specs.Runs.{states_of, states_in, ends_of, ends_in, steps_by}
-use Rattle.coverage.specs.Ranks.{is_number}
-use Rattle.coverage.specs.Hits.{is_at, jumps_at, falls_at, takes, ends_by, has_reason, HasCounted, HasCountedFrames, CountsFrames}
 use Rattle.coverage.proofs.CountedLaws.{count_by-push, CountsModulo-push, Counts-few}
 use Rattle.coverage.proofs.RunsLaws.{states_in-push, ends_in-push, states_in-most, ends_in-most}
 

@@ -1,3 +1,4 @@
+mod Common
 pub mod CountedLaws
 pub mod RunsLaws
 pub mod RanksLaws

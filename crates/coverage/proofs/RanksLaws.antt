@@ -1,9 +1,7 @@
 -- Laws of the ranks of numbers that were counted.
-use Rattle.std.proofs.Common.{◌≡◌, ℕ, ◌+◌, ◌<◌, ◌≤◌, ◌==◌, if◌then◌else◌, cond, Bool, true, false, nat_lt, nat_le, List, [], ◌∷◌, length, count_by, All, refl, sym, ap, ◌∙◌, arith}
+use Rattle.coverage.proofs.Common.{◌≡◌, ℕ, ◌+◌, ◌<◌, ◌≤◌, ◌==◌, if◌then◌else◌, cond, Bool, true, false, nat_lt, nat_le, List, [], ◌∷◌, length, count_by, All, refl, sym, ap, ◌∙◌, arith, sum_by-cons, is_number}
 use Rattle.std.proofs.lemmas.Bool.{lt-ltb, ltb-true, le-ltb, ltb-false, leb-true, leb-false, eqb-true, eqb-false}
 use Rattle.std.proofs.lemmas.List.Elements.{All-head, All-tail}
-use Rattle.std.proofs.lemmas.List.Sums.{sum_by-cons}
-use Rattle.coverage.specs.Ranks.{is_number}
 
 count_by-cons : {A : Type 0} (p : A → Bool) (x : A) (xs : List A)
     → count_by p (x ∷ xs) ≡ (if p x then 1 else 0) + count_by p xs

@@ -1,18 +1,11 @@
 -- Laws of the runs of a stream's frames.
-use Rattle.std.proofs.Common.{◌≡◌, ℕ, zero, suc, ◌+◌, ◌*◌, ◌<◌, ◌≤◌, ◌^◌, ◌==◌, if◌then◌else◌, Bool, true, false, List, [], ◌∷◌, ◌++◌, length, map, All, sym, ap, ◌∙◌, subst, refl, arith, append_assoc, append-nil, length-append}
+use Rattle.coverage.proofs.Common.{◌≡◌, ℕ, zero, suc, ◌+◌, ◌*◌, ◌<◌, ◌≤◌, ◌^◌, ◌==◌, if◌then◌else◌, Bool, true, false, List, [], ◌∷◌, ◌++◌, length, map, All, sym, ap, ◌∙◌, subst, refl, arith, append_assoc, append-nil, length-append, End, Program, State, KeyValues, PacketFrame, Rule, checked_rule, turn_on, contents_left, contents_after, beginning, begun_in, begun_on, states_of, states_in, ends_of, ends_in, steps_by, steps_in}
 use Rattle.std.proofs.lemmas.List.Elements.{All-nil, All-cons, All-append, All-map}
 use Rattle.isa_model.specs.declared.frames.FrameHead.{FrameHead}
-use Rattle.isa_model.specs.declared.ends.End.{End}
 use Rattle.isa_model.specs.declared.ends.End.TheVariants.{Exit, Trap, Limit}
-use Rattle.isa_model.specs.Code.Instructions.{Program}
-use Rattle.isa_model.specs.Machine.States.{State, KeyValues}
 use Rattle.isa_model.specs.Machine.Steps.{StepResult, Next, Finished, Trapped, step}
 use Rattle.isa_model.specs.Running.Runs.{Progress, GoesOn, Ended, after_step, advanced, progress, start_state, turn_of, turn}
-use Rattle.isa_model.specs.Reporting.Streams.{PacketFrame}
-use Rattle.isa_model.specs.Reporting.Reports.{Rule, checked_rule, turn_on, contents_left, contents_after}
 use Rattle.isa_model.proofs.RunLaws.{progress-zero, progress-suc}
-use Rattle.checked_vm.specs.Watching.{beginning, begun_in, begun_on}
-use Rattle.coverage.specs.Runs.{states_of, states_in, ends_of, ends_in, steps_by, steps_in}
 
 -- ---- one more frame
 

@@ -1,16 +1,10 @@
 -- Laws of the frame whose run is shown.
-use Rattle.std.proofs.Common.{◌≡◌, ℕ, ◌≤◌, List, [], ◌∷◌, ◌++◌, length, Option, sym, ap, ◌∙◌, subst}
+use Rattle.coverage.proofs.Common.{◌≡◌, ℕ, ◌≤◌, List, [], ◌∷◌, ◌++◌, length, Option, sym, ap, ◌∙◌, subst, Version, Program, KeyValues, PacketFrame, stream_with, checked_rule, contents_after, HasBegun, HasBegun-open, HasBegun-found, HasBegun-stopped, HasFound-begins}
 use Rattle.isa_model.specs.declared.streams.Finish.{Finish}
-use Rattle.isa_model.specs.declared.versions.Version.{Version}
-use Rattle.isa_model.specs.Code.Instructions.{Program}
-use Rattle.isa_model.specs.Machine.States.{KeyValues}
-use Rattle.isa_model.specs.Reporting.Streams.{PacketFrame, stream_with}
-use Rattle.isa_model.specs.Reporting.Reports.{checked_rule, contents_after}
 use Rattle.checked_vm.specs.Machines.{LoadedProgram}
 use Rattle.frames.specs.Sources.{Origin}
 use Rattle.frames.specs.Readers.{Position}
 use Rattle.frames.specs.Reading.{Finds, Found, Stopped}
-use Rattle.frames.proofs.InputsLaws.{HasBegun, HasBegun-open, HasBegun-found, HasBegun-stopped, HasFound-begins}
 use Rattle.coverage.specs.declared.frame_steps.FrameFound.{FrameFound}
 use Rattle.coverage.specs.declared.frame_steps.FrameFound.TheVariants as answers
 use Rattle.coverage.specs.Steps.{ShowsFrame, FindsFrame, HasNoFrame}

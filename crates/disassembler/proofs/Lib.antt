@@ -1,3 +1,4 @@
+mod Common
 pub mod Written
 pub mod HexadecimalLaws
 pub mod SlotTextLaws

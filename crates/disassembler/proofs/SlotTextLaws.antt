@@ -1,9 +1,6 @@
 -- Laws of the definitions in specs/SlotText.
-use Rattle.std.proofs.Common.{◌≡◌, List, [], ◌∷◌, ◌++◌, Option, Some, None, refl, ap}
-use Rattle.std.specs.List.{flat_map}
+use Rattle.disassembler.proofs.Common.{◌≡◌, List, [], ◌∷◌, ◌++◌, Option, Some, None, refl, ap, flat_map, line_of, instructions, code_text, slot_text}
 use Rattle.isa_model.specs.declared.instructions.Insn.{Insn}
-use Rattle.isa_model.specs.Text.CanonicalText.{line_of, instructions, code_text}
-use Rattle.disassembler.specs.SlotText.{slot_text}
 
 -- the texts of the slots, one after the other, are those of the instructions
 pub slot_text-code : (xs : List (Option Insn)) → flat_map slot_text xs ≡ code_text (instructions xs)

@@ -1,11 +1,8 @@
 -- Laws of texts that were written in part.
-use Rattle.std.proofs.Common.{◌≡◌, ℕ, suc, ◌<◌, List, ◌++◌, take, drop, length, get_or, Option, sym, ap, ◌∙◌, subst, drop-cons}
-use Rattle.std.specs.List.{flat_map}
+use Rattle.disassembler.proofs.Common.{◌≡◌, ℕ, suc, ◌<◌, List, ◌++◌, take, drop, length, get_or, Option, sym, ap, ◌∙◌, subst, drop-cons, flat_map, Appends, AppendsBeginning-first, AppendsBeginning-second}
 use Rattle.std.proofs.lemmas.Grind.{flat_map-append}
 use Rattle.std.proofs.lemmas.List.{take-append-drop}
-use Rattle.std.specs.Io.KnownBytes.{Appends}
 use Rattle.exact_io.specs.Transfers.{AppendsBeginning}
-use Rattle.exact_io.proofs.TransferLaws.{AppendsBeginning-first, AppendsBeginning-second}
 
 -- texts, one after the other, in three parts at one of them
 texts-split : {X : Type 0} (text : X → List ℕ) (xs : List X) (k : ℕ) (x d : X) → k < length xs

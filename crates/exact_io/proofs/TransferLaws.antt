@@ -1,9 +1,5 @@
 -- Laws of two parts that are written one after the other, also where one of the writes failed.
-use Rattle.std.proofs.Common.{◌≡◌, ℕ, ◌+◌, List, ◌++◌, length, take, drop, Option, Result, Ok, Err, OnOk, OnErr, refl, sym, ap, ◌∙◌, subst, length-append, arith}
-use Rattle.std.proofs.lemmas.List.{take_at, drop_at, take-append-le}
-use Rattle.std.specs.Io.KnownBytes.{Appends}
-use Rattle.std.proofs.KnownBytes.{Appends-trans}
-use lib.Seq.{take-add}
+use Rattle.exact_io.proofs.Common.{◌≡◌, ℕ, ◌+◌, List, ◌++◌, length, take, drop, Option, Result, Ok, Err, OnOk, OnErr, refl, sym, ap, ◌∙◌, subst, length-append, arith, take_at, drop_at, take-append-le, Appends, Appends-trans, take-add}
 use Rattle.exact_io.specs.Transfers.{AppendsBeginning}
 
 -- a beginning of the first part is a beginning of both

@@ -1,21 +1,15 @@
 -- The text about an entry of a proof table.
-use Rattle.std.proofs.Common.{◌≡◌, ◌<◌, ◌≤◌, ℕ, suc, List, [], ◌∷◌, Option, Some, None, String, Result, Ok, length, refl, subst, sym, ap, ap₂, ◌∙◌, arith, inl, inr}
-use Rattle.std.specs.Prelude.{IfOk, IfSome, slice_get}
+use Rattle.explanations.proofs.Common.{◌≡◌, ◌<◌, ◌≤◌, ℕ, suc, List, [], ◌∷◌, Option, Some, None, String, Result, Ok, length, refl, subst, sym, ap, ap₂, ◌∙◌, arith, inl, inr, IfOk, IfSome, slice_get, string_bytes, State, Entry, TableView, KeepsEntries, entry_at, table_read, Differs, IsInBoth, IsThere, IsMismatch, difference_lines}
 use Rattle.std.specs.declared.alloc.Global.{Global}
 use Rattle.std.specs.declared.alloc.AllocError.{AllocError}
-use Rattle.std.specs.String.{string_bytes}
 use Rattle.isa_model.specs.Code.Instructions.{Program}
-use Rattle.stack_state.specs.declared.states.State.{State}
 use Rattle.transfer.specs.declared.Ways.{Ways}
 use Rattle.transfer.specs.declared.Ways.TheVariants as ways
-use Rattle.table_entries.specs.Entries.{Entry}
-use Rattle.table_entries.specs.Tables.{TableView, KeepsEntries, entry_at, table_read}
 use Rattle.rechecking.specs.declared.errors.TableError.{TableError}
 use Rattle.rechecking.specs.Tables.{EntryAt}
 use Rattle.explanations.specs.declared.entries.EntryReason.{EntryReason}
 use Rattle.explanations.specs.declared.mismatches.Mismatch.{Mismatch}
 use Rattle.explanations.specs.declared.mismatches.Mismatch.TheVariants.{Missing, NotSmaller}
-use Rattle.explanations.specs.Mismatches.{Differs, IsInBoth, IsThere, IsMismatch, difference_lines}
 use Rattle.explanations.specs.Entries.{states_of, ways_in, count_line, TellsNamed, TellsSuccessors, IsReasonAt, IsEntryReason}
 
 -- ---- words

@@ -1,7 +1,6 @@
 -- Fronts of abstract states: the loops that make one, when one covers another state, and where a
 -- front that covers it ends.
-use Rattle.std.proofs.Common.{◌≡◌, ◌<◌, ◌≤◌, ◌+◌, ◌++◌, ℕ, List, length, map, get_or, set, take, drop, refl, sym, ap, ◌∙◌, subst, arith, inl, inr}
-use Rattle.std.specs.Prelude.{Bool, false, IsTrue, max}
+use Rattle.explanations.proofs.Common.{◌≡◌, ◌<◌, ◌≤◌, ◌+◌, ◌++◌, ℕ, List, length, map, get_or, set, take, drop, refl, sym, ap, ◌∙◌, subst, arith, inl, inr, Bool, false, IsTrue, max, State, AreKnownFrom, slot_at, frame_slots, marks_of, abstract_frame_at, depth, frames_of, kind_at, kinds_of, no_frame, stack_slots_of, AreFirstSlots, FrontCovers, FrontEncloses, FrontIsOpen, IsFront, IsFrontOf, count_in}
 use Rattle.std.specs.List.{refill}
 use Rattle.std.proofs.Math.Seq.{take-append_seam}
 use Rattle.std.proofs.lemmas.Bool.{cases_eq, cases_lt}
@@ -14,12 +13,8 @@ use Rattle.reg_state.specs.KindCover.{KindEncloses}
 use Rattle.stack_state.specs.declared.slots.StackSlot.{StackSlot}
 use Rattle.stack_state.specs.declared.slots.StackSlot.TheVariants.{Written}
 use Rattle.stack_state.specs.declared.states.AbstractFrame.{AbstractFrame}
-use Rattle.stack_state.specs.declared.states.State.{State}
-use Rattle.stack_state.specs.Slots.{AreKnownFrom, slot_at, frame_slots, marks_of}
-use Rattle.stack_state.specs.Meaning.{abstract_frame_at, depth, frames_of, kind_at, kinds_of, no_frame, stack_slots_of}
 use Rattle.stack_state.proofs.MeaningLaws.{abstract_frame_at-caller, abstract_frame_at-innermost, length-frames_of}
 use Rattle.state_cover.specs.FrameCover.{AreAmong, SlotEncloses, StateEncloses}
-use Rattle.explanations.specs.Fronts.{AreFirstSlots, FrontCovers, FrontEncloses, FrontIsOpen, IsFront, IsFrontOf, count_in}
 
 -- ---- the loop through registers
 

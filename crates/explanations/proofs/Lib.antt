@@ -1,3 +1,4 @@
+mod Common
 pub mod Texts
 pub mod EntryLaws
 pub mod FrontLaws

@@ -1,13 +1,11 @@
 -- Texts of several lists, line by line; what a loop has found at its end; and the first stack slot
 -- with a byte that is not written.
-use Rattle.std.proofs.Common.{◌≡◌, ◌∙◌, ℕ, suc, ◌+◌, List, [], ◌∷◌, ◌++◌, ap, refl, sym}
+use Rattle.explanations.proofs.Common.{◌≡◌, ◌∙◌, ℕ, suc, ◌+◌, List, [], ◌∷◌, ◌++◌, ap, refl, sym, slot_at, marks_of, first_open}
 use Rattle.std.proofs.lemmas.Bool.{eq-eqb}
 use Rattle.std.proofs.lemmas.Grind.{flat_map-append}
 use Rattle.std.proofs.lemmas.List.{append-nil, append_assoc}
 use Rattle.std.specs.List.{flat_map}
 use Rattle.stack_state.specs.declared.slots.StackSlot.{StackSlot}
-use Rattle.stack_state.specs.Slots.{slot_at, marks_of}
-use Rattle.explanations.specs.Slots.{first_open}
 
 -- ---- lines
 

@@ -1,18 +1,8 @@
 -- Changes of a call frame, one after the other, and taken back.
-use Rattle.std.proofs.Common.{◌≡◌, ◌∙◌, ℕ, zero, suc, ◌+◌, List, [], ◌∷◌, ◌++◌, take, drop, reverse, get_or, set, add-one, length, refl, sym, ap, ap₂, arith}
-use Rattle.std.proofs.Math.Seq.{take-add}
-use Rattle.std.proofs.lemmas.List.{drop_all, take_all, reverse-append, set-set, set-get_or}
-use Rattle.reg_state.specs.declared.kinds.Kind.{Kind}
-use Rattle.stack_state.specs.declared.slots.StackSlot.{StackSlot}
-use Rattle.stack_state.specs.declared.states.AbstractFrame.{AbstractFrame}
-use Rattle.state_index.specs.declared.parts.Part.{Part}
-use Rattle.state_index.specs.declared.parts.Part.TheVariants.{InRegister, InSlot}
-use Rattle.state_index.specs.Parts.{with_part, all_written}
-use Rattle.state_index.proofs.PartLaws.{all_written-append}
+use Rattle.explorer.proofs.Common.{◌≡◌, ◌∙◌, ℕ, zero, suc, ◌+◌, List, [], ◌∷◌, ◌++◌, take, drop, reverse, get_or, set, add-one, length, refl, sym, ap, ap₂, arith, take-add, drop_all, take_all, reverse-append, set-set, set-get_or, Kind, StackSlot, AbstractFrame, Part, InRegister, InSlot, with_part, all_written, all_written-append, IsChanged, changes_of, earlier_parts}
 use Rattle.explorer.specs.declared.part_changes.Change.{Change}
 use Rattle.explorer.specs.declared.changes.ChangedFrame.{ChangedFrame}
 use Rattle.explorer.specs.EarlierParts.{PartStacks, earlier_part, parts_left}
-use Rattle.explorer.specs.Changes.{IsChanged, changes_of, earlier_parts}
 
 pub drop-add : {X : Type 0} (n m : ℕ) (l : List X) → drop (n + m) l ≡ drop m (drop n l)
 drop-add zero m l = let e : zero + m ≡ m = omega arith in ap (λ k. drop k l) e

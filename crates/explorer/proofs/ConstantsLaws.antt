@@ -1,13 +1,6 @@
 -- Constants: what is known of a number, if its bits and each limit leave that number only.
-use Rattle.std.specs.Prelude.{◌≡◌, ℕ}
-use Rattle.std.proofs.Common.{ap₂}
-use Rattle.known_bits.specs.declared.bits.Bits.{Bits}
+use Rattle.explorer.proofs.Common.{◌≡◌, ℕ, ap₂, Bits, Wide, Low, Range, same_wide, same_low, Scalar}
 use Rattle.known_bits.proofs.SameBits.{same_bits}
-use Rattle.ranges.specs.declared.wide.Wide.{Wide}
-use Rattle.ranges.specs.declared.low.Low.{Low}
-use Rattle.ranges.specs.declared.range.Range.{Range}
-use Rattle.ranges.proofs.SameLimits.{same_wide, same_low}
-use Rattle.reg_state.specs.declared.scalars.Scalar.{Scalar}
 use Rattle.reg_state.specs.Scalars.{IsConstant}
 use Rattle.explorer.specs.Constants.{constant_numbers}
 

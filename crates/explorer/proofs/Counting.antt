@@ -1,11 +1,6 @@
 -- How many instructions were explored, along the path.
-use Rattle.std.proofs.Common.{◌≡◌, ◌+◌, ◌∷◌, ◌++◌, [], ℕ, Some, None, Option, List, arith, refl, sym, subst}
-use Rattle.isa_model.specs.Code.Instructions.{Program}
-use Rattle.stack_state.specs.declared.states.State.{State}
+use Rattle.explorer.proofs.Common.{◌≡◌, ◌+◌, ◌∷◌, ◌++◌, [], ℕ, Some, None, Option, List, arith, refl, sym, subst, Program, State, Visit, StepsInto, Takes, Nothing, OneMore, BothMore, TakesBoth, Spends, CountsTo, HasSpent}
 use Rattle.transfer.specs.declared.Ways.TheVariants as ways
-use Rattle.explorer.specs.declared.trail.Visit.{Visit}
-use Rattle.walks.specs.Counts.{StepsInto, Takes, Nothing, OneMore, BothMore}
-use Rattle.explorer.specs.Search.{TakesBoth, Spends, CountsTo, HasSpent}
 
 Takes-same : (p : Program) (s : State) (m n : ℕ) → m ≡ n → Takes p s m → Takes p s n
 Takes-same p s m n e h = subst (Takes p s) e h

@@ -1,19 +1,10 @@
 -- What numbers were, from what differs.
-use Rattle.std.proofs.Common.{◌≡◌, ◌∙◌, ℕ, ℤ, ◌≤◌, ◌≤ℤ◌, max, List, drop, sym, ap, ap₂, arith}
-use Rattle.std.specs.Prelude.{Some}
+use Rattle.explorer.proofs.Common.{◌≡◌, ◌∙◌, ℕ, ℤ, ◌≤◌, ◌≤ℤ◌, max, List, drop, sym, ap, ap₂, arith, Some, ints, clamps, Bits, Wide, Low, Range, same_wide, same_low, Scalar, NumberStacks, earlier_bits, bits_left, earlier_number, numbers_left}
 use Rattle.std.specs.Int.{Width as IntWidth, w32, w64, int_max}
-use Rattle.std.proofs.lemmas.Int.{ints, clamps}
-use Rattle.known_bits.specs.declared.bits.Bits.{Bits}
-use Rattle.ranges.specs.declared.wide.Wide.{Wide}
-use Rattle.ranges.specs.declared.low.Low.{Low}
-use Rattle.ranges.specs.declared.range.Range.{Range}
-use Rattle.ranges.proofs.SameLimits.{same_wide, same_low}
-use Rattle.reg_state.specs.declared.scalars.Scalar.{Scalar}
 use Rattle.explorer.specs.declared.differences.Differences.{Differences}
 use Rattle.explorer.specs.declared.of_two.OfTwo.{OfTwo}
 use Rattle.explorer.specs.OfTwo.{IsPut, first_of, second_of, count_of}
 use Rattle.explorer.specs.SignedLimits.{IsSignedPut, signed_first, signed_second, signed_left}
-use Rattle.explorer.specs.EarlierNumbers.{NumberStacks, earlier_bits, bits_left, earlier_number, numbers_left}
 
 -- limits in order
 max_of : (a b c d : ℕ) → a ≡ c → b ≡ d → c ≤ d → max a b ≡ d

@@ -1,16 +1,5 @@
 -- Parts in groups, group by group.
-use Rattle.std.proofs.Common.{◌≡◌, ℕ, zero, suc, ◌+◌, ◌<◌, ◌≤◌, List, [], ◌∷◌, ◌++◌, length, option_to_list, get_or, drop, drop-cons, add-one, append_assoc, sym, ap, ◌∙◌, arith, subst}
-use Rattle.std.specs.List.{All}
-use Rattle.std.proofs.Math.Seq.{take-append_seam, drop-append_seam}
-use Rattle.std.proofs.lemmas.List.{drop_all, append-nil, get_or_default}
-use Rattle.std.proofs.lemmas.List.Elements.{All-take, All-drop}
-use Rattle.reg_state.specs.declared.kinds.Kind.{Kind}
-use Rattle.stack_state.specs.declared.slots.StackSlot.{StackSlot}
-use Rattle.stack_state.specs.declared.states.AbstractFrame.{AbstractFrame}
-use Rattle.state_index.specs.declared.parts.Part.{Part}
-use Rattle.state_index.specs.Parts.{register_part, slot_part, register_parts, slot_parts, parts_of, IsPartOf, all_written}
-use Rattle.state_index.proofs.PartLaws.{all_written-append, part_at}
-use Rattle.explorer.specs.Groups.{whole}
+use Rattle.explorer.proofs.Common.{◌≡◌, ℕ, zero, suc, ◌+◌, ◌<◌, ◌≤◌, List, [], ◌∷◌, ◌++◌, length, option_to_list, get_or, drop, drop-cons, add-one, append_assoc, sym, ap, ◌∙◌, arith, subst, All, take-append_seam, drop-append_seam, drop_all, append-nil, get_or_default, All-take, All-drop, Kind, StackSlot, AbstractFrame, Part, register_part, slot_part, register_parts, slot_parts, parts_of, IsPartOf, all_written, all_written-append, part_at, whole}
 
 pub whole-more : (ps : List (List Part)) (p : List Part) → whole (ps ++ p ∷ []) ≡ whole ps ++ p
 whole-more [] p = append-nil p

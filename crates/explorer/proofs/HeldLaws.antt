@@ -1,17 +1,6 @@
 -- What a state knows of a call frame, place by place.
-use Rattle.std.proofs.Common.{◌≡◌, ◌∙◌, ℕ, suc, ◌+◌, ◌<◌, List, ◌∷◌, Bool, true, false, length, get_or, drop, drop-cons, add-one, refl, sym, ap}
-use Rattle.std.specs.Prelude.{◌==◌}
-use Rattle.std.specs.Int.{bit_at}
-use Rattle.reg_state.specs.declared.kinds.Kind.{Kind}
-use Rattle.stack_state.specs.declared.slots.StackSlot.{StackSlot}
-use Rattle.stack_state.specs.declared.slots.StackSlot.TheVariants.{Written}
-use Rattle.stack_state.specs.declared.states.AbstractFrame.{AbstractFrame}
-use Rattle.state_index.specs.declared.parts.Part.{Part}
-use Rattle.state_index.specs.declared.parts.Part.TheVariants.{InRegister, InSlot}
-use Rattle.state_index.specs.Parts.{with_part, all_written}
-use Rattle.state_index.proofs.PartLaws.{all_written-append}
+use Rattle.explorer.proofs.Common.{◌≡◌, ◌∙◌, ℕ, suc, ◌+◌, ◌<◌, List, ◌∷◌, Bool, true, false, length, get_or, drop, drop-cons, add-one, refl, sym, ap, ◌==◌, bit_at, Kind, StackSlot, Written, AbstractFrame, Part, InRegister, InSlot, with_part, all_written, all_written-append, held_part, held_registers, held_slots}
 use Rattle.explorer.specs.declared.held_places.HeldPlaces.{HeldPlaces}
-use Rattle.explorer.specs.HeldPlaces.{held_part, held_registers, held_slots}
 
 pub held_any : (f : AbstractFrame) (a h : Bool) (any part : Part) → a ≡ true
     → with_part f any ≡ all_written f (held_part a h any part)

@@ -1,14 +1,8 @@
 -- A search that comes to keep fewer numbers.
-use Rattle.std.proofs.Common.{Option}
-use Rattle.isa_model.specs.Code.Instructions.{Program}
-use Rattle.stack_state.specs.Starts.{start}
+use Rattle.explorer.proofs.Common.{Option, Program, start, IsNoFiner, Forgets-as, Search, precision_in, IsNext}
 use Rattle.control_flow.specs.declared.kept_numbers.KeptNumbers.{KeptNumbers}
-use Rattle.walks.specs.Forgetting.{IsNoFiner}
-use Rattle.walks.proofs.PrecisionLaws.{Forgets-as}
-use Rattle.explorer.specs.declared.search.Search.{Search}
 use Rattle.explorer.specs.declared.moves.NextMove.{NextMove}
 use Rattle.explorer.specs.declared.moves.NextMove.TheVariants.{Explore, Done}
-use Rattle.explorer.specs.Search.{precision_in, IsNext}
 use Rattle.explorer.proofs.Paths.{Path-as}
 
 pub IsNext-as : (p : Program) (old : Search) (kept : Option KeptNumbers) (next : NextMove)

@@ -1,3 +1,4 @@
+mod Common
 pub mod ConstantsLaws
 pub mod ChangeLaws
 pub mod EarlierLaws

@@ -1,19 +1,10 @@
 -- Paths, visit by visit.
-use Rattle.std.proofs.Common.{◌≡◌, ◌≤◌, ◌+◌, ◌∷◌, ◌++◌, [], ℕ, Some, None, Option, List, length, max, arith, refl, sym, add-one, subst, inl, inr, ◌⊎◌}
-use Rattle.isa_model.specs.Code.Instructions.{Program}
+use Rattle.explorer.proofs.Common.{◌≡◌, ◌≤◌, ◌+◌, ◌∷◌, ◌++◌, [], ℕ, Some, None, Option, List, length, max, arith, refl, sym, add-one, subst, inl, inr, ◌⊎◌, Program, State, Means, Within, StoredState, Visit, Precision, IsNoFiner, StepsTo-as, StepsInto, HasNumber, LeadsToOne, LeadsToTwo, MeantBy, StepsAwaited, NumberFollowsBoth, NumberFollows, Waiting, Path, IfStepsTo}
 use Rattle.isa_model.specs.Machine.Steps.{step}
 use Rattle.isa_model.specs.Running.Ends.{Ends}
 use Rattle.isa_model.proofs.EndsLaws.{After-weaker, Ends-more}
-use Rattle.stack_state.specs.declared.states.State.{State}
-use Rattle.stack_state.specs.Meaning.{Means, Within}
 use Rattle.transfer.specs.declared.Ways.TheVariants as ways
 use Rattle.transfer.specs.Leading.{LeadsTo}
-use Rattle.explorer.specs.declared.stored_states.StoredState.{StoredState}
-use Rattle.explorer.specs.declared.trail.Visit.{Visit}
-use Rattle.walks.specs.Forgetting.{Precision, IsNoFiner}
-use Rattle.walks.proofs.PrecisionLaws.{StepsTo-as}
-use Rattle.walks.specs.Counts.{StepsInto, HasNumber, LeadsToOne, LeadsToTwo}
-use Rattle.explorer.specs.Search.{MeantBy, StepsAwaited, NumberFollowsBoth, NumberFollows, Waiting, Path, IfStepsTo}
 use Rattle.explorer.proofs.StoredStatesLaws.{KeepsStates, KeepsStates-at}
 
 -- ---- paths

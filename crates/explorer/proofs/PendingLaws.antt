@@ -1,17 +1,9 @@
 -- Pending states with one more, or one less.
-use Rattle.std.proofs.Common.{◌≡◌, ◌∙◌, suc, List, [], ◌∷◌, ◌++◌, take, drop, reverse, length, refl, ap, ap₂, arith}
-use Rattle.std.proofs.lemmas.List.{reverse-append, length-reverse}
-use Rattle.reg_state.specs.declared.kinds.Kind.{Kind}
-use Rattle.stack_state.specs.declared.states.AbstractFrame.{AbstractFrame}
-use Rattle.stack_state.specs.declared.states.State.{State}
-use Rattle.state_index.specs.declared.parts.Part.{Part}
-use Rattle.state_index.specs.Parts.{all_written}
+use Rattle.explorer.proofs.Common.{◌≡◌, ◌∙◌, suc, List, [], ◌∷◌, ◌++◌, take, drop, reverse, length, refl, ap, ap₂, arith, reverse-append, length-reverse, Kind, AbstractFrame, State, Part, all_written, changes_of, changed_state, states_from, states_below, pending_states}
 use Rattle.explorer.specs.declared.changing.ChangedState.{ChangedState}
 use Rattle.explorer.specs.declared.changing.PendingState.{PendingState}
 use Rattle.explorer.specs.declared.changing.PendingState.TheVariants.{Whole, Changed}
 use Rattle.explorer.specs.declared.changing.Changing.{Changing}
-use Rattle.explorer.specs.Changes.{changes_of}
-use Rattle.explorer.specs.Pending.{changed_state, states_from, states_below, pending_states}
 use Rattle.explorer.proofs.ChangeLaws.{reverse_more}
 
 -- a state by what it changes, and those before it

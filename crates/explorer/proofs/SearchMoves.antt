@@ -1,35 +1,15 @@
 -- What stays true of a search, move by move.
-use Rattle.std.proofs.Common.{◌≡◌, ◌≤◌, ◌+◌, ◌∷◌, ◌++◌, [], ℕ, Some, None, Option, List, length, length-append, max, arith, refl, sym, ap, ◌∙◌, subst, inl, inr}
-use Rattle.std.specs.List.{All}
-use Rattle.std.proofs.lemmas.List.Elements.{All-push, All-pop}
-use Rattle.isa_model.specs.declared.instructions.Insn.{Insn}
+use Rattle.explorer.proofs.Common.{◌≡◌, ◌≤◌, ◌+◌, ◌∷◌, ◌++◌, [], ℕ, Some, None, Option, List, length, length-append, max, arith, refl, sym, ap, ◌∙◌, subst, inl, inr, All, All-push, All-pop, Insn, Program, fetch, start, State, IsFlow, StepsToWays, StoredState, Visit, Search, Visits, Move, New, Covered, Finished, StoredAt, GetsNumber, precision_in, Settles, Spends, CountsTo, Arrives, AllSettled, IsAtInsns, IfReady, IfStepsTo, Waiting, Path, OnPath, HasEnded, Explores, Comes, AfterMove, Precision, Coarse, Forgets, Forgets-as, WalksTo-as, LeadsTo-forgets, GoesOnTo-forgets, StepsInto, LeadsNowhere, Nothing}
 use Rattle.isa_model.specs.declared.instructions.Insn.TheVariants.{CallLocal}
-use Rattle.isa_model.specs.Code.Instructions.{Program, fetch}
-use Rattle.stack_state.specs.Starts.{start}
-use Rattle.stack_state.specs.declared.states.State.{State}
-use Rattle.control_flow.specs.Flows.{IsFlow}
 use Rattle.control_flow.proofs.FlowLaws.{IsFlow-Follows, IsFlow-fall, IsFlow-call}
 use Rattle.control_flow.specs.Graph.{BeginsInsn}
 use Rattle.transfer.specs.declared.Ways.{Ways}
 use Rattle.transfer.specs.declared.Ways.TheVariants as ways
 use Rattle.transfer.specs.Leading.{LeadsTo, EachWay}
 use Rattle.transfer.specs.Following.{returns_of, GoesOnTo}
-use Rattle.transfer.specs.Exact.{StepsToWays}
-use Rattle.explorer.specs.declared.stored_states.StoredState.{StoredState}
-use Rattle.explorer.specs.declared.trail.Visit.{Visit}
-use Rattle.explorer.specs.declared.search.Search.{Search}
-use Rattle.explorer.specs.Trail.{Visits}
 use Rattle.explorer.specs.declared.stored_states.StoredStates.{StoredStates}
-use Rattle.explorer.specs.declared.moves.Move.{Move}
-use Rattle.explorer.specs.declared.moves.Move.TheVariants.{New, Covered, Finished}
-use Rattle.explorer.specs.StoredStates.{StoredAt, GetsNumber}
-use Rattle.explorer.specs.Search.{precision_in, Settles, Spends, CountsTo, Arrives, AllSettled, IsAtInsns, IfReady, IfStepsTo, Waiting, Path, OnPath, HasEnded, Explores, Comes, AfterMove}
-use Rattle.walks.specs.Forgetting.{Precision, Coarse, Forgets}
-use Rattle.walks.proofs.PrecisionLaws.{Forgets-as, WalksTo-as}
-use Rattle.walks.proofs.Forgotten.{LeadsTo-forgets, GoesOnTo-forgets}
 use Rattle.explorer.proofs.Walking.{steps_by, into_by, Path-walks, some_insn}
 use Rattle.explorer.proofs.Counting.{Spends-one, Spends-two, spent_here, spent_into, spent_on}
-use Rattle.walks.specs.Counts.{StepsInto, LeadsNowhere, Nothing}
 use Rattle.explorer.proofs.StoredStatesLaws.{AllSettled-more, IsCovered-known, Arrives-keeps, Arrives-fine, Arrives-stored, GetsNumber-fine, GetsNumber-keeps}
 use Rattle.explorer.proofs.Unfinished.{OnPath-same, OnPath-push, OnPath-pop, OnPath-arrives, OnPath-finish}
 use Rattle.explorer.proofs.Paths.{LastVisit, Path-more, Path-push, Path-pop, StepsAwaited-ends, StepsAwaited-next, LeadsTo-ends, StepsAwaited-one, StepsAwaited-two, NumberFollows-ends, NumberFollows-next, NumberFollows-one, NumberFollows-two}

@@ -1,24 +1,11 @@
 -- The start of a search, and the starts of the machine that its state means.
-use Rattle.std.proofs.Common.{◌≡◌, [], ℕ, Option, List, arith, refl, sym, subst}
-use Rattle.std.specs.Prelude.{IsSome}
-use Rattle.std.specs.List.{All}
-use Rattle.std.proofs.lemmas.List.Elements.{All-nil, All-cons}
-use Rattle.isa_model.specs.declared.instructions.Insn.{Insn}
-use Rattle.isa_model.specs.Code.Instructions.{Program}
-use Rattle.image.specs.Images.{IsImage}
+use Rattle.explorer.proofs.Common.{◌≡◌, [], ℕ, Option, List, arith, refl, sym, subst, IsSome, All, All-nil, All-cons, Insn, Program, IsImage, start, State, Within, StoredState, AllSettled, IsAtInsns, Precision, Forgets, Forgets-slot, Forgets-returns}
 use Rattle.image.proofs.ImageLaws.{fetch-zero}
 use Rattle.image.proofs.Programs.{IsProgram-IsImage}
 use Rattle.isa_model.specs.Running.Runs.{start_state}
-use Rattle.stack_state.specs.Starts.{start}
 use Rattle.stack_state.proofs.StartsLaws.{Means-start}
-use Rattle.stack_state.specs.declared.states.State.{State}
 use Rattle.isa_model.specs.Running.Outcomes.{StartsEnd}
-use Rattle.stack_state.specs.Meaning.{Within}
 use Rattle.control_flow.specs.Graph.{BeginsInsn}
-use Rattle.explorer.specs.declared.stored_states.StoredState.{StoredState}
-use Rattle.explorer.specs.Search.{AllSettled, IsAtInsns}
-use Rattle.walks.specs.Forgetting.{Precision, Forgets}
-use Rattle.walks.proofs.Forgotten.{Forgets-slot, Forgets-returns}
 
 pub empty_fine : (p : Program) (m : ℕ) (states : List StoredState) → states ≡ []
     → AllSettled p m states

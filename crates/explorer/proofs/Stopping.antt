@@ -1,21 +1,11 @@
 -- Where a search stops, the program is refused.
-use Rattle.std.proofs.Common.{◌≡◌, ◌∷◌, ℕ, List, Option, Result, Some, None, refl, sym, subst}
-use Rattle.std.specs.Prelude.{Ok, Err, IfErr}
-use Rattle.isa_model.specs.Code.Instructions.{Program}
+use Rattle.explorer.proofs.Common.{◌≡◌, ◌∷◌, ℕ, List, Option, Result, Some, None, refl, sym, subst, Ok, Err, IfErr, Program, IsFlow, Precision, Exact, Coarse, IsNoFiner, StopsAt, IsRefused, Refusal, Flow, Step, Repeats, TooLong, Memory, State, IfRefused, IfStopped, IsForNumbers, IsSearchedAgain, IsOutsideSearch, EndsIn, EndsAsPrecise, InEach, precision_in}
 use Rattle.isa_model.specs.Machine.MachineStates.{IsProgram}
-use Rattle.control_flow.specs.Flows.{IsFlow}
 use Rattle.control_flow.specs.declared.kept_numbers.KeptNumbers.{KeptNumbers}
-use Rattle.walks.specs.Forgetting.{Precision, Exact, Coarse, IsNoFiner}
-use Rattle.walks.specs.Refused.{StopsAt, IsRefused}
 use Rattle.walks.specs.Accepting.{AcceptsAll}
 use Rattle.walks.proofs.AcceptingLaws.{AcceptsAll-refused}
-use Rattle.walks.specs.declared.refusals.Refusal.{Refusal}
-use Rattle.walks.specs.declared.refusals.Refusal.TheVariants.{Flow, Step, Repeats, TooLong, Memory}
 use Rattle.explorer.specs.declared.moves.Halt.{Halt}
 use Rattle.explorer.specs.declared.moves.Halt.TheVariants.{Refused, Stopped}
-use Rattle.stack_state.specs.declared.states.State.{State}
-use Rattle.explorer.specs.Listening.{IfRefused, IfStopped, IsForNumbers, IsSearchedAgain, IsOutsideSearch, EndsIn, EndsAsPrecise}
-use Rattle.explorer.specs.Search.{InEach, precision_in}
 
 -- where a search over good control flow stops, the program is refused
 pub stops_refused : (p q : Program) (e : Refusal) (slot : ℕ) → p ≡ q → IsFlow q

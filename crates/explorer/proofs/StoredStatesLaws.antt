@@ -1,21 +1,6 @@
 -- What stays true of the stored states.
-use Rattle.std.proofs.Common.{◌≡◌, ◌≤◌, ◌<◌, ◌∷◌, ◌++◌, [], ℕ, zero, suc, Some, None, Option, List, length, get_or, arith, refl, sym, ap, ◌∙◌, subst, set, slice_get}
-use Rattle.std.proofs.lemmas.Option.{slice_get_within, slice_get_read, get_or_from_slice_get}
-use Rattle.std.proofs.lemmas.List.Elements.{All-push, All-set, All-weaker}
-use Rattle.isa_model.specs.Code.Instructions.{Program}
-use Rattle.stack_state.specs.declared.states.State.{State}
-use Rattle.stack_state.specs.Meaning.{Within, Covers}
-use Rattle.explorer.specs.declared.stored_states.StoredState.{StoredState}
-use Rattle.explorer.specs.declared.moves.Move.{Move}
-use Rattle.explorer.specs.declared.moves.Move.TheVariants.{New, Covered, Finished}
-use Rattle.explorer.specs.StoredStates.{IsStored, IsCovered, StoredAt, GetsNumber}
-use Rattle.stack_state.specs.Starts.{start}
-use Rattle.walks.specs.Forgetting.{Coarse, Forgets}
-use Rattle.walks.specs.Walks.{WalksTo}
-use Rattle.walks.specs.Counts.{IsCoveredBy}
-use Rattle.walks.proofs.Forgotten.{Forgets-slot, Forgets-covers}
+use Rattle.explorer.proofs.Common.{◌≡◌, ◌≤◌, ◌<◌, ◌∷◌, ◌++◌, [], ℕ, zero, suc, Some, None, Option, List, length, get_or, arith, refl, sym, ap, ◌∙◌, subst, set, slice_get, slice_get_within, slice_get_read, get_or_from_slice_get, All-push, All-set, All-weaker, Program, State, Within, Covers, StoredState, Move, New, Covered, Finished, IsStored, IsCovered, StoredAt, GetsNumber, start, Coarse, Forgets, WalksTo, IsCoveredBy, Forgets-slot, Forgets-covers, stored_too, Arrives, Settles, IsSettled, AllSettled}
 use Rattle.explorer.proofs.Walking.{WalksTo-start}
-use Rattle.explorer.specs.Search.{stored_too, Arrives, Settles, IsSettled, AllSettled}
 
 -- ---- numbers
 

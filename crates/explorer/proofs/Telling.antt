@@ -1,22 +1,6 @@
 -- The calls that a search makes to a listener, move by move.
-use Rattle.std.proofs.Common.{◌≡◌, ◌∙◌, ℕ, suc, ◌+◌, ◌<◌, List, [], ◌∷◌, ◌++◌, Option, Some, None, ◌⊎◌, inl, inr, arith, refl, sym, ap, subst}
-use Rattle.std.specs.Prelude.{reverse}
-use Rattle.std.proofs.lemmas.List.{reverse-append}
-use Rattle.isa_model.specs.Code.Instructions.{Program}
-use Rattle.stack_state.specs.declared.states.State.{State}
-use Rattle.stack_state.specs.Starts.{start}
-use Rattle.walks.specs.Forgetting.{Precision, IsNoFiner, Forgets}
-use Rattle.walks.proofs.PrecisionLaws.{Forgets-as, StepsTo-as}
-use Rattle.walks.specs.Walks.{StepsTo}
+use Rattle.explorer.proofs.Common.{◌≡◌, ◌∙◌, ℕ, suc, ◌+◌, ◌<◌, List, [], ◌∷◌, ◌++◌, Option, Some, None, ◌⊎◌, inl, inr, arith, refl, sym, ap, subst, reverse, reverse-append, Program, State, start, Precision, IsNoFiner, Forgets, Forgets-as, StepsTo-as, StepsTo, IfStepsTo, IsArrival, AfterMove, HasEnded, Refusal, Flow, Step, Repeats, TooLong, Memory, Search, Visit, Move, New, Covered, Finished, BeginsPath, AddsVisit, ShowsStep, GoesAside, ShowsReturn, ComesBackAt, BeginFails, StepFails, ReturnFails, AreVisited, HeardPath, FollowsTo, IsToArrive, IsToTell, HearsMove, IsToRefuse}
 use Rattle.explorer.proofs.Paths.{IfStepsTo-as}
-use Rattle.explorer.specs.Search.{IfStepsTo, IsArrival, AfterMove, HasEnded}
-use Rattle.walks.specs.declared.refusals.Refusal.{Refusal}
-use Rattle.walks.specs.declared.refusals.Refusal.TheVariants.{Flow, Step, Repeats, TooLong, Memory}
-use Rattle.explorer.specs.declared.search.Search.{Search}
-use Rattle.explorer.specs.declared.trail.Visit.{Visit}
-use Rattle.explorer.specs.declared.moves.Move.{Move}
-use Rattle.explorer.specs.declared.moves.Move.TheVariants.{New, Covered, Finished}
-use Rattle.explorer.specs.Listening.{BeginsPath, AddsVisit, ShowsStep, GoesAside, ShowsReturn, ComesBackAt, BeginFails, StepFails, ReturnFails, AreVisited, HeardPath, FollowsTo, IsToArrive, IsToTell, HearsMove, IsToRefuse}
 
 -- ---- visits and their states
 

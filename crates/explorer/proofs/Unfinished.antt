@@ -1,14 +1,5 @@
 -- The stored states without a number are those of the path.
-use Rattle.std.proofs.Common.{◌≡◌, ◌≤◌, ◌+◌, ◌<◌, ◌∷◌, ◌++◌, [], ℕ, zero, suc, Some, None, Option, List, length, map, arith, refl, sym, ap, ◌∙◌, subst, set}
-use Rattle.std.proofs.lemmas.Option.{slice_get_within}
-use Rattle.std.proofs.lemmas.List.{map-append, map-set, length-map}
-use Rattle.isa_model.specs.Code.Instructions.{Program}
-use Rattle.stack_state.specs.declared.states.State.{State}
-use Rattle.explorer.specs.declared.stored_states.StoredState.{StoredState}
-use Rattle.explorer.specs.declared.trail.Visit.{Visit}
-use Rattle.explorer.specs.declared.moves.Move.TheVariants.{New}
-use Rattle.explorer.specs.StoredStates.{StoredAt, GetsNumber}
-use Rattle.explorer.specs.Search.{Arrives, zeros_from, unfinished, with_first, with_last, indexes_of, OnPath}
+use Rattle.explorer.proofs.Common.{◌≡◌, ◌≤◌, ◌+◌, ◌<◌, ◌∷◌, ◌++◌, [], ℕ, zero, suc, Some, None, Option, List, length, map, arith, refl, sym, ap, ◌∙◌, subst, set, slice_get_within, map-append, map-set, length-map, Program, State, StoredState, Visit, New, StoredAt, GetsNumber, Arrives, zeros_from, unfinished, with_first, with_last, indexes_of, OnPath}
 
 -- ---- zeros
 

@@ -1,25 +1,7 @@
 -- What the path says of walks from the start.
-use Rattle.std.proofs.Common.{◌≡◌, ◌+◌, ◌∷◌, [], ℕ, zero, suc, Some, None, Option, List, length, map, arith, refl, sym, ap, ◌∙◌, subst, inl, inr, ◌⊎◌, slice_get}
-use Rattle.std.specs.Prelude.{IsSome}
+use Rattle.explorer.proofs.Common.{◌≡◌, ◌+◌, ◌∷◌, [], ℕ, zero, suc, Some, None, Option, List, length, map, arith, refl, sym, ap, ◌∙◌, subst, inl, inr, ◌⊎◌, slice_get, IsSome, slice_get-map, Insn, Program, fetch, State, start, IsJoin, StepsToWays, Refusal, Flow, Step, Repeats, TooLong, Memory, StoredState, Visit, IsAmong, StepsTo, HasSteps, WalksTo, Precision, Coarse, Forgets, AreForgotten, StepsInto, StopsAt, StoredAt, Path, RefusesArrival, zeros_from, with_first, indexes_of, OnPath}
 use Rattle.std.specs.Option.{option_map}
-use Rattle.std.proofs.lemmas.Option.{slice_get-map}
-use Rattle.isa_model.specs.declared.instructions.Insn.{Insn}
-use Rattle.isa_model.specs.Code.Instructions.{Program, fetch}
-use Rattle.stack_state.specs.declared.states.State.{State}
-use Rattle.stack_state.specs.Starts.{start}
-use Rattle.control_flow.specs.Flows.{IsJoin}
 use Rattle.transfer.specs.declared.Ways.{Ways}
-use Rattle.transfer.specs.Exact.{StepsToWays}
-use Rattle.walks.specs.declared.refusals.Refusal.{Refusal}
-use Rattle.walks.specs.declared.refusals.Refusal.TheVariants.{Flow, Step, Repeats, TooLong, Memory}
-use Rattle.explorer.specs.declared.stored_states.StoredState.{StoredState}
-use Rattle.explorer.specs.declared.trail.Visit.{Visit}
-use Rattle.walks.specs.Walks.{IsAmong, StepsTo, HasSteps, WalksTo}
-use Rattle.walks.specs.Forgetting.{Precision, Coarse, Forgets}
-use Rattle.walks.specs.Counts.{AreForgotten, StepsInto}
-use Rattle.walks.specs.Refused.{StopsAt}
-use Rattle.explorer.specs.StoredStates.{StoredAt}
-use Rattle.explorer.specs.Search.{Path, RefusesArrival, zeros_from, with_first, indexes_of, OnPath}
 
 -- ---- steps
 

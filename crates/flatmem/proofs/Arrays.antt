@@ -1,24 +1,11 @@
 -- Adjacent bytes in memory: some of them are taken out as one array, and put back.
 use mathlib.Core.Path.{◌≡◌, refl, sym}
-use Prim.Native.Nat.{ℕ, ◌+◌}
+use Rattle.flatmem.proofs.Common.{ℕ, ◌+◌, Ura, ty_array, ty_int, w8, Val, vint, ent, sep, Fml, Share, ftrue, fat, feq, Logic, sem, ‵, ◌⊛◌, ◌$◌, ◌∵◌, !, qed, by, move, drop, use1, use2, split, fsplit, fjoin, feq_i, rewrite, done, row, u8, Array, array_val, array_vals, Array-Tells, uint_vals, uint_Tells, nothing, at}
 use mathlib.Core.List.{List, [], ◌∷◌, ◌++◌, map}
 use lib.ListN.{length}
-use seplogic.Ra.Ura.{Ura}
-use mir.Syntax.{ty_array, ty_int, w8}
-use mir.Val.{Val, vint}
-use base.Logic.{ent, sep}
-use base.Fml.{Fml, Share, ftrue, fat, feq}
-use types.Logic.{Logic, sem}
-use types.Kit.{‵, ◌⊛◌, ◌$◌, ◌∵◌, !, qed, by, move, drop, use1, use2, split, fsplit, fjoin, feq_i, rewrite, done}
-use denote.Index.{row}
-use denote.Builtin.{u8}
 use denote.Memory.{mem, part_at}
-use denote.Array.{Array, array_val, array_vals, Array-Tells}
 use denote.ArrayMemory.{Array-apart, Array-whole}
-use denote.Plain.{uint_vals, uint_Tells}
 use denote.Copied.{told_out, told_in}
-use denote.Steps.{nothing}
-use borrow.Table.Elements.{at}
 
 abbrev pub bytes_val : List ℕ → Val
 bytes_val w = array_val (map (λ (x : ℕ). vint w8 x) w)

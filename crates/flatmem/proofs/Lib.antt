@@ -1,3 +1,4 @@
 mod Arrays
+mod Common
 mod Copies
 pub mod BytesLaws

@@ -1,24 +1,12 @@
 -- What a call finds, by the bytes that it read from its source.
-use Rattle.std.proofs.Common.{◌≡◌, ◌≢◌, ℕ, ◌<◌, ◌≤◌, ◌^◌, List, [], ◌∷◌, ◌++◌, length, take, nat_eq, Bool, true, false, Option, None, Some, Ok, Err, refl, arith, sym, ap, ◌∙◌, append-nil, append_assoc, length-append, subst, inl, inr}
-use Rattle.std.specs.Prelude.{All}
-use Rattle.std.proofs.lemmas.List.{length-take-le, take_at}
+use Rattle.frames.proofs.Common.{◌≡◌, ◌≢◌, ℕ, ◌<◌, ◌≤◌, ◌^◌, List, [], ◌∷◌, ◌++◌, length, take, nat_eq, Bool, true, false, Option, None, Some, Ok, Err, refl, arith, sym, ap, ◌∙◌, append-nil, append_assoc, length-append, subst, inl, inr, All, length-take-le, take_at, Consumes, IsAtEnd, Consumes-trans, BadMagic, TruncatedHead, TooLong, TruncatedBody, ReadFailed, TooManyRecords, Finish, Version, One, Two, stream_magic, head_size, IsPacketFrame, ReasonFits, max_frames, cut_by, length_field, InputEnding, ByEnd, ByError, head_bytes, stop_at, some_head, ReadsMagic, MayOpen, FindsNext, StopsReading, CanStop, Found, Stopped}
 use Rattle.std.proofs.lemmas.Cmp.{nat_list_eq_equiv}
 use Rattle.std.proofs.lemmas.Bool.{cases_eq}
-use Rattle.std.specs.Io.KnownBytes.{Consumes, IsAtEnd}
-use Rattle.std.proofs.KnownBytes.{Consumes-trans}
 use lib.Pointwise.{pointwise}
 use Rattle.isa_model.specs.declared.frames.FrameHead.{FrameHead}
-use Rattle.isa_model.specs.declared.streams.Fault.TheVariants.{BadMagic, TruncatedHead, TooLong, TruncatedBody, ReadFailed, TooManyRecords}
-use Rattle.isa_model.specs.declared.streams.Finish.{Finish}
 use Rattle.isa_model.specs.declared.streams.Finish.TheVariants as finish
-use Rattle.isa_model.specs.declared.versions.Version.{Version}
-use Rattle.isa_model.specs.declared.versions.Version.TheVariants.{One, Two}
-use Rattle.isa_model.specs.Code.Versions.{stream_magic, head_size}
 use Rattle.isa_model.specs.Code.Limits.{max_body}
-use Rattle.isa_model.specs.Reporting.Streams.{IsPacketFrame, ReasonFits, max_frames, cut_by, length_field, InputEnding, ByEnd, ByError, head_bytes, stop_at}
-use Rattle.isa_model.proofs.StreamLaws.{some_head}
 use Rattle.frames.specs.Readers.{Position, At, Done}
-use Rattle.frames.specs.Reading.{ReadsMagic, MayOpen, FindsNext, StopsReading, CanStop, Found, Stopped}
 use Rattle.frames.proofs.Stopping.{stop_at-cut, stop_at-read, stop_at-nothing_read, stop_at-many, stop_at-long, stop_at-body, length_field-append, opened-short, opened-other}
 
 -- ---- the magic

@@ -1,19 +1,9 @@
 -- Laws of the definitions in specs/Inputs.
-use Rattle.std.proofs.Common.{◌≡◌, ℕ, ◌+◌, ◌<◌, length, arith, ◌++◌, ◌∷◌, List, [], Bool, true, false, Option, Some, None, Result, Ok, Err, refl, sym, ap, ◌∙◌, subst, append_assoc, append-nil, length-append, ◌⊎◌, inl, inr}
-use Rattle.std.specs.Io.KnownBytes.{Consumes}
-use Rattle.std.proofs.KnownBytes.{Consumes-trans}
+use Rattle.frames.proofs.Common.{◌≡◌, ℕ, ◌+◌, ◌<◌, length, arith, ◌++◌, ◌∷◌, List, [], Bool, true, false, Option, Some, None, Result, Ok, Err, refl, sym, ap, ◌∙◌, subst, append_assoc, append-nil, length-append, ◌⊎◌, inl, inr, Consumes, Consumes-trans, BadMagic, TruncatedHead, TooLong, TruncatedBody, ReadFailed, TooManyRecords, Finish, Version, One, stream_magic, PacketFrame, IsPacketFrame, Input, InputEnding, ByEnd, ByError, max_frames, record_bytes, records_bytes, record_size, opened, stop_at, Stream, stream_with, stream_of, AreOpen, stream_bytes, AreOpen-nil, AreOpen-push, size-record_bytes, offset_after, stream_of-stops, stream_of-unopened, ReadsMagic, MayOpen, OpensStream, position_opened, begun_at, Found, Stopped, StopsReading, FindsNext, IsOpen, CanStop, MayEnd, next_position, Finds}
 use Rattle.std.proofs.lemmas.Grind.{flat_map-append}
 use Rattle.isa_model.specs.declared.streams.Fault.{Fault}
-use Rattle.isa_model.specs.declared.streams.Fault.TheVariants.{BadMagic, TruncatedHead, TooLong, TruncatedBody, ReadFailed, TooManyRecords}
-use Rattle.isa_model.specs.declared.streams.Finish.{Finish}
 use Rattle.isa_model.specs.declared.streams.Finish.TheVariants as finish
-use Rattle.isa_model.specs.declared.versions.Version.{Version}
-use Rattle.isa_model.specs.declared.versions.Version.TheVariants.{One}
-use Rattle.isa_model.specs.Code.Versions.{stream_magic}
-use Rattle.isa_model.specs.Reporting.Streams.{PacketFrame, IsPacketFrame, Input, InputEnding, ByEnd, ByError, max_frames, record_bytes, records_bytes, record_size, opened, stop_at, Stream, stream_with, stream_of, AreOpen, stream_bytes}
-use Rattle.isa_model.proofs.StreamLaws.{AreOpen-nil, AreOpen-push, size-record_bytes, offset_after, stream_of-stops, stream_of-unopened}
 use Rattle.frames.specs.Readers.{Position, Fresh, At, Done}
-use Rattle.frames.specs.Reading.{ReadsMagic, MayOpen, OpensStream, position_opened, begun_at, Found, Stopped, StopsReading, FindsNext, IsOpen, CanStop, MayEnd, next_position, Finds}
 use Rattle.frames.specs.Sources.{Origin, in_memory}
 use Rattle.frames.specs.Inputs.{IsReadFrom, AreReadFrom, IsBegunBy, IsBegunVersion}
 use Rattle.frames.proofs.Stopping.{stop_at-sound, opened-sound}

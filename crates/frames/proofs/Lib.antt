@@ -1,3 +1,4 @@
+mod Common
 pub mod HeadNumbers
 pub mod Parts
 pub mod Stopping

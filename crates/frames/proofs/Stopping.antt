@@ -1,18 +1,10 @@
 -- Why some bytes are no record, and why some are no magic.
-use Rattle.std.proofs.Common.{◌≡◌, ◌≢◌, ℕ, zero, suc, ◌+◌, ◌<◌, ◌≤◌, List, [], ◌∷◌, ◌++◌, length, drop, ap, ◌∙◌, nat_eq, nat_lt, ◌==◌, Bool, true, false, if◌then◌else◌, Some, None, Option, Ok, Err, Result, refl, arith, le-ltb}
-use Rattle.std.proofs.lemmas.List.{get_or_append_left}
+use Rattle.frames.proofs.Common.{◌≡◌, ◌≢◌, ℕ, zero, suc, ◌+◌, ◌<◌, ◌≤◌, List, [], ◌∷◌, ◌++◌, length, drop, ap, ◌∙◌, nat_eq, nat_lt, ◌==◌, Bool, true, false, if◌then◌else◌, Some, None, Option, Ok, Err, Result, refl, arith, le-ltb, get_or_append_left, BadMagic, TruncatedHead, TooLong, TruncatedBody, ReadFailed, TooManyRecords, Finish, Version, One, Two, stream_magic, head_size, PacketFrame, max_frames, cut_by, length_field, InputEnding, ByEnd, ByError, opened, stop_at, packet_frame_of, record_size, frames_from, stream_opened, stream_of, some_head}
 use Rattle.std.proofs.lemmas.Bool.Decides.{nat_tests}
-use Rattle.isa_model.specs.declared.streams.Fault.TheVariants.{BadMagic, TruncatedHead, TooLong, TruncatedBody, ReadFailed, TooManyRecords}
 use Rattle.isa_model.specs.declared.streams.Fault.{Fault}
-use Rattle.isa_model.specs.declared.streams.Finish.{Finish}
 use Rattle.isa_model.specs.declared.streams.Finish.TheVariants as finish
 use Rattle.std.specs.List.{starts_with}
-use Rattle.isa_model.specs.declared.versions.Version.{Version}
-use Rattle.isa_model.specs.declared.versions.Version.TheVariants.{One, Two}
-use Rattle.isa_model.specs.Code.Versions.{stream_magic, head_size}
 use Rattle.isa_model.specs.Code.Limits.{max_body}
-use Rattle.isa_model.specs.Reporting.Streams.{PacketFrame, max_frames, cut_by, length_field, InputEnding, ByEnd, ByError, opened, stop_at, packet_frame_of, record_size, frames_from, stream_opened, stream_of}
-use Rattle.isa_model.proofs.StreamLaws.{some_head}
 
 -- a part of a head
 pub stop_at-cut : (v : Version) (number offset : ℕ) (bytes : List ℕ) (e : InputEnding)

@@ -1,34 +1,15 @@
 -- From what a machine writes to the report of its program, where that is accepted.
-use Rattle.std.proofs.Common.{◌≡◌, ℕ, ◌≤◌, List, Result, Ok, Err, IfOk, refl, sym, ap, ◌∙◌, subst, ◌⊎◌, inl, inr}
+use Rattle.host.proofs.Common.{◌≡◌, ℕ, ◌≤◌, List, Result, Ok, Err, IfOk, refl, sym, ap, ◌∙◌, subst, ◌⊎◌, inl, inr, MapDef, Program, KeyValues, Stream, stream_with, AreOpen, Turn, turn, OutputPiece, contents_after, checked_report, checked_report_from, starting_contents, report_form_of, IsReportFrom, StartsEnd, AllExit, FitRows, IsProgram, Bounded, Running, ReturnsOutcome, Origin, StreamEnded, HostError, ShowsTraced, ShowsTracedFrom, tallied, rule_of, RunnerState, TakesWhole, TakesFront, Leaves, Outputs, WroteBefore, WritesEach, ReportsRun, ReportsRunFrom, RunsWholeFrom, RunsFrontFrom, ShowsLast, ShowsTallied}
 use Rattle.isa_model.specs.declared.frames.FrameHead.{FrameHead}
-use Rattle.isa_model.specs.declared.map_defs.MapDef.{MapDef}
 use Rattle.isa_model.specs.declared.ends.End.TheVariants.{Exit}
 use Rattle.isa_model.specs.declared.streams.Finish.TheVariants as finish
-use Rattle.isa_model.specs.Code.Instructions.{Program}
-use Rattle.isa_model.specs.Machine.States.{KeyValues}
-use Rattle.isa_model.specs.Reporting.Streams.{Stream, stream_with, AreOpen}
-use Rattle.isa_model.specs.Running.Runs.{Turn, turn}
 use Rattle.isa_model.proofs.RunLaws.{turn-outcome}
-use Rattle.isa_model.specs.Reporting.Reports.{OutputPiece, contents_after, checked_report, checked_report_from, starting_contents, report_form_of, IsReportFrom}
-use Rattle.isa_model.specs.Running.Outcomes.{StartsEnd, AllExit}
 use Rattle.isa_model.proofs.ReportLaws.{IsReportFrom-checked}
-use Rattle.isa_model.specs.Machine.MachineStates.{FitRows, IsProgram}
 use Rattle.isa_model.specs.Code.Limits.{max_steps}
-use Rattle.bounds.specs.Bounds.{Bounded}
 use Rattle.machine.specs.declared.machines.Exit.{Exit as TheExit}
-use Rattle.machine.specs.Running.{Running, ReturnsOutcome}
-use Rattle.frames.specs.Sources.{Origin}
-use Rattle.host.specs.declared.endings.StreamEnded.{StreamEnded}
-use Rattle.host.specs.declared.errors.HostError.{HostError}
 use Rattle.host.specs.declared.errors.HostError.TheVariants as failure
 use Rattle.host.specs.declared.traced.Traced.{Traced}
-use Rattle.host.specs.Stops.{ShowsTraced, ShowsTracedFrom}
-use Rattle.host.specs.Tallies.{tallied}
-use Rattle.host.specs.Turns.{rule_of, RunnerState, TakesWhole, TakesFront}
-use Rattle.host.specs.OnMachines.{Leaves}
-use Rattle.host.specs.Writing.{Outputs, WroteBefore, WritesEach}
 use Rattle.host.specs.Reported.{Reports}
-use Rattle.host.specs.Accepted.{ReportsRun, ReportsRunFrom, RunsWholeFrom, RunsFrontFrom, ShowsLast, ShowsTallied}
 use Rattle.host.proofs.Pieces.{WroteBefore-more}
 use Rattle.host.proofs.Fronts.{first_pieces, last_contents}
 use Rattle.host.proofs.Reporting.{ReportsBy, report_by, closing, reports_front, reports_whole}

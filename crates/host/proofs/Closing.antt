@@ -1,16 +1,7 @@
 -- The end of a report: the lines of maps, as a text that is written in one go, and the last line.
-use Rattle.std.proofs.Common.{◌≡◌, ℕ, zero, suc, ◌+◌, ◌-◌, ◌<◌, ◌≤◌, List, [], ◌∷◌, ◌++◌, map, length, take, Option, refl, sym, ap, ◌∙◌, subst, arith, append_assoc, length-append, zero-add, ◌⊎◌, inl, inr}
-use Rattle.std.specs.Io.KnownBytes.{Appends}
-use Rattle.std.proofs.KnownBytes.{Appends-nil}
-use Rattle.std.proofs.lemmas.Bool.{cases_lt}
-use Rattle.std.proofs.lemmas.List.{take-append-le}
-use Rattle.exact_io.specs.Transfers.{AppendsBeginning}
-use Rattle.isa_model.specs.declared.map_defs.MapDef.{MapDef}
-use Rattle.isa_model.specs.Machine.States.{KeyValues}
-use Rattle.isa_model.specs.Reporting.Reports.{OutputPiece, ToReport, ToFrames, report_bytes, frames_out, map_line, map_pieces, maps_pieces, in_report_order}
+use Rattle.host.proofs.Common.{◌≡◌, ℕ, zero, suc, ◌+◌, ◌-◌, ◌<◌, ◌≤◌, List, [], ◌∷◌, ◌++◌, map, length, take, Option, refl, sym, ap, ◌∙◌, subst, arith, append_assoc, length-append, zero-add, ◌⊎◌, inl, inr, Appends, Appends-nil, cases_lt, take-append-le, AppendsBeginning, MapDef, KeyValues, OutputPiece, ToReport, ToFrames, report_bytes, frames_out, map_line, map_pieces, maps_pieces, in_report_order, Wrote, WroteBefore}
 use Rattle.map_texts.specs.Listings.{text_of}
 use Rattle.host.specs.declared.errors.HostError.TheVariants as failure
-use Rattle.host.specs.Writing.{Wrote, WroteBefore}
 use Rattle.host.proofs.Pieces.{Wrote-append, WroteBefore-append, WroteBefore-more, wrote_report, report_failed}
 
 -- pieces that are all for the report

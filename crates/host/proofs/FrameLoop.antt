@@ -1,31 +1,14 @@
 -- One more turn of the loop over a stream, and how the loop ends.
-use Rattle.std.proofs.Common.{◌≡◌, ℕ, suc, ◌+◌, ◌<◌, ◌≤◌, List, [], ◌∷◌, ◌++◌, length, Option, Result, refl, sym, ap, ◌∙◌, subst, append_assoc, append-nil, length-append, add-zero, zero-add, arith, inl, inr}
-use Rattle.std.specs.Io.KnownBytes.{Appends, Keeps}
-use Rattle.std.proofs.KnownBytes.{Appends-kept}
-use Rattle.exact_io.specs.Transfers.{AppendsBeginning}
+use Rattle.host.proofs.Common.{◌≡◌, ℕ, suc, ◌+◌, ◌<◌, ◌≤◌, List, [], ◌∷◌, ◌++◌, length, Option, Result, refl, sym, ap, ◌∙◌, subst, append_assoc, append-nil, length-append, add-zero, zero-add, arith, inl, inr, Appends, Keeps, Appends-kept, AppendsBeginning, Finish, Version, stream_magic, KeyValues, PacketFrame, max_frames, stream_with, OutputPiece, Rule, ReportForm, ToFrames, turns_pieces, contents_after, turn_on, turn_pieces, contents_left, Bounded, Origin, HasBegun, HasBegun-opens, HasBegun-open, HasBegun-found, HasBegun-stopped, HasFound-begins, StreamEnded, HostError, Noting, noted_after, Outputs, Wrote, WroteBefore, rule_of, form_on, front_in, RunnerState, HasTaken, TakesWhole, TakesFront}
 use Rattle.isa_model.specs.declared.streams.Fault.{Fault}
 use Rattle.isa_model.specs.declared.streams.Finish.TheVariants as finish
-use Rattle.isa_model.specs.declared.streams.Finish.{Finish}
-use Rattle.isa_model.specs.declared.versions.Version.{Version}
 use Rattle.isa_model.specs.declared.versions.Version.TheVariants.{One}
-use Rattle.isa_model.specs.Code.Versions.{stream_magic}
 use Rattle.isa_model.specs.Code.Limits.{max_body}
-use Rattle.isa_model.specs.Machine.States.{KeyValues}
-use Rattle.isa_model.specs.Reporting.Streams.{PacketFrame, max_frames, stream_with}
 use Rattle.isa_model.proofs.StreamLaws.{AreOpen-nil}
-use Rattle.isa_model.specs.Reporting.Reports.{OutputPiece, Rule, ReportForm, ToFrames, turns_pieces, contents_after, turn_on, turn_pieces, contents_left}
-use Rattle.bounds.specs.Bounds.{Bounded}
-use Rattle.frames.specs.Sources.{Origin}
 use Rattle.frames.specs.Readers.{Position, Fresh}
 use Rattle.frames.specs.Reading.{OpensStream, begun_at, Found, Stopped, Finds}
-use Rattle.frames.proofs.InputsLaws.{HasBegun, HasBegun-opens, HasBegun-open, HasBegun-found, HasBegun-stopped, HasFound-begins}
 use Rattle.frames.specs.Inputs.{IsBegunVersion}
-use Rattle.host.specs.declared.endings.StreamEnded.{StreamEnded}
-use Rattle.host.specs.declared.errors.HostError.{HostError}
 use Rattle.host.specs.declared.errors.HostError.TheVariants as failure
-use Rattle.host.specs.Stops.{Noting, noted_after}
-use Rattle.host.specs.Writing.{Outputs, Wrote, WroteBefore}
-use Rattle.host.specs.Turns.{rule_of, form_on, front_in, RunnerState, HasTaken, TakesWhole, TakesFront}
 use Rattle.host.proofs.Pieces.{Wrote-append, WroteBefore-append, wrote_frames, frames_failed}
 use Rattle.host.proofs.WrittenSoFar.{WrittenSoFar}
 

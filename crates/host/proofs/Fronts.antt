@@ -1,17 +1,7 @@
 -- The report of a stream begins with the pieces of the stream's first packet frames, whatever
 -- follows them.
-use Rattle.std.proofs.Common.{◌≡◌, ℕ, ◌+◌, ◌==◌, if◌then◌else◌, Bool, true, false, List, [], ◌∷◌, ◌++◌, length, Option, Some, None, refl, sym, ap, ◌∙◌, subst, append_assoc}
-use Rattle.isa_model.specs.declared.streams.Finish.{Finish}
-use Rattle.isa_model.specs.declared.versions.Version.{Version}
-use Rattle.isa_model.specs.Code.Instructions.{Program}
-use Rattle.isa_model.specs.Code.Versions.{stream_magic}
-use Rattle.isa_model.specs.Machine.States.{KeyValues}
-use Rattle.isa_model.specs.Running.Runs.{Outcome, Turn}
+use Rattle.host.proofs.Common.{◌≡◌, ℕ, ◌+◌, ◌==◌, if◌then◌else◌, Bool, true, false, List, [], ◌∷◌, ◌++◌, length, Option, Some, None, refl, sym, ap, ◌∙◌, subst, append_assoc, Finish, Version, Program, stream_magic, KeyValues, Outcome, Turn, PacketFrame, stream_with, OutputPiece, ToReport, ToFrames, ReportForm, frame_line, frame_pieces, skip_pieces, turn_on, turn_pieces, contents_left, turns_pieces, maps_pieces, last_line, checked_rule, turn_by, contents_after, ReportsFrame, ReportsFrames, report_form_of, IsReportFrom, ExitsOn, AllExit, front_in}
 use Rattle.isa_model.proofs.RunLaws.{turn-outcome, HasOutcome-same}
-use Rattle.isa_model.specs.Reporting.Streams.{PacketFrame, stream_with}
-use Rattle.isa_model.specs.Reporting.Reports.{OutputPiece, ToReport, ToFrames, ReportForm, frame_line, frame_pieces, skip_pieces, turn_on, turn_pieces, contents_left, turns_pieces, maps_pieces, last_line, checked_rule, turn_by, contents_after, ReportsFrame, ReportsFrames, report_form_of, IsReportFrom}
-use Rattle.isa_model.specs.Running.Outcomes.{ExitsOn, AllExit}
-use Rattle.host.specs.Turns.{front_in}
 
 module _ (p : Program) (n : ℕ) where
   -- the form of the checked report with this limit

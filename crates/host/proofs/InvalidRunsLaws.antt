@@ -1,27 +1,15 @@
 -- What is noted of packet frames one after another is the first and the count of those whose runs
 -- end with INVALID.
-use Rattle.std.proofs.Common.{◌≡◌, ℕ, ◌+◌, ◌-◌, ◌^◌, ◌==◌, min, if◌then◌else◌, Bool, true, false, List, [], ◌∷◌, ◌++◌, length, Option, Some, None, Result, slice_get, refl, sym, ap, subst, ◌∙◌, append_assoc, length-append, arith}
+use Rattle.host.proofs.Common.{◌≡◌, ℕ, ◌+◌, ◌-◌, ◌^◌, ◌==◌, min, if◌then◌else◌, Bool, true, false, List, [], ◌∷◌, ◌++◌, length, Option, Some, None, Result, slice_get, refl, sym, ap, subst, ◌∙◌, append_assoc, length-append, arith, KeyValues, PacketFrame, turn_on, contents_left, starting_contents, Bounded, Origin, HostError, ReportsRunFrom, end_of, one_more, noted_after, is_invalid, rule_of, Outputs}
 use Rattle.std.proofs.lemmas.List.{append-nil}
 use Rattle.std.specs.Option.{option_or}
 use Rattle.isa_model.specs.declared.ends.End.{End}
 use Rattle.isa_model.specs.declared.ends.End.TheVariants.{Exit, Trap, Limit}
-use Rattle.isa_model.specs.Machine.States.{KeyValues}
 use Rattle.isa_model.specs.Reporting.Frames.{action_of}
-use Rattle.isa_model.specs.Reporting.Streams.{PacketFrame}
-use Rattle.isa_model.specs.Reporting.Reports.{turn_on, contents_left, starting_contents}
-use Rattle.bounds.specs.Bounds.{Bounded}
-use Rattle.frames.specs.Sources.{Origin}
-use Rattle.host.specs.declared.errors.HostError.{HostError}
 use Rattle.host.specs.declared.invalid.InvalidFrame.{InvalidFrame}
 use Rattle.host.specs.declared.invalid.InvalidFrames.{InvalidFrames}
 use Rattle.host.specs.declared.noting.Ran.{Ran}
-use Rattle.host.specs.Accepted.{ReportsRunFrom}
-use Rattle.host.specs.Counts.{end_of}
-use Rattle.host.specs.EndCounts.{one_more}
 use Rattle.host.specs.InvalidRuns.{invalid_end, invalid_in, invalid_of, with_invalid, with_invalid_end, invalid_notes, ShowsInvalid, ReportsNoted}
-use Rattle.host.specs.Stops.{noted_after, is_invalid}
-use Rattle.host.specs.Turns.{rule_of}
-use Rattle.host.specs.Writing.{Outputs}
 
 -- from new maps on
 pub ReportsNoted-starting : (a : Bounded) (contents : List KeyValues) (source : Origin)

@@ -1,26 +1,9 @@
 -- From what the loop over a stream tells, and the end of the report, to what a run shows.
-use Rattle.std.proofs.Common.{◌≡◌, ℕ, ◌+◌, ◌==◌, if◌then◌else◌, Bool, true, false, List, [], ◌∷◌, length, Result, Ok, Err, IfOk, refl, ap, ◌∙◌, Some, None}
-use Rattle.isa_model.specs.declared.map_defs.MapDef.{MapDef}
-use Rattle.isa_model.specs.declared.streams.Finish.{Finish}
-use Rattle.isa_model.specs.declared.versions.Version.{Version}
-use Rattle.isa_model.specs.Code.Instructions.{Program}
-use Rattle.isa_model.specs.Machine.States.{KeyValues}
-use Rattle.isa_model.specs.Reporting.Streams.{PacketFrame, Stream}
-use Rattle.isa_model.specs.Reporting.Reports.{turn_on, contents_left, contents_after}
-use Rattle.bounds.specs.Bounds.{Bounded}
-use Rattle.maps.specs.Maps.{MapState, rows_of, contents_of}
+use Rattle.host.proofs.Common.{◌≡◌, ℕ, ◌+◌, ◌==◌, if◌then◌else◌, Bool, true, false, List, [], ◌∷◌, length, Result, Ok, Err, IfOk, refl, ap, ◌∙◌, Some, None, MapDef, Finish, Version, Program, KeyValues, PacketFrame, Stream, turn_on, contents_left, contents_after, Bounded, MapState, rows_of, contents_of, Origin, StreamEnded, HostError, Totals, no_totals, with_end, end_of, totals_after, Noted, Noting, noted_of, noted_on, noted_after, checked_notes, AreMaps, tally_of, rule_of, RunnerState, TakesWhole, Outputs}
 use Rattle.checked_vm.specs.Machines.{LoadedProgram as Checking}
-use Rattle.frames.specs.Sources.{Origin}
-use Rattle.host.specs.declared.endings.StreamEnded.{StreamEnded}
-use Rattle.host.specs.declared.errors.HostError.{HostError}
 use Rattle.host.specs.declared.tallies.Tally.{Tally}
 use Rattle.host.specs.declared.traced.Traced.{Traced}
 use Rattle.host.specs.Counting.{counting_notes}
-use Rattle.host.specs.Counts.{Totals, no_totals, with_end, end_of, totals_after}
-use Rattle.host.specs.Stops.{Noted, Noting, noted_of, noted_on, noted_after, checked_notes, AreMaps}
-use Rattle.host.specs.Tallies.{tally_of}
-use Rattle.host.specs.Turns.{rule_of, RunnerState, TakesWhole}
-use Rattle.host.specs.Writing.{Outputs}
 
 -- ---- what the end of a report returns
 

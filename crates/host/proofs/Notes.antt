@@ -1,9 +1,5 @@
 -- What is noted of the packet frames so far, and of one more.
-use Rattle.std.proofs.Common.{◌≡◌, ℕ, suc, ◌+◌, List, [], ◌∷◌, ◌++◌, length, sym, ap, ◌∙◌, add-zero, zero-add, arith}
-use Rattle.isa_model.specs.Machine.States.{KeyValues}
-use Rattle.isa_model.specs.Reporting.Streams.{PacketFrame}
-use Rattle.isa_model.specs.Reporting.Reports.{Rule, turn_on, contents_left, contents_after}
-use Rattle.host.specs.Stops.{Noting, noted_on, noted_after}
+use Rattle.host.proofs.Common.{◌≡◌, ℕ, suc, ◌+◌, List, [], ◌∷◌, ◌++◌, length, sym, ap, ◌∙◌, add-zero, zero-add, arith, KeyValues, PacketFrame, Rule, turn_on, contents_left, contents_after, Noting, noted_on, noted_after}
 
 module _ (N : Type 0) (notes : Noting N) (rule : Rule) where
   noted_after-append : (none : N) (n : ℕ) (c : List KeyValues) (fs : List PacketFrame)

@@ -1,16 +1,8 @@
 -- Pieces that were written one after another; one of them may have failed.
-use Rattle.std.proofs.Common.{◌≡◌, ℕ, zero, suc, true, false, List, [], ◌∷◌, ◌++◌, length, take, Option, refl, sym, ap, ◌∙◌, subst, append-nil, append_assoc}
+use Rattle.host.proofs.Common.{◌≡◌, ℕ, zero, suc, true, false, List, [], ◌∷◌, ◌++◌, length, take, Option, refl, sym, ap, ◌∙◌, subst, append-nil, append_assoc, Appends, Appends-nil, Appends-trans, AppendsBeginning, PacketFrame, record_bytes, Turn, OutputPiece, ToReport, ToFrames, ReportForm, frame_line, frame_pieces, record_pieces, is_sent, end_reason, skip_line, skip_pieces, HostError, Outputs, Wrote, WroteBefore}
 use Rattle.std.specs.List.{flat_map}
-use Rattle.std.specs.Io.KnownBytes.{Appends}
-use Rattle.std.proofs.KnownBytes.{Appends-nil, Appends-trans}
-use Rattle.exact_io.specs.Transfers.{AppendsBeginning}
 use Rattle.isa_model.specs.declared.ends.End.{End}
-use Rattle.isa_model.specs.Reporting.Streams.{PacketFrame, record_bytes}
-use Rattle.isa_model.specs.Running.Runs.{Turn}
-use Rattle.isa_model.specs.Reporting.Reports.{OutputPiece, ToReport, ToFrames, ReportForm, frame_line, frame_pieces, record_pieces, is_sent, end_reason, skip_line, skip_pieces}
-use Rattle.host.specs.declared.errors.HostError.{HostError}
 use Rattle.host.specs.declared.errors.HostError.TheVariants as failure
-use Rattle.host.specs.Writing.{Outputs, Wrote, WroteBefore}
 
 -- a list that is made of two lists, one after the other
 flat_map-append : {X A : Type 0} (f : X → List A) (xs ys : List X)

@@ -1,13 +1,8 @@
 -- The place of a reason among others that rise, and what one more frame of it changes.
-use Rattle.std.proofs.Common.{◌≡◌, ℕ, zero, suc, ◌<◌, ◌≤◌, ◌==◌, nat_lt, Bool, true, false, if◌then◌else◌, List, [], ◌∷◌, ◌++◌, length, take, drop, get_or, set, refl, sym, ap, ◌∙◌, subst, arith}
+use Rattle.host.proofs.Common.{◌≡◌, ℕ, zero, suc, ◌<◌, ◌≤◌, ◌==◌, nat_lt, Bool, true, false, if◌then◌else◌, List, [], ◌∷◌, ◌++◌, length, take, drop, get_or, set, refl, sym, ap, ◌∙◌, subst, arith, length-set, eq-eqb, ne_eqb, lt-ltb, le-ltb, one_more, Totals, is_met, one_more_of, with_reason, place_of}
 use Rattle.std.specs.List.{insert, refill}
-use Rattle.std.proofs.lemmas.List.{length-set}
 use Rattle.std.proofs.Math.Seq.{take-append_seam}
-use Rattle.std.proofs.lemmas.Bool.{eq-eqb, ne_eqb, lt-ltb, le-ltb}
 use Rattle.host.specs.declared.counts.ReasonCount.{ReasonCount}
-use Rattle.host.specs.EndCounts.{one_more}
-use Rattle.host.specs.Counts.{Totals, is_met, one_more_of, with_reason}
-use Rattle.host.specs.Places.{place_of}
 
 module _ (d : ReasonCount) (r : ℕ) where
   abbrev at : List ReasonCount → ℕ → ReasonCount

@@ -1,14 +1,7 @@
 -- What a run of an accepted program over bytes in memory writes keeps the promise.
-use Rattle.std.proofs.Common.{◌≡◌, [], ℕ, List, Some, Ok, subst}
+use Rattle.host.proofs.Common.{◌≡◌, [], ℕ, List, Some, Ok, subst, Stream, IsReport, starting_contents, AllExit, Bounded, IsVerified, in_memory, AreReadFrom-in_memory, RunsWhole}
 use Rattle.image.specs.Images.{image_bytes}
-use Rattle.isa_model.specs.Reporting.Streams.{Stream}
-use Rattle.isa_model.specs.Reporting.Reports.{IsReport, starting_contents}
-use Rattle.isa_model.specs.Running.Outcomes.{AllExit}
-use Rattle.bounds.specs.Bounds.{Bounded, IsVerified}
-use Rattle.frames.specs.Sources.{in_memory}
-use Rattle.frames.proofs.InputsLaws.{AreReadFrom-in_memory}
 use Rattle.host.specs.declared.tallies.Tally.{Tally}
-use Rattle.host.specs.Accepted.{RunsWhole}
 use Rattle.host.specs.Promise.{Promised, stream_in}
 
 pub Promised-run : (v : Bounded) (image stream report sent : List ℕ) (tally : Tally)

@@ -1,19 +1,6 @@
 -- From what a machine writes to the checked report.
-use Rattle.std.proofs.Common.{◌≡◌, ℕ, ◌+◌, List, [], ◌∷◌, ◌++◌, length, Result, Ok, Err, IfOk, refl, sym, ap, ◌∙◌, subst, append_assoc, ◌⊎◌, inl, inr}
-use Rattle.isa_model.specs.declared.map_defs.MapDef.{MapDef}
-use Rattle.isa_model.specs.declared.streams.Finish.{Finish}
-use Rattle.isa_model.specs.declared.versions.Version.{Version}
-use Rattle.isa_model.specs.Code.Versions.{stream_magic}
-use Rattle.isa_model.specs.Machine.States.{KeyValues}
-use Rattle.isa_model.specs.Reporting.Streams.{PacketFrame, Stream, stream_with, AreOpen}
-use Rattle.isa_model.specs.Reporting.Reports.{OutputPiece, ToReport, ToFrames, turns_pieces, contents_after, maps_pieces, last_line, checked_report_from}
-use Rattle.bounds.specs.Bounds.{Bounded}
-use Rattle.frames.specs.Sources.{Origin}
+use Rattle.host.proofs.Common.{◌≡◌, ℕ, ◌+◌, List, [], ◌∷◌, ◌++◌, length, Result, Ok, Err, IfOk, refl, sym, ap, ◌∙◌, subst, append_assoc, ◌⊎◌, inl, inr, MapDef, Finish, Version, stream_magic, KeyValues, PacketFrame, Stream, stream_with, AreOpen, OutputPiece, ToReport, ToFrames, turns_pieces, contents_after, maps_pieces, last_line, checked_report_from, Bounded, Origin, StreamEnded, HostError, rule_of, form_on, front_in, RunnerState, TakesWhole, TakesFront, Outputs, Wrote, WroteBefore, WritesEach}
 use Rattle.frames.specs.Inputs.{AreReadFrom, IsBegunBy}
-use Rattle.host.specs.declared.endings.StreamEnded.{StreamEnded}
-use Rattle.host.specs.declared.errors.HostError.{HostError}
-use Rattle.host.specs.Turns.{rule_of, form_on, front_in, RunnerState, TakesWhole, TakesFront}
-use Rattle.host.specs.Writing.{Outputs, Wrote, WroteBefore, WritesEach}
 use Rattle.host.specs.Reported.{ReportsWhole, Reports}
 use Rattle.host.proofs.Pieces.{Wrote-append, WroteBefore-append, WroteBefore-more}
 use Rattle.host.proofs.FrameLoop.{turns_pieces-append}

@@ -1,13 +1,6 @@
 -- What holds while the packet frames of a stream are run.
-use Rattle.std.proofs.Common.{◌≡◌, ℕ, List, length, Option}
-use Rattle.isa_model.specs.Machine.States.{KeyValues}
-use Rattle.isa_model.specs.Reporting.Streams.{PacketFrame}
-use Rattle.isa_model.specs.Reporting.Reports.{Rule, ReportForm, contents_after}
-use Rattle.frames.specs.Sources.{Origin}
+use Rattle.host.proofs.Common.{◌≡◌, ℕ, List, length, Option, KeyValues, PacketFrame, Rule, ReportForm, contents_after, Origin, HasBegun, Outputs, Wrote, front_in}
 use Rattle.frames.specs.Readers.{Position}
-use Rattle.frames.proofs.InputsLaws.{HasBegun}
-use Rattle.host.specs.Writing.{Outputs, Wrote}
-use Rattle.host.specs.Turns.{front_in}
 
 -- these frames were found and taken, and their pieces were written
 pub record WrittenSoFar (form : ReportForm) (rule : Rule) (start : List KeyValues)

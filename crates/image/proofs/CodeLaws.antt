@@ -1,11 +1,6 @@
 -- Laws of lists of instructions, and of their slots.
-use Rattle.std.proofs.Common.{◌≡◌, ◌≢◌, ◌+◌, Bool, true, false, List, [], ◌∷◌, ◌++◌, length, Option, Some, None, refl, ap, ◌∙◌, arith, length-append}
-use Rattle.isa_model.specs.declared.instructions.Insn.{Insn}
-use Rattle.isa_model.specs.declared.instructions.Insn.TheVariants.{LoadNumber, LoadMap, LoadMapValue}
-use Rattle.isa_model.specs.Code.Instructions.{slots, slots_filled}
-use Rattle.isa_model.specs.Code.Spelling.{InsnFits}
+use Rattle.image.proofs.Common.{◌≡◌, ◌≢◌, ◌+◌, Bool, true, false, List, [], ◌∷◌, ◌++◌, length, Option, Some, None, refl, ap, ◌∙◌, arith, length-append, Insn, LoadNumber, LoadMap, LoadMapValue, slots, slots_filled, InsnFits, IsCode, is_wide}
 use Rattle.isa_model.specs.Text.CanonicalText.{instructions}
-use Rattle.image.specs.Images.{IsCode, is_wide}
 
 abbrev CodeSlots : Type 0
 CodeSlots = List (Option Insn)

@@ -1,19 +1,7 @@
 -- Code that was read from bytes is spelled by them, and is code; and code that is spelled is read.
-use Rattle.std.proofs.Common.{◌≡◌, ℕ, zero, suc, ◌-◌, ◌+◌, ◌*◌, ◌≤◌, Bool, true, false, List, [], ◌∷◌, ◌++◌, take, drop, length, Option, Some, None, Result, Ok, Err, refl, sym, ap, ◌∙◌, subst, arith, drop-drop, length-append, take_all}
-use Rattle.std.proofs.lemmas.List.{length-drop, length-take, take-append-drop, drop_at}
-use Rattle.isa_model.specs.declared.map_defs.MapDef.{MapDef}
-use Rattle.isa_model.specs.declared.instructions.Insn.{Insn}
-use Rattle.isa_model.specs.declared.instructions.Insn.TheVariants.{LoadNumber, LoadMap, LoadMapValue}
-use Rattle.isa_model.specs.Code.Instructions.{slots_filled}
-use Rattle.isa_model.specs.Code.Spelling.{spelling_of, InsnFits}
+use Rattle.image.proofs.Common.{◌≡◌, ℕ, zero, suc, ◌-◌, ◌+◌, ◌*◌, ◌≤◌, Bool, true, false, List, [], ◌∷◌, ◌++◌, take, drop, length, Option, Some, None, Result, Ok, Err, refl, sym, ap, ◌∙◌, subst, arith, drop-drop, length-append, take_all, length-drop, length-take, take-append-drop, drop_at, MapDef, Insn, LoadNumber, LoadMap, LoadMapValue, slots_filled, spelling_of, InsnFits, EachByte, EachByte-drop, ImageError, NamesRows, code_bytes, is_wide, IsCode, NamesMaps, ◌>>=◌, unless, map_refusal, insn_at, at_slot, code_from}
 use Rattle.insn_codec.specs.declared.errors.CodecError.{CodecError}
 use Rattle.insn_codec.specs.Decoding.{decoded}
-use Rattle.isa_model.specs.Code.EachByte.{EachByte}
-use Rattle.isa_model.proofs.LittleEndianLaws.{EachByte-drop}
-use Rattle.image.specs.declared.errors.ImageError.{ImageError}
-use Rattle.isa_model.specs.Code.MapRows.{NamesRows}
-use Rattle.image.specs.Images.{code_bytes, is_wide, IsCode, NamesMaps}
-use Rattle.image.specs.Refusals.{◌>>=◌, unless, map_refusal, insn_at, at_slot, code_from}
 use Rattle.image.proofs.RowLaws.{NamesRows-map_refusal, map_refusal-NamesRows}
 
 abbrev CodeSlots : Type 0

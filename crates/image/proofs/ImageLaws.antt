@@ -1,14 +1,5 @@
 -- What holds of each slot of an image's program.
-use Rattle.std.proofs.Common.{◌≡◌, ℕ, zero, suc, ◌+◌, ◌<◌, Bool, true, false, List, [], ◌∷◌, length, Option, Some, None, refl, ap, ◌∙◌, subst, inl, inr, arith}
-use Rattle.std.specs.Prelude.{slice_get, ◌⊎◌}
-use Rattle.std.specs.Option.{option_flatten}
-use Rattle.isa_model.specs.declared.map_defs.MapDef.{MapDef}
-use Rattle.isa_model.specs.declared.instructions.Insn.{Insn}
-use Rattle.isa_model.specs.declared.instructions.Insn.TheVariants.{LoadNumber, LoadMap, LoadMapValue}
-use Rattle.isa_model.specs.Code.Instructions.{Program, fetch, slots_filled}
-use Rattle.isa_model.specs.Code.MapRows.{NamesRows}
-use Rattle.isa_model.specs.Code.Spelling.{InsnFits}
-use Rattle.image.specs.Images.{IsCode, is_wide, NamesMaps, IsImage}
+use Rattle.image.proofs.Common.{◌≡◌, ℕ, zero, suc, ◌+◌, ◌<◌, Bool, true, false, List, [], ◌∷◌, length, Option, Some, None, refl, ap, ◌∙◌, subst, inl, inr, arith, slice_get, ◌⊎◌, option_flatten, MapDef, Insn, LoadNumber, LoadMap, LoadMapValue, Program, fetch, slots_filled, NamesRows, InsnFits, IsCode, is_wide, NamesMaps, IsImage}
 
 -- ---- code, slot by slot
 

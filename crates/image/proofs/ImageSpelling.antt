@@ -1,19 +1,9 @@
 -- An image is spelled by its bytes, and these are read as that image.
-use Rattle.std.proofs.Common.{◌≡◌, ℕ, ◌+◌, ◌*◌, ◌≤◌, false, List, ◌++◌, drop, length, Option, Some, None, Result, Ok, refl, sym, ap, ◌∙◌, arith, drop-drop, length-append}
-use Rattle.std.specs.Prelude.{◌==◌, nat_lt, is_none, unwrap_or}
-use Rattle.std.specs.List.{flat_map}
-use Rattle.std.proofs.lemmas.Bool.{le-ltb, ne_eqb}
-use Rattle.std.proofs.lemmas.List.{drop_at}
-use Rattle.byteorder.specs.Endian.{little_bytes}
+use Rattle.image.proofs.Common.{◌≡◌, ℕ, ◌+◌, ◌*◌, ◌≤◌, false, List, ◌++◌, drop, length, Option, Some, None, Result, Ok, refl, sym, ap, ◌∙◌, arith, drop-drop, length-append, ◌==◌, nat_lt, is_none, flat_map, le-ltb, ne_eqb, drop_at, little_bytes, MapDef, Version, Program, ImageError, magic, row_bytes, code_bytes, image_bytes, IsImage, ◌>>=◌, unless, version_at, version_read, map_count, slot_count, size_of, size_refusal, rows_from, room_refusal, code_from, rows_read, code_read, program_read}
+use Rattle.std.specs.Prelude.{unwrap_or}
 use Rattle.byteorder.specs.Numbers.{little_number-reads_back}
-use Rattle.isa_model.specs.declared.map_defs.MapDef.{MapDef}
-use Rattle.isa_model.specs.declared.versions.Version.{Version}
 use Rattle.isa_model.specs.declared.versions.Version.TheVariants.{One, Two}
-use Rattle.isa_model.specs.Code.Instructions.{Program}
-use Rattle.image.specs.declared.errors.ImageError.{ImageError}
 use Rattle.isa_model.specs.declared.limits.TheConstants.{MAX_MAPS, MAX_SLOTS}
-use Rattle.image.specs.Images.{magic, row_bytes, code_bytes, image_bytes, IsImage}
-use Rattle.image.specs.Refusals.{◌>>=◌, unless, version_at, version_read, map_count, slot_count, size_of, size_refusal, rows_from, room_refusal, code_from, rows_read, code_read, program_read}
 use Rattle.image.proofs.CodeSpelling.{Laws, code_from-code_bytes, length-code_bytes}
 use Rattle.image.proofs.RowSpelling.{rows_from-row_bytes, length-rows}
 use Rattle.image.proofs.Whole.{CodeSlots, within_room, tests-pass, parts, program_ok}

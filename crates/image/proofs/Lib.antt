@@ -1,3 +1,4 @@
+mod Common
 pub mod Loop
 pub mod RowSpelling
 pub mod CodeSpelling

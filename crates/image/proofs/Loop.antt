@@ -1,10 +1,5 @@
 -- Reading rows and slots one after the other, as loops do.
-use Rattle.std.proofs.Common.{◌≡◌, ℕ, suc, ◌-◌, ◌+◌, ◌*◌, ◌≤◌, ◌<◌, Bool, true, false, List, [], ◌∷◌, ◌++◌, drop, Option, Some, None, Result, Ok, Err, refl, sym, ap, ◌∙◌, append_assoc, append-nil, arith, drop-drop}
-use Rattle.isa_model.specs.declared.map_defs.MapDef.{MapDef}
-use Rattle.isa_model.specs.declared.instructions.Insn.{Insn}
-use Rattle.image.specs.declared.errors.ImageError.{ImageError}
-use Rattle.image.specs.Images.{is_wide}
-use Rattle.image.specs.Refusals.{◌>>=◌, row_at, rows_from, insn_at, code_from}
+use Rattle.image.proofs.Common.{◌≡◌, ℕ, suc, ◌-◌, ◌+◌, ◌*◌, ◌≤◌, ◌<◌, Bool, true, false, List, [], ◌∷◌, ◌++◌, drop, Option, Some, None, Result, Ok, Err, refl, sym, ap, ◌∙◌, append_assoc, append-nil, arith, drop-drop, MapDef, Insn, ImageError, is_wide, ◌>>=◌, row_at, rows_from, insn_at, code_from}
 
 abbrev CodeSlots : Type 0
 CodeSlots = List (Option Insn)

@@ -1,9 +1,7 @@
 -- The program of an image is well-formed: `IsProgram` holds of it.
-use Rattle.std.proofs.Common.{arith, inl, inr}
-use Rattle.isa_model.specs.Code.Instructions.{Program}
+use Rattle.image.proofs.Common.{arith, inl, inr, Program, IsImage}
 use Rattle.isa_model.specs.Machine.MachineStates.{IsProgram}
 use Rattle.isa_model.proofs.InstructionLaws.{slots_filled-cases, fetch-below}
-use Rattle.image.specs.Images.{IsImage}
 use Rattle.image.proofs.ImageLaws.{InsnFits-fetch, NamesRows-fetch, fetch-second}
 
 pub IsProgram-IsImage : (p : Program) → IsImage p → IsProgram p

@@ -1,20 +1,9 @@
 -- Laws of the tests of map rows and of the maps that instructions name: what passes is allowed.
-use Rattle.std.proofs.Common.{◌≡◌, ℕ, ◌+◌, Bool, true, false, cond, List, [], ◌∷◌, length, Option, Some, None, refl, ap, eq-eqb}
-use Rattle.std.specs.Prelude.{◌&&◌, All, slice_get}
-use Rattle.std.specs.Option.{IsSomeAnd, option_or}
-use Rattle.std.proofs.lemmas.Bool.{and_parts, eqb-true, leb-true, le-leb, ltb-true, lt-ltb}
+use Rattle.image.proofs.Common.{◌≡◌, ℕ, ◌+◌, Bool, true, false, cond, List, [], ◌∷◌, length, Option, Some, None, refl, ap, eq-eqb, ◌&&◌, All, slice_get, IsSomeAnd, option_or, and_parts, eqb-true, leb-true, le-leb, ltb-true, lt-ltb, MapDef, Insn, LoadMap, LoadMapValue, KeyFits, IsRow, HoldsOffset, NamesRows, ImageError, MapRow, UnknownMap, ValuePointer, NamesMaps, key_fits, row_fits, rows_refusal, is_array, holds_offset, value_refusal, map_refusal, maps_refusal}
 use Rattle.std.proofs.lemmas.List.Elements.{All-nil, All-cons}
 use Rattle.isa_model.specs.Code.Limits.{max_key_size, max_value_size, max_map_entries}
 use Rattle.isa_model.specs.declared.map_defs.MapType.{MapType}
 use Rattle.isa_model.specs.declared.map_defs.MapType.TheVariants.{Hash, Array}
-use Rattle.isa_model.specs.declared.map_defs.MapDef.{MapDef}
-use Rattle.isa_model.specs.declared.instructions.Insn.{Insn}
-use Rattle.isa_model.specs.declared.instructions.Insn.TheVariants.{LoadMap, LoadMapValue}
-use Rattle.isa_model.specs.Code.MapRows.{KeyFits, IsRow, HoldsOffset, NamesRows}
-use Rattle.image.specs.declared.errors.ImageError.{ImageError}
-use Rattle.image.specs.declared.errors.ImageError.TheVariants.{MapRow, UnknownMap, ValuePointer}
-use Rattle.image.specs.Images.{NamesMaps}
-use Rattle.image.specs.Refusals.{key_fits, row_fits, rows_refusal, is_array, holds_offset, value_refusal, map_refusal, maps_refusal}
 
 both : (a b : Bool) → a ≡ true → b ≡ true → (a && b) ≡ true
 both a b h k = rw (h, k) refl

@@ -1,24 +1,10 @@
 -- Map rows that were read from bytes are spelled by them and are within their limits; and rows that
 -- are spelled are read.
-use Rattle.std.proofs.Common.{◌≡◌, ℕ, zero, suc, ◌+◌, ◌*◌, ◌≤◌, ◌<◌, ◌^◌, Bool, true, false, cond, List, [], ◌∷◌, ◌++◌, take, drop, length, Option, Some, None, Result, Ok, Err, refl, sym, ap, ◌∙◌, subst, arith, drop-drop, take-add, length-append}
-use Rattle.std.specs.Prelude.{◌==◌, All}
-use Rattle.std.specs.List.{flat_map}
-use Rattle.std.specs.Option.{option_map}
-use Rattle.std.proofs.lemmas.Bool.{eqb-true}
-use Rattle.std.proofs.lemmas.List.{length-drop}
+use Rattle.image.proofs.Common.{◌≡◌, ℕ, zero, suc, ◌+◌, ◌*◌, ◌≤◌, ◌<◌, ◌^◌, Bool, true, false, cond, List, [], ◌∷◌, ◌++◌, take, drop, length, Option, Some, None, Result, Ok, Err, refl, sym, ap, ◌∙◌, subst, arith, drop-drop, take-add, length-append, ◌==◌, All, flat_map, option_map, eqb-true, length-drop, little_bytes, little_number, MapDef, KeyFits, IsRow, EachByte, EachByte-drop, little_bytes-little_from, ImageError, MapRow, map_type_code, row_bytes, ◌>>=◌, row_fits, map_type_numbered, with_map_type, tested, row_at, rows_from}
 use Rattle.std.proofs.lemmas.List.Elements.{All-nil, All-cons, All-head, All-tail}
-use Rattle.byteorder.specs.Endian.{little_bytes, little_number}
 use Rattle.byteorder.specs.Numbers.{little_number-reads_back}
 use Rattle.isa_model.specs.declared.map_defs.MapType.{MapType}
 use Rattle.isa_model.specs.declared.map_defs.MapType.TheVariants.{Hash, Array}
-use Rattle.isa_model.specs.declared.map_defs.MapDef.{MapDef}
-use Rattle.isa_model.specs.Code.MapRows.{KeyFits, IsRow}
-use Rattle.isa_model.specs.Code.EachByte.{EachByte}
-use Rattle.isa_model.proofs.LittleEndianLaws.{EachByte-drop, little_bytes-little_from}
-use Rattle.image.specs.declared.errors.ImageError.{ImageError}
-use Rattle.image.specs.declared.errors.ImageError.TheVariants.{MapRow}
-use Rattle.image.specs.Images.{map_type_code, row_bytes}
-use Rattle.image.specs.Refusals.{◌>>=◌, row_fits, map_type_numbered, with_map_type, tested, row_at, rows_from}
 use Rattle.image.proofs.RowLaws.{IsRow-row_fits, row_fits-IsRow}
 
 abbrev row_ok : MapDef → Result MapDef ImageError

@@ -1,26 +1,11 @@
 -- Laws of whole images: the tests of their sizes, what is read from bytes, and refusals.
-use Rattle.std.proofs.Common.{◌≡◌, ℕ, zero, suc, ◌-◌, ◌+◌, ◌*◌, ◌/◌, ◌≤◌, Bool, true, false, cond, List, ◌++◌, take, drop, length, Option, Some, None, Result, Ok, Err, refl, sym, ap, ◌∙◌, subst, arith, inl, inr, drop-drop}
-use Rattle.std.specs.Prelude.{◌==◌, ◌⊎◌, nat_lt, nat_eq, sum_by, is_none, unwrap_or, if◌then◌else◌}
-use Rattle.std.specs.List.{starts_with, flat_map}
-use Rattle.std.specs.Option.{option_or}
+use Rattle.image.proofs.Common.{◌≡◌, ℕ, zero, suc, ◌-◌, ◌+◌, ◌*◌, ◌/◌, ◌≤◌, Bool, true, false, cond, List, ◌++◌, take, drop, length, Option, Some, None, Result, Ok, Err, refl, sym, ap, ◌∙◌, subst, arith, inl, inr, drop-drop, ◌==◌, ◌⊎◌, nat_lt, nat_eq, sum_by, is_none, if◌then◌else◌, starts_with, flat_map, option_or, ltb-false, le-ltb, length-drop, take-append-drop, little_bytes, MapDef, Insn, Version, Program, EachByte, EachByte-drop, little_bytes-little_from, ImageError, Magic, Short, Long, TooManyMaps, SlotCount, MapRoom, Memory, magic, row_bytes, head_bytes, image_bytes, IsCode, room_of, IsImage, ◌>>=◌, unless, count_refusal, rows_refusal, maps_refusal, parts_refusal, version_at, version_read, map_count, slot_count, size_of, size_refusal, rows_from, room_refusal, code_from, rows_read, code_read, program_read, refusal_of}
+use Rattle.std.specs.Prelude.{unwrap_or}
 use Rattle.std.specs.Result.{result_err}
 use Rattle.std.specs.Cmp.Lexicographic.{same_text}
 use Rattle.std.proofs.Math.Seq.{take-add}
-use Rattle.std.proofs.lemmas.Bool.{ltb-false, le-ltb}
-use Rattle.std.proofs.lemmas.List.{length-drop, take-append-drop}
-use Rattle.byteorder.specs.Endian.{little_bytes}
-use Rattle.isa_model.specs.declared.map_defs.MapDef.{MapDef}
-use Rattle.isa_model.specs.declared.instructions.Insn.{Insn}
-use Rattle.isa_model.specs.declared.versions.Version.{Version}
 use Rattle.isa_model.specs.declared.versions.Version.TheVariants.{One, Two}
-use Rattle.isa_model.specs.Code.Instructions.{Program}
-use Rattle.isa_model.specs.Code.EachByte.{EachByte}
-use Rattle.isa_model.proofs.LittleEndianLaws.{EachByte-drop, little_bytes-little_from}
-use Rattle.image.specs.declared.errors.ImageError.{ImageError}
-use Rattle.image.specs.declared.errors.ImageError.TheVariants.{Magic, Short, Long, TooManyMaps, SlotCount, MapRoom, Memory}
 use Rattle.isa_model.specs.declared.limits.TheConstants.{MAX_MAPS, MAX_MAP_ROOM, MAX_SLOTS}
-use Rattle.image.specs.Images.{magic, row_bytes, head_bytes, image_bytes, IsCode, room_of, IsImage}
-use Rattle.image.specs.Refusals.{◌>>=◌, unless, count_refusal, rows_refusal, maps_refusal, parts_refusal, version_at, version_read, map_count, slot_count, size_of, size_refusal, rows_from, room_refusal, code_from, rows_read, code_read, program_read, refusal_of}
 use Rattle.image.proofs.RowLaws.{All-rows_refusal, NamesMaps-maps_refusal, neither}
 use Rattle.image.proofs.CodeSpelling.{Laws, bind_ok, take-rest, code_from-found}
 use Rattle.image.proofs.RowSpelling.{rows_ok, same_rows, rows_from-fit, rows_from-found}

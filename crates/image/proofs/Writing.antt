@@ -1,17 +1,8 @@
 -- Laws of code and images that were written in part.
-use Rattle.std.proofs.Common.{◌≡◌, ℕ, suc, ◌+◌, ◌<◌, List, [], ◌∷◌, ◌++◌, take, drop, length, get_or, Option, Some, None, Result, Ok, Err, sym, ap, ◌∙◌, subst, drop-cons}
-use Rattle.std.specs.Prelude.{OnErr}
-use Rattle.std.specs.List.{flat_map}
+use Rattle.image.proofs.Common.{◌≡◌, ℕ, suc, ◌+◌, ◌<◌, List, [], ◌∷◌, ◌++◌, take, drop, length, get_or, Option, Some, None, Result, Ok, Err, sym, ap, ◌∙◌, subst, drop-cons, OnErr, flat_map, take-append-drop, take_more, Appends, MapDef, Insn, spelling_of, AppendsBeginning, row_bytes, slot_spelling, code_bytes}
 use Rattle.std.proofs.lemmas.Grind.{flat_map-append}
-use Rattle.std.proofs.lemmas.List.{take-append-drop, take_more}
-use Rattle.std.specs.Io.KnownBytes.{Appends}
 use Rattle.std.proofs.KnownBytes.{Appends-trans}
-use Rattle.isa_model.specs.declared.map_defs.MapDef.{MapDef}
-use Rattle.isa_model.specs.declared.instructions.Insn.{Insn}
-use Rattle.isa_model.specs.Code.Spelling.{spelling_of}
-use Rattle.exact_io.specs.Transfers.{AppendsBeginning}
 use Rattle.exact_io.proofs.TransferLaws.{AppendsBeginning-first, AppendsBeginning-second}
-use Rattle.image.specs.Images.{row_bytes, slot_spelling, code_bytes}
 
 abbrev CodeSlots : Type 0
 CodeSlots = List (Option Insn)

@@ -1,25 +1,11 @@
 -- Laws of decoding again what was spelled: an instruction's spelling is decoded to it.
-use Rattle.std.proofs.Common.{◌≡◌, ℕ, ◌+◌, ◌*◌, ◌/◌, ◌%◌, ◌^◌, ◌<◌, Bool, true, false, cond, ℤ, List, ◌++◌, length, Option, Some, Result, Ok, Err, refl, ap, ◌∙◌, arith}
-use Rattle.std.specs.Prelude.{nat_lt}
-use Rattle.std.specs.Int.{w16, w32, cast_signed, cast_unsigned}
-use Rattle.std.specs.Int.RustNames.{FitsSigned}
+use Rattle.insn_codec.proofs.Common.{◌≡◌, ℕ, ◌+◌, ◌*◌, ◌/◌, ◌%◌, ◌^◌, ◌<◌, Bool, true, false, cond, ℤ, List, ◌++◌, length, Option, Some, Result, Ok, Err, refl, ap, ◌∙◌, arith, nat_lt, w16, w32, cast_signed, cast_unsigned, FitsSigned, le-ltb, little_number, little_bytes, little_number-reads_back, Reg, R0, R1, R5, R6, SwapWidth, B16, Extension, Low8, Low16, Full8, Full16, Full32, Width, AluOp, Constant, Register, Insn, Alu, Neg, MovSx, ByteSwap, LoadNumber, LoadMap, LoadMapValue, Load, LoadSx, StoreConstant, Store, Atomic, Exchange, CompareExchange, Jump, JumpLong, JumpIf, CallHelper, CallLocal, Exit, Slot, reg_numbered, span_bits, alu_code, alu_offset, alu_class, jump_class, jump_code, extension_class, extension_offset, order_opcode, size_code, signed_code, atomic_opcode, atomic_code, fetch_bit, first_slot, next_imm, second_bytes, InsnFits, OperandFits, CodecError, AluCode, Form, form_of, uses, zero_unused, next_imm_read, wide_by, meaning, slot_meaning, with_form, with_dst, with_src}
 use Rattle.std.proofs.lemmas.Int.{to_z-of_z}
-use Rattle.std.proofs.lemmas.Bool.{le-ltb}
-use Rattle.byteorder.specs.Endian.{little_number, little_bytes}
-use Rattle.byteorder.specs.Numbers.{little_number-reads_back}
-use Rattle.isa_model.specs.declared.registers.Reg.{Reg}
-use Rattle.isa_model.specs.declared.registers.Reg.TheVariants.{R0, R1, R5, R6}
 use Rattle.isa_model.specs.declared.sizes.Size.{Size}
 use Rattle.isa_model.specs.declared.sizes.Size.TheVariants.{U8}
 use Rattle.isa_model.specs.declared.sizes.SignedSize.{SignedSize}
 use Rattle.isa_model.specs.declared.sizes.SignedSize.TheVariants.{S8}
-use Rattle.isa_model.specs.declared.sizes.SwapWidth.{SwapWidth}
-use Rattle.isa_model.specs.declared.sizes.SwapWidth.TheVariants.{B16}
-use Rattle.isa_model.specs.declared.sizes.Extension.{Extension}
-use Rattle.isa_model.specs.declared.sizes.Extension.TheVariants.{Low8, Low16, Full8, Full16, Full32}
-use Rattle.isa_model.specs.declared.sizes.Width.{Width}
 use Rattle.isa_model.specs.declared.sizes.Width.TheVariants.{Low32, Full64}
-use Rattle.isa_model.specs.declared.instructions.AluOp.{AluOp}
 use Rattle.isa_model.specs.declared.instructions.AluOp.TheVariants as ops
 use Rattle.isa_model.specs.declared.instructions.Comparison.{Comparison}
 use Rattle.isa_model.specs.declared.instructions.Comparison.TheVariants.{Equal}
@@ -28,25 +14,13 @@ use Rattle.isa_model.specs.declared.sizes.ByteOrder.TheVariants.{Little}
 use Rattle.isa_model.specs.declared.instructions.AtomicOp.{AtomicOp}
 use Rattle.isa_model.specs.declared.instructions.AtomicOp.TheVariants as atomics
 use Rattle.isa_model.specs.declared.instructions.Operand.{Operand}
-use Rattle.isa_model.specs.declared.instructions.Operand.TheVariants.{Constant, Register}
 use Rattle.isa_model.specs.declared.instructions.Place.{Place}
 use Rattle.isa_model.specs.declared.instructions.Cond.{Cond}
-use Rattle.isa_model.specs.declared.instructions.Insn.{Insn}
-use Rattle.isa_model.specs.declared.instructions.Insn.TheVariants.{Alu, Neg, MovSx, ByteSwap, LoadNumber, LoadMap, LoadMapValue, Load, LoadSx, StoreConstant, Store, Atomic, Exchange, CompareExchange, Jump, JumpLong, JumpIf, CallHelper, CallLocal, Exit}
-use Rattle.isa_model.specs.declared.slots.Slot.{Slot}
-use Rattle.isa_model.specs.Code.Registers.{reg_numbered}
-use Rattle.isa_model.specs.Code.Sizes.{span_bits}
-use Rattle.isa_model.specs.Code.Spelling.{alu_code, alu_offset, alu_class, jump_class, jump_code, extension_class, extension_offset, order_opcode, size_code, signed_code, atomic_opcode, atomic_code, fetch_bit, first_slot, next_imm, second_bytes, InsnFits, OperandFits}
 use Rattle.isa_model.proofs.RegisterLaws.{reg_numbered-reg_number}
-use Rattle.insn_codec.specs.declared.errors.CodecError.{CodecError}
 use Rattle.insn_codec.specs.declared.errors.CodecError.TheVariants.{UnusedField, SecondSlot}
-use Rattle.insn_codec.specs.declared.forms.AluCode.{AluCode}
 use Rattle.insn_codec.specs.declared.forms.AluCode.TheVariants as codes
-use Rattle.insn_codec.specs.declared.forms.Form.{Form}
 use Rattle.insn_codec.specs.declared.forms.Form.TheVariants as form
 use Rattle.insn_codec.specs.declared.fields.Fields.{Fields}
-use Rattle.insn_codec.specs.Forms.{form_of, uses, zero_unused}
-use Rattle.insn_codec.specs.Decoding.{next_imm_read, wide_by, meaning, slot_meaning, with_form, with_dst, with_src}
 
 abbrev fields : Reg → Reg → ℕ → ℕ → Fields
 fields d r o k = record { dst = d; src = r; offset = o; imm = k }

@@ -1,17 +1,9 @@
 -- The opcode of each form, and that no other opcode names the form; the same of registers and their
 -- numbers. All 256 opcodes and 16 numbers are tried.
-use Rattle.std.proofs.Common.{◌≡◌, ℕ, ◌+◌, ◌<◌, Bool, true, Option, Some, refl, subst}
-use Rattle.std.specs.Prelude.{◌==◌}
+use Rattle.insn_codec.proofs.Common.{◌≡◌, ℕ, ◌+◌, ◌<◌, Bool, true, Option, Some, refl, subst, ◌==◌, agree_below_at, eqb-true, Reg, reg_number, reg_numbered, alu_class, jump_class, jump_code, order_opcode, size_code, signed_code, atomic_opcode, AluCode, Form, form_of}
 use Rattle.std.specs.Option.{option_map_or}
-use Rattle.std.proofs.lemmas.Bool.{agree_below_at, eqb-true}
-use Rattle.isa_model.specs.declared.registers.Reg.{Reg}
-use Rattle.isa_model.specs.Code.Registers.{reg_number, reg_numbered}
-use Rattle.isa_model.specs.Code.Spelling.{alu_class, jump_class, jump_code, order_opcode, size_code, signed_code, atomic_opcode}
-use Rattle.insn_codec.specs.declared.forms.AluCode.{AluCode}
 use Rattle.insn_codec.specs.declared.forms.AluCode.TheVariants as codes
-use Rattle.insn_codec.specs.declared.forms.Form.{Form}
 use Rattle.insn_codec.specs.declared.forms.Form.TheVariants as form
-use Rattle.insn_codec.specs.Forms.{form_of}
 
 abbrev pub code_bits : AluCode → ℕ
 code_bits codes.Add = 0x00

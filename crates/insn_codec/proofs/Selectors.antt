@@ -1,29 +1,11 @@
 -- What a selector names, and that the fields which a form does not use are zero.
-use Rattle.std.proofs.Common.{◌≡◌, ℕ, Bool, true, false, cond, Option, Some, None, Result, Ok, refl, sym, subst, inl, inr}
-use Rattle.std.specs.Prelude.{◌==◌, ◌||◌, ◌⊎◌}
+use Rattle.insn_codec.proofs.Common.{◌≡◌, ℕ, Bool, true, false, cond, Option, Some, None, Result, Ok, refl, sym, subst, inl, inr, ◌==◌, ◌||◌, ◌⊎◌, and_parts, eqb-true, Reg, R0, Width, AluOp, SwapWidth, B16, B32, B64, Extension, Low8, Low16, Full8, Full16, Full32, Insn, reg_number, span_bits, alu_code, alu_offset, alu_class, extension_class, extension_offset, CodecError, AluCode, has_selector, zero_unused, is_r0, op_selected, extension_selected, span_selected, selected}
 use Rattle.std.specs.Option.{option_map}
-use Rattle.std.proofs.lemmas.Bool.{and_parts, eqb-true}
-use Rattle.isa_model.specs.declared.registers.Reg.{Reg}
-use Rattle.isa_model.specs.declared.registers.Reg.TheVariants.{R0}
-use Rattle.isa_model.specs.declared.sizes.Width.{Width}
 use Rattle.isa_model.specs.declared.sizes.Width.TheVariants.{Low32, Full64}
-use Rattle.isa_model.specs.declared.instructions.AluOp.{AluOp}
 use Rattle.isa_model.specs.declared.instructions.AluOp.TheVariants as ops
-use Rattle.isa_model.specs.declared.sizes.SwapWidth.{SwapWidth}
-use Rattle.isa_model.specs.declared.sizes.SwapWidth.TheVariants.{B16, B32, B64}
-use Rattle.isa_model.specs.declared.sizes.Extension.{Extension}
-use Rattle.isa_model.specs.declared.sizes.Extension.TheVariants.{Low8, Low16, Full8, Full16, Full32}
-use Rattle.isa_model.specs.declared.instructions.Insn.{Insn}
-use Rattle.isa_model.specs.Code.Registers.{reg_number}
-use Rattle.isa_model.specs.Code.Sizes.{span_bits}
-use Rattle.isa_model.specs.Code.Spelling.{alu_code, alu_offset, alu_class, extension_class, extension_offset}
-use Rattle.insn_codec.specs.declared.errors.CodecError.{CodecError}
-use Rattle.insn_codec.specs.declared.forms.AluCode.{AluCode}
 use Rattle.insn_codec.specs.declared.forms.AluCode.TheVariants as codes
 use Rattle.insn_codec.specs.declared.forms.Uses.{Uses}
 use Rattle.insn_codec.specs.declared.fields.Fields.{Fields}
-use Rattle.insn_codec.specs.Forms.{has_selector, zero_unused, is_r0}
-use Rattle.insn_codec.specs.Decoding.{op_selected, extension_selected, span_selected, selected}
 use Rattle.insn_codec.proofs.Opcodes.{code_bits}
 
 -- ---- tools

@@ -1,34 +1,14 @@
 -- Decoding is sound: an instruction is spelled by the bytes that it was decoded from.
-use Rattle.std.proofs.Common.{◌≡◌, ℕ, ◌+◌, ◌*◌, ◌/◌, ◌%◌, ◌^◌, ◌<◌, ◌≤◌, cond, true, false, List, [], ◌∷◌, ◌++◌, length, take, drop, Option, Some, None, Result, Ok, Err, refl, sym, ap, ◌∙◌, subst, arith, inl, inr, take-add}
-use Rattle.std.specs.Prelude.{◌==◌, nat_lt, not}
+use Rattle.insn_codec.proofs.Common.{◌≡◌, ℕ, ◌+◌, ◌*◌, ◌/◌, ◌%◌, ◌^◌, ◌<◌, ◌≤◌, cond, true, false, List, [], ◌∷◌, ◌++◌, length, take, drop, Option, Some, None, Result, Ok, Err, refl, sym, ap, ◌∙◌, subst, arith, inl, inr, take-add, ◌==◌, nat_lt, not, w16, w32, cast_signed, cast_unsigned, eqb-true, ltb-false, not-false, FitsSigned, little_from-lt, little_number, little_bytes, Reg, R0, R1, R5, R6, Width, Constant, Register, Insn, LoadNumber, LoadMap, LoadMapValue, Alu, MovSx, ByteSwap, Atomic, Exchange, CompareExchange, Slot, reg_number, reg_numbered, InsnFits, alu_class, atomic_opcode, first_slot, next_imm, second_bytes, slot, CodecError, AluCode, Form, uses, zero_unused, form_of, with_next, op_selected, extension_selected, span_selected, meaning, slot_meaning, with_form, with_dst, with_src, with_fields, atomic, called_by, moved, swapped, wide_by, next_imm_read, constant_in, place_in}
 use Rattle.std.proofs.lemmas.List.{length-drop}
-use Rattle.std.specs.Int.{w16, w32, cast_signed, cast_unsigned}
-use Rattle.std.proofs.lemmas.Bool.{eqb-true, ltb-false, not-false}
 use Rattle.std.proofs.lemmas.Int.{of_z-to_z}
 use Rattle.std.proofs.Math.Facts.{sfits_to_z}
-use Rattle.std.specs.Int.RustNames.{FitsSigned}
-use Rattle.byteorder.specs.Numbers.{little_from-lt}
-use Rattle.byteorder.specs.Endian.{little_number, little_bytes}
-use Rattle.isa_model.specs.declared.registers.Reg.{Reg}
-use Rattle.isa_model.specs.declared.registers.Reg.TheVariants.{R0, R1, R5, R6}
-use Rattle.isa_model.specs.declared.sizes.Width.{Width}
 use Rattle.isa_model.specs.declared.instructions.AluOp.TheVariants as ops
 use Rattle.isa_model.specs.declared.sizes.ByteOrder.{ByteOrder}
 use Rattle.isa_model.specs.declared.instructions.AtomicOp.TheVariants as atomics
-use Rattle.isa_model.specs.declared.instructions.Operand.TheVariants.{Constant, Register}
-use Rattle.isa_model.specs.declared.instructions.Insn.{Insn}
-use Rattle.isa_model.specs.declared.instructions.Insn.TheVariants.{LoadNumber, LoadMap, LoadMapValue, Alu, MovSx, ByteSwap, Atomic, Exchange, CompareExchange}
-use Rattle.isa_model.specs.declared.slots.Slot.{Slot}
-use Rattle.isa_model.specs.Code.Registers.{reg_number, reg_numbered}
-use Rattle.isa_model.specs.Code.Spelling.{InsnFits, alu_class, atomic_opcode, first_slot, next_imm, second_bytes, slot}
 use Rattle.isa_model.specs.Code.EachByte.{EachByte}
 use Rattle.isa_model.proofs.LittleEndianLaws.{EachByte-drop, little_bytes-little_from}
-use Rattle.insn_codec.specs.declared.errors.CodecError.{CodecError}
-use Rattle.insn_codec.specs.declared.forms.AluCode.{AluCode}
-use Rattle.insn_codec.specs.declared.forms.Form.{Form}
 use Rattle.insn_codec.specs.declared.forms.Form.TheVariants as form
-use Rattle.insn_codec.specs.Forms.{uses, zero_unused, form_of}
-use Rattle.insn_codec.specs.Decoding.{with_next, op_selected, extension_selected, span_selected, meaning, slot_meaning, with_form, with_dst, with_src, with_fields, atomic, called_by, moved, swapped, wide_by, next_imm_read, constant_in, place_in}
 use Rattle.insn_codec.proofs.Selectors.{chosen, ok_is, selected_ok, r0_is, zeroes, op_is, extension_is, span_is, done, fields, Zeroes}
 use Rattle.insn_codec.proofs.Opcodes.{opcode_of, opcode-form_of, number-reg_numbered}
 

@@ -1,37 +1,15 @@
 -- Decoding as a whole: what is decoded is spelled by the front of the bytes; a spelling is decoded
 -- to its instruction.
-use Rattle.std.proofs.Common.{◌≡◌, ℕ, ◌+◌, ◌*◌, ◌/◌, ◌%◌, ◌^◌, ◌<◌, ◌≤◌, Bool, true, false, cond, ℤ, pos, negsuc, List, [], ◌∷◌, ◌++◌, length, take, drop, Result, Ok, Err, refl, sym, ap, ◌∙◌, arith, inl, inr, take-add, append-nil, drop-drop, take_all}
-use Rattle.std.specs.Prelude.{nat_lt, slice_index, IfOk}
-use Rattle.std.specs.Int.{w16, w32, cast_unsigned}
-use Rattle.std.specs.Int.RustNames.{FitsSigned}
-use Rattle.std.proofs.lemmas.Bool.{ltb-false, le-ltb}
+use Rattle.insn_codec.proofs.Common.{◌≡◌, ℕ, ◌+◌, ◌*◌, ◌/◌, ◌%◌, ◌^◌, ◌<◌, ◌≤◌, Bool, true, false, cond, ℤ, pos, negsuc, List, [], ◌∷◌, ◌++◌, length, take, drop, Result, Ok, Err, refl, sym, ap, ◌∙◌, arith, inl, inr, take-add, append-nil, drop-drop, take_all, nat_lt, slice_index, IfOk, w16, w32, cast_unsigned, FitsSigned, ltb-false, le-ltb, little_number, little_bytes, little_number-reads_back, little_from-lt, Reg, R0, Insn, Alu, Neg, MovSx, ByteSwap, LoadNumber, LoadMap, LoadMapValue, Load, LoadSx, StoreConstant, Store, Atomic, Exchange, CompareExchange, Jump, JumpLong, JumpIf, CallHelper, CallLocal, Exit, Constant, Register, AluOp, Extension, Low8, SwapWidth, B16, Slot, reg_number, span_bits, first_slot, next_imm, second_bytes, slot_bytes, spelling_of, alu_offset, extension_offset, atomic_code, fetch_bit, InsnFits, OperandFits, operand_imm, CodecError, slot_at, slot_meaning, decoded, sized}
 use Rattle.std.proofs.lemmas.List.{length-drop, length-take}
-use Rattle.byteorder.specs.Endian.{little_number, little_bytes}
-use Rattle.byteorder.specs.Numbers.{little_number-reads_back, little_from-lt}
-use Rattle.isa_model.specs.declared.registers.Reg.{Reg}
-use Rattle.isa_model.specs.declared.registers.Reg.TheVariants.{R0}
-use Rattle.isa_model.specs.declared.instructions.Insn.{Insn}
-use Rattle.isa_model.specs.declared.instructions.Insn.TheVariants.{Alu, Neg, MovSx, ByteSwap, LoadNumber, LoadMap, LoadMapValue, Load, LoadSx, StoreConstant, Store, Atomic, Exchange, CompareExchange, Jump, JumpLong, JumpIf, CallHelper, CallLocal, Exit}
 use Rattle.isa_model.specs.declared.instructions.Operand.{Operand}
-use Rattle.isa_model.specs.declared.instructions.Operand.TheVariants.{Constant, Register}
-use Rattle.isa_model.specs.declared.instructions.AluOp.{AluOp}
 use Rattle.isa_model.specs.declared.instructions.AluOp.TheVariants.{SignedDiv}
-use Rattle.isa_model.specs.declared.sizes.Extension.{Extension}
-use Rattle.isa_model.specs.declared.sizes.Extension.TheVariants.{Low8}
-use Rattle.isa_model.specs.declared.sizes.SwapWidth.{SwapWidth}
-use Rattle.isa_model.specs.declared.sizes.SwapWidth.TheVariants.{B16}
 use Rattle.isa_model.specs.declared.instructions.AtomicOp.{AtomicOp}
 use Rattle.isa_model.specs.declared.instructions.AtomicOp.TheVariants as atomics
-use Rattle.isa_model.specs.declared.slots.Slot.{Slot}
-use Rattle.isa_model.specs.Code.Registers.{reg_number}
-use Rattle.isa_model.specs.Code.Sizes.{span_bits}
 use Rattle.isa_model.specs.Code.Instructions.{slots_filled}
-use Rattle.isa_model.specs.Code.Spelling.{first_slot, next_imm, second_bytes, slot_bytes, spelling_of, alu_offset, extension_offset, atomic_code, fetch_bit, InsnFits, OperandFits, operand_imm}
 use Rattle.isa_model.specs.Code.EachByte.{EachByte}
 use Rattle.isa_model.proofs.LittleEndianLaws.{EachByte-drop, EachByte-take, little_bytes-little_from}
-use Rattle.insn_codec.specs.declared.errors.CodecError.{CodecError}
 use Rattle.insn_codec.specs.declared.errors.CodecError.TheVariants.{Short}
-use Rattle.insn_codec.specs.Decoding.{slot_at, slot_meaning, decoded, sized}
 use Rattle.insn_codec.proofs.Selectors.{chosen}
 use Rattle.insn_codec.proofs.Sound.{slot_is, Continues, HasFittingFields, SpelledBy, slot_meaning-spelled}
 use Rattle.insn_codec.proofs.Again.{slot_meaning-first_slot}

@@ -1,35 +1,11 @@
 -- Laws of accesses to memory: the result of a load is a value, and stores and atomic instructions
 -- lead to a state.
-use Rattle.std.specs.Prelude.{◌≡◌, ℕ, zero, suc, ◌^◌, ◌<◌, ◌==◌, Bool, true, false, ℤ, pos, ◌+ℤ◌, List, [], ◌∷◌, map, drop, length, slice_index_or, All, Option, Some, None, Ok, Err, IfOk, refl}
-use Rattle.std.specs.Option.{option_map}
-use Rattle.std.proofs.Common.{subst, arith}
-use Rattle.std.proofs.lemmas.List.{length-map}
-use Rattle.std.proofs.lemmas.List.Elements.{All-nil, All-get_or, All-take, All-drop, All-weaker}
-use Rattle.std.proofs.lemmas.List.Quantifiers.{position-Some}
+use Rattle.isa_model.proofs.Common.{◌≡◌, ℕ, zero, suc, ◌^◌, ◌<◌, ◌==◌, Bool, true, false, ℤ, pos, ◌+ℤ◌, List, [], ◌∷◌, map, drop, length, slice_index_or, All, Option, Some, None, Ok, Err, IfOk, subst, arith, refl, option_map, length-map, All-nil, All-get_or, All-take, All-drop, All-weaker, position-Some, Reg, Width, Size, U8, U16, U32, U64, Region, Value, Unset, Num, Ptr, Cell, Byte, CallFrame, MapDef, BadAccess, size_bytes, width_size, unsigned_size, size_extension, sign_extended, bytes_of, Program, Stored, Content, KeyValues, key_values_of, State, content_of, new_call_frame, call_frame_at, and_then, call_frame_index, index_of_serial, key_value_at, number_in, value_in, pieces, index_at, region_cells, place_of, cells_at, read, put, write, context_field, number_at, memory_load, load_from, load, load_number, load_signed, store_number, store_pointer, store, base_of, swaps_in, fetched_into, AreBytes, IsKeyValue, FitRows, IsOffset, IsRegion, IsValue, IsCell, IsCallFrame, IsState}
 use Rattle.std.proofs.Math.ListN.{get_or-map as get_or-map_default}
-use Rattle.isa_model.specs.declared.registers.Reg.{Reg}
-use Rattle.isa_model.specs.declared.sizes.Width.{Width}
-use Rattle.isa_model.specs.declared.sizes.Size.{Size}
-use Rattle.isa_model.specs.declared.sizes.Size.TheVariants.{U8, U16, U32, U64}
 use Rattle.isa_model.specs.declared.sizes.SignedSize.{SignedSize}
 use Rattle.isa_model.specs.declared.instructions.Place.{Place}
-use Rattle.isa_model.specs.declared.values.Region.{Region}
 use Rattle.isa_model.specs.declared.values.Region.TheVariants as region
-use Rattle.isa_model.specs.declared.values.Value.{Value}
-use Rattle.isa_model.specs.declared.values.Value.TheVariants.{Unset, Num, Ptr}
-use Rattle.isa_model.specs.declared.values.Cell.{Cell}
-use Rattle.isa_model.specs.declared.values.Cell.TheVariants.{Byte}
-use Rattle.isa_model.specs.declared.values.CallFrame.{CallFrame}
-use Rattle.isa_model.specs.declared.map_defs.MapDef.{MapDef}
-use Rattle.isa_model.specs.declared.ends.TrapReason.TheVariants.{BadAccess}
-use Rattle.isa_model.specs.Code.Sizes.{size_bytes, width_size, unsigned_size, size_extension}
-use Rattle.isa_model.specs.Code.Numbers.{sign_extended, bytes_of}
 use Rattle.isa_model.proofs.ExtensionLaws.{sign_extended_fits}
-use Rattle.isa_model.specs.Code.Instructions.{Program}
-use Rattle.isa_model.specs.Machine.States.{Stored, Content, KeyValues, key_values_of, State, content_of, new_call_frame, call_frame_at}
-use Rattle.isa_model.specs.Machine.Memory.{and_then, call_frame_index, index_of_serial, key_value_at, number_in, value_in, pieces, index_at, region_cells, place_of, cells_at, read, put, write, context_field, number_at, memory_load, load_from, load, load_number, load_signed, store_number, store_pointer, store}
-use Rattle.isa_model.specs.Machine.Steps.{base_of, swaps_in, fetched_into}
-use Rattle.isa_model.specs.Machine.MachineStates.{AreBytes, IsKeyValue, FitRows, IsOffset, IsRegion, IsValue, IsCell, IsCallFrame, IsState}
 use Rattle.isa_model.proofs.ValueLaws.{IfOk-and_then, IfOk-if, Byte_cells_fit, number_in_fits, value_in_fits, pieces_fit, bytes_of_fit}
 use Rattle.isa_model.proofs.StateLaws.{IsState-set_reg, HasCells, place_in_room, call_frame_room, IsState-put}
 

@@ -1,10 +1,7 @@
 -- Laws of cells that are all number bytes, as those of packets and map values are.
 use Rattle.std.proofs.Common.{◌≡◌, ℕ, true, false, List, [], ◌∷◌, map, take, drop, refl, ap, ◌∙◌, Ok}
 use Rattle.std.specs.List.{list_any, list_all, take-map, drop-map}
-use Rattle.isa_model.specs.declared.values.Value.TheVariants.{Num}
-use Rattle.isa_model.specs.declared.values.Cell.TheVariants.{Byte}
-use Rattle.isa_model.specs.Code.Numbers.{number_from}
-use Rattle.isa_model.specs.Machine.Memory.{is_unwritten, is_byte, byte_in, number_in, value_in}
+use Rattle.isa_model.proofs.Common.{Num, Byte, number_from, is_unwritten, is_byte, byte_in, number_in, value_in}
 
 -- none of them is unwritten
 pub list_any-is_unwritten-Byte : (bytes : List ℕ) → list_any is_unwritten (map Byte bytes) ≡ false

@@ -1,21 +1,6 @@
 -- Laws of local calls and exits: a state with a call frame pushed or popped is still a state.
-use Rattle.std.specs.Prelude.{◌≡◌, ◌≢◌, ℕ, ◌+◌, ◌-◌, ◌<◌, ◌≤◌, List, [], ◌∷◌, ◌++◌, map, take, length, slice_index_or, All, AllPairs, refl}
-use Rattle.std.specs.List.{flat_map}
-use Rattle.std.proofs.Common.{sym, ap, ◌∙◌, subst, arith, length-append, append_assoc}
-use Rattle.std.proofs.Math.Seq.{take-append-add, drop-append_seam}
+use Rattle.isa_model.proofs.Common.{◌≡◌, ◌≢◌, ℕ, ◌+◌, ◌-◌, ◌<◌, ◌≤◌, List, [], ◌∷◌, ◌++◌, map, take, length, slice_index_or, All, AllPairs, sym, ap, ◌∙◌, subst, arith, length-append, append_assoc, refl, flat_map, take-append-add, drop-append_seam, map-append, take-map, length-take-le, get_or-take, length-map, All-get_or, All-push, All-take, All-drop, All-weaker, All-replicate, All-from_recursion, all_pairs_push, R0, Value, Unwritten, CallFrame, Program, State, value_at, reg, frame_pointer, new_call_frame, call_frame_at, max_call_frames, stack_size, saved_registers, regs_within, regs_after, enter, callers, innermost, leave, IsValue, IsCell, IsCallFrame, IsSlot, value_serials, live_serials, IsState}
 use Rattle.std.proofs.Math.ListN.{get_or-map as get_or-map_default}
-use Rattle.std.proofs.lemmas.List.{map-append, take-map, length-take-le, get_or-take, length-map}
-use Rattle.std.proofs.lemmas.List.Elements.{All-get_or, All-push, All-take, All-drop, All-weaker, All-replicate, All-from_recursion}
-use Rattle.std.proofs.lemmas.List.Quantifiers.{all_pairs_push}
-use Rattle.isa_model.specs.declared.registers.Reg.TheVariants.{R0}
-use Rattle.isa_model.specs.declared.values.Value.{Value}
-use Rattle.isa_model.specs.declared.values.Cell.TheVariants.{Unwritten}
-use Rattle.isa_model.specs.declared.values.CallFrame.{CallFrame}
-use Rattle.isa_model.specs.Code.Instructions.{Program}
-use Rattle.isa_model.specs.Machine.States.{State, value_at, reg, frame_pointer, new_call_frame, call_frame_at}
-use Rattle.isa_model.specs.Code.Limits.{max_call_frames, stack_size}
-use Rattle.isa_model.specs.Machine.Calls.{saved_registers, regs_within, regs_after, enter, callers, innermost, leave}
-use Rattle.isa_model.specs.Machine.MachineStates.{IsValue, IsCell, IsCallFrame, IsSlot, value_serials, live_serials, IsState}
 use Rattle.isa_model.proofs.ValueLaws.{IsValue-more, IsCell-more}
 use Rattle.isa_model.proofs.StateLaws.{serial_of, value_at_fits}
 

@@ -1,43 +1,13 @@
 -- A run asks the clock at most once a step, so only the clock's first answers count.
-use Rattle.std.specs.Prelude.{◌≡◌, ℕ, zero, suc, ◌+◌, ◌<◌, ◌≤◌, ◌==◌, Bool, true, false, if◌then◌else◌, ℤ, ◌+ℤ◌, List, map, length, slice_index, Option, Some, None, Result, Ok, Err, IfOk, refl}
-use Rattle.std.specs.List.{list_any, range_with_len}
-use Rattle.std.proofs.Common.{ap, ◌∙◌, arith}
+use Rattle.isa_model.proofs.Common.{◌≡◌, ℕ, zero, suc, ◌+◌, ◌<◌, ◌≤◌, ◌==◌, Bool, true, false, if◌then◌else◌, ℤ, ◌+ℤ◌, List, map, length, slice_index, Option, Some, None, Result, Ok, Err, IfOk, ap, ◌∙◌, arith, refl, list_any, range_with_len, Reg, R0, R1, R2, R3, R4, Width, Full64, Size, U8, U16, U32, U64, Insn, Alu, Neg, MovSx, ByteSwap, LoadNumber, LoadMap, LoadMapValue, Load, LoadSx, StoreConstant, Store, Atomic, Exchange, CompareExchange, Jump, JumpLong, JumpIf, CallHelper, CallLocal, Exit, Region, Value, Unset, Num, Ptr, Cell, Byte, MapDef, FrameHead, TrapReason, Version, UnsetRead, ReadOnly, TooManyCallFrames, BadAction, width_size, low, unsigned, alu, bytes_of, atomic_alu, Program, fetch, reads, writes, is_frame_pointer, KeyValues, State, reg, content_of, and_then, pieces, index_at, place_of, put, write, load_number, store_number, store_pointer, store, max_call_frames, enter, leave, update_answer, delete_answer, StepResult, Next, Finished, Trapped, map_pointer, value_pointer, base_of, destination, sets, goes_on, branches, test_of, is_answer, finishes, swaps_in, fetched_into, act, is_unset, performed_at, step, start_state, Progress, GoesOn, Ended, after_step, advanced, progress, turn_of, turn}
 use Rattle.std.proofs.lemmas.List.FromFn.{get_or-map-range_with_len}
-use Rattle.isa_model.specs.declared.registers.Reg.{Reg}
-use Rattle.isa_model.specs.declared.registers.Reg.TheVariants.{R0, R1, R2, R3, R4}
-use Rattle.isa_model.specs.declared.sizes.Width.{Width}
-use Rattle.isa_model.specs.declared.sizes.Width.TheVariants.{Full64}
-use Rattle.isa_model.specs.declared.sizes.Size.{Size}
-use Rattle.isa_model.specs.declared.sizes.Size.TheVariants.{U8, U16, U32, U64}
 use Rattle.isa_model.specs.declared.instructions.Place.{Place}
-use Rattle.isa_model.specs.declared.instructions.Insn.{Insn}
-use Rattle.isa_model.specs.declared.instructions.Insn.TheVariants.{Alu, Neg, MovSx, ByteSwap, LoadNumber, LoadMap, LoadMapValue, Load, LoadSx, StoreConstant, Store, Atomic, Exchange, CompareExchange, Jump, JumpLong, JumpIf, CallHelper, CallLocal, Exit}
-use Rattle.isa_model.specs.declared.values.Region.{Region}
 use Rattle.isa_model.specs.declared.values.Region.TheVariants as region
-use Rattle.isa_model.specs.declared.values.Value.{Value}
-use Rattle.isa_model.specs.declared.values.Value.TheVariants.{Unset, Num, Ptr}
-use Rattle.isa_model.specs.declared.values.Cell.{Cell}
-use Rattle.isa_model.specs.declared.values.Cell.TheVariants.{Byte}
-use Rattle.isa_model.specs.declared.map_defs.MapDef.{MapDef}
 use Rattle.isa_model.specs.declared.helpers.Helper.{Helper}
 use Rattle.isa_model.specs.declared.helpers.Helper.TheVariants.{MapLookupElem, MapUpdateElem, MapDeleteElem, KtimeGetNs}
-use Rattle.isa_model.specs.declared.frames.FrameHead.{FrameHead}
-use Rattle.isa_model.specs.declared.ends.TrapReason.{TrapReason}
-use Rattle.isa_model.specs.declared.versions.Version.{Version}
-use Rattle.isa_model.specs.declared.ends.TrapReason.TheVariants.{UnsetRead, ReadOnly, TooManyCallFrames, BadAction}
-use Rattle.isa_model.specs.Code.Sizes.{width_size}
-use Rattle.isa_model.specs.Code.Numbers.{low, unsigned, alu, bytes_of, atomic_alu}
 use Rattle.isa_model.specs.Code.Helpers.{helper_numbered}
-use Rattle.isa_model.specs.Code.Instructions.{Program, fetch, reads, writes, is_frame_pointer}
-use Rattle.isa_model.specs.Machine.States.{KeyValues, State, reg, content_of}
-use Rattle.isa_model.specs.Machine.Memory.{and_then, pieces, index_at, place_of, put, write, load_number, store_number, store_pointer, store}
-use Rattle.isa_model.specs.Code.Limits.{max_call_frames}
-use Rattle.isa_model.specs.Machine.Calls.{enter, leave}
-use Rattle.isa_model.specs.Machine.MapContents.{update_answer, delete_answer}
 use Rattle.isa_model.specs.Machine.MapHelpers.{Helped, put_bytes, remove_key, map_update_elem, map_delete_elem}
 use Rattle.isa_model.specs.Machine.HelperCalls.{map_argument, bytes_argument, number_argument, bytes_at, lookup_call, update_call, delete_call, helper_call, after_call}
-use Rattle.isa_model.specs.Machine.Steps.{StepResult, Next, Finished, Trapped, map_pointer, value_pointer, base_of, destination, sets, goes_on, branches, test_of, is_answer, finishes, swaps_in, fetched_into, act, is_unset, performed_at, step}
-use Rattle.isa_model.specs.Running.Runs.{start_state, Progress, GoesOn, Ended, after_step, advanced, progress, turn_of, turn}
 use Rattle.isa_model.proofs.ValueLaws.{IfOk-and_then, IfOk-then}
 use Rattle.isa_model.proofs.StepLaws.{IfNext, with_number}
 

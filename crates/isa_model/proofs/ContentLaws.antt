@@ -1,22 +1,7 @@
 -- Laws of a map's content with one key put or removed: it still fits its row, and which serials it
 -- has. Which answers change it, and that answers have 64 bits.
-use Rattle.std.specs.Prelude.{◌≡◌, ℕ, suc, ◌+◌, ◌^◌, ◌<◌, ◌≤◌, ◌==◌, ◌⊎◌, Bool, true, false, not, ◌&&◌, cond, nat_lt, nat_le, if◌then◌else◌, List, [], ◌∷◌, map, length, filter, is_some, All, Option, Some, None, T, refl}
+use Rattle.isa_model.proofs.Common.{◌≡◌, ℕ, suc, ◌+◌, ◌^◌, ◌<◌, ◌≤◌, ◌==◌, ◌⊎◌, Bool, true, false, not, ◌&&◌, cond, nat_lt, nat_le, if◌then◌else◌, List, [], ◌∷◌, map, length, filter, is_some, All, Option, Some, None, T, sym, ap, ◌∙◌, subst, arith, inl, inr, refl, AllByRecursion, is_lt, is_eq, Less, Equal, Greater, nat_list_cmp_total, by_order, below_all, is_sorted, is_sorted-put, is_sorted-where_key, length-put, length_without, nat_tests, length-map, All-head, All-tail, All-filter, MapType, Hash, Array, MapDef, Stored, Content, KeyValues, key_values_of, key_order, is_key, at_key, has_key, with_key, without_key, enoent, e2big, eexist, einval, noexist, exist, hash_update, array_update, update_answer_by, delete_answer_by, update_answer, delete_answer, IsKeyValue, keys_of, KeysFit, FitsRow, value_serials}
 use Rattle.std.specs.List.Sorted.{IsStrictlySortedBy}
-use Rattle.std.specs.List.{AllByRecursion}
-use Rattle.std.specs.Ordering.{is_lt, is_eq}
-use Rattle.std.specs.declared.cmp.Ordering.TheVariants.{Less, Equal, Greater}
-use Rattle.std.specs.Cmp.Lexicographic.{nat_list_cmp_total}
-use Rattle.std.specs.FinMap.Entries.{by_order, below_all, is_sorted, is_sorted-put, is_sorted-where_key, length-put, length_without}
-use Rattle.std.proofs.Common.{sym, ap, ◌∙◌, subst, arith, inl, inr}
-use Rattle.std.proofs.lemmas.Bool.Decides.{nat_tests}
-use Rattle.std.proofs.lemmas.List.{length-map}
-use Rattle.std.proofs.lemmas.List.Elements.{All-head, All-tail, All-filter}
-use Rattle.isa_model.specs.declared.map_defs.MapType.{MapType}
-use Rattle.isa_model.specs.declared.map_defs.MapType.TheVariants.{Hash, Array}
-use Rattle.isa_model.specs.declared.map_defs.MapDef.{MapDef}
-use Rattle.isa_model.specs.Machine.States.{Stored, Content, KeyValues, key_values_of}
-use Rattle.isa_model.specs.Machine.MapContents.{key_order, is_key, at_key, has_key, with_key, without_key, enoent, e2big, eexist, einval, noexist, exist, hash_update, array_update, update_answer_by, delete_answer_by, update_answer, delete_answer}
-use Rattle.isa_model.specs.Machine.MachineStates.{IsKeyValue, keys_of, KeysFit, FitsRow, value_serials}
 use Rattle.isa_model.proofs.TestLaws.{both, less_is}
 use Rattle.isa_model.proofs.PutKeys.{All-with_key, IsStrictlySortedBy-is_sorted}
 use Rattle.isa_model.proofs.SerialLaws.{HasOneMore, HasOneMore-before}

@@ -1,10 +1,5 @@
 -- Laws of the definitions in specs/Running/Ends.
-use Rattle.std.specs.Prelude.{◌≡◌, ℕ, zero, suc, ◌≤◌, refl}
-use Rattle.std.proofs.Common.{sym, ap, ◌∙◌, subst, arith}
-use Rattle.isa_model.specs.Code.Instructions.{Program}
-use Rattle.isa_model.specs.Machine.States.{State}
-use Rattle.isa_model.specs.Machine.Steps.{StepResult, Next, Finished, Trapped, step}
-use Rattle.isa_model.specs.Running.Runs.{Progress, GoesOn, Ended, after_step, advanced, progress, Reaches, Runs}
+use Rattle.isa_model.proofs.Common.{◌≡◌, ℕ, zero, suc, ◌≤◌, sym, ap, ◌∙◌, subst, arith, refl, Program, State, StepResult, Next, Finished, Trapped, step, Progress, GoesOn, Ended, after_step, advanced, progress, Reaches, Runs}
 use Rattle.isa_model.proofs.RunLaws.{progress-zero, progress-suc}
 use Rattle.isa_model.specs.Running.Ends.{After, Ends}
 

@@ -1,15 +1,10 @@
 -- Laws of sign extension: it fits its width; by cases, and as a sum.
-use Rattle.std.proofs.Common.{inl, inr, ◌≡◌, ◌⊎◌, ℕ, ◌+◌, ◌-◌, ◌%◌, ◌^◌, ◌<◌, ◌≤◌, refl, ◌∙◌, arith, Bool, true, false, cond, w32, w64}
-use Rattle.std.specs.Prelude.{nat_lt}
+use Rattle.std.proofs.Common.{inl, inr, ◌≡◌, ◌⊎◌, ℕ, ◌+◌, ◌-◌, ◌%◌, ◌^◌, ◌<◌, ◌≤◌, refl, ◌∙◌, arith, Bool, true, false, cond, w32, w64, nat_lt}
 use Rattle.std.specs.Int.{Width as IntWidth, w8, w16, cast_signed, cast_unsigned}
 use mir.Val.{bits, hbits}
-use Rattle.std.proofs.Math.Nat.{mod-eq_of_lt}
-use Rattle.std.proofs.lemmas.Nat.{mod_below}
-use Rattle.std.proofs.lemmas.Bool.{cases_lt, lt-ltb, le-ltb}
+use Rattle.isa_model.proofs.Common.{mod-eq_of_lt, mod_below, cases_lt, lt-ltb, le-ltb, width_bits, extension_bits, extension_width, sign_extended}
 use Rattle.isa_model.specs.declared.sizes.Extension.{Extension}
 use Rattle.isa_model.specs.declared.sizes.Extension.TheVariants.{Low8, Low16, Full8, Full16, Full32}
-use Rattle.isa_model.specs.Code.Sizes.{width_bits, extension_bits, extension_width}
-use Rattle.isa_model.specs.Code.Numbers.{sign_extended}
 use Rattle.isa_model.proofs.NumberLaws.{width_fits}
 
 -- a number without the sign bit, H, is extended to itself, and one with it has ones put before it

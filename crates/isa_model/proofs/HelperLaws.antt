@@ -1,21 +1,6 @@
 -- Laws for helpers: of one map of a state. And of the results of wide loads of maps.
-use Rattle.std.specs.Prelude.{◌≡◌, ℕ, zero, suc, ◌<◌, List, [], ◌∷◌, ◌++◌, map, length, slice_get, slice_index_or, All, Option, Some, None, IsSomeAnd, refl}
-use Rattle.std.specs.List.{flat_map}
-use Rattle.std.proofs.Common.{sym, subst, arith}
-use Rattle.std.proofs.Math.Seq.{take-append_seam, drop-append_seam}
+use Rattle.isa_model.proofs.Common.{◌≡◌, ℕ, zero, suc, ◌<◌, List, [], ◌∷◌, ◌++◌, map, length, slice_get, slice_index_or, All, Option, Some, None, IsSomeAnd, sym, subst, arith, refl, flat_map, take-append_seam, drop-append_seam, slice_get_within, get_or_from_slice_get, length-map, All-nil, All-get_or, All-take, All-drop, at_from_Contains, little_bytes, MapDef, MapType, Array, Program, IsRow, HoldsOffset, Stored, KeyValues, key_values_of, State, content_of, one_serial, map_pointer, value_pointer, keys_of, KeysFit, FitsRow, FitRows, IsValue, value_serials, live_serials, IsState}
 use Rattle.std.proofs.Math.ListN.{get_or-map as get_or-map_default}
-use Rattle.std.proofs.lemmas.Option.{slice_get_within, get_or_from_slice_get}
-use Rattle.std.proofs.lemmas.List.{length-map}
-use Rattle.std.proofs.lemmas.List.Elements.{All-nil, All-get_or, All-take, All-drop, at_from_Contains}
-use Rattle.byteorder.specs.Endian.{little_bytes}
-use Rattle.isa_model.specs.declared.map_defs.MapDef.{MapDef}
-use Rattle.isa_model.specs.declared.map_defs.MapType.{MapType}
-use Rattle.isa_model.specs.declared.map_defs.MapType.TheVariants.{Array}
-use Rattle.isa_model.specs.Code.Instructions.{Program}
-use Rattle.isa_model.specs.Code.MapRows.{IsRow, HoldsOffset}
-use Rattle.isa_model.specs.Machine.States.{Stored, KeyValues, key_values_of, State, content_of}
-use Rattle.isa_model.specs.Machine.Steps.{one_serial, map_pointer, value_pointer}
-use Rattle.isa_model.specs.Machine.MachineStates.{keys_of, KeysFit, FitsRow, FitRows, IsValue, value_serials, live_serials, IsState}
 use Rattle.isa_model.proofs.StateLaws.{serial_of}
 
 -- ---- one map of a state

@@ -1,28 +1,10 @@
 -- The call of a helper leads from a state to a state.
-use Rattle.std.specs.Prelude.{◌≡◌, ℕ, zero, suc, ◌+◌, ◌<◌, ◌≤◌, ◌==◌, ◌++◌, Bool, true, false, if◌then◌else◌, List, [], ◌∷◌, map, drop, replicate, length, slice_get, slice_set, All, Option, Some, None, Result, Ok, Err, IfOk, refl}
-use Rattle.std.specs.List.{list_any, list_all, flat_map}
-use Rattle.std.proofs.Common.{sym, ap, ◌∙◌, subst, arith, length-drop}
-use Rattle.std.proofs.lemmas.Option.{slice_get_within}
-use Rattle.std.proofs.lemmas.List.{map-set, length-map, length-take-le}
-use Rattle.std.proofs.lemmas.List.Elements.{All-cons, All-append, All-drop, All-weaker, All-replicate}
-use Rattle.isa_model.specs.declared.registers.Reg.TheVariants.{R1, R2, R3, R4}
+use Rattle.isa_model.proofs.Common.{◌≡◌, ℕ, zero, suc, ◌+◌, ◌<◌, ◌≤◌, ◌==◌, ◌++◌, Bool, true, false, if◌then◌else◌, List, [], ◌∷◌, map, drop, replicate, length, slice_get, slice_set, All, Option, Some, None, Result, Ok, Err, IfOk, sym, ap, ◌∙◌, subst, arith, length-drop, refl, list_any, list_all, flat_map, slice_get_within, map-set, length-map, length-take-le, All-cons, All-append, All-drop, All-weaker, All-replicate, R1, R2, R3, R4, Value, Unset, Num, Ptr, Cell, Hash, MapDef, TrapReason, UnsetRead, BadAccess, Program, Stored, Content, KeyValues, key_values_of, State, reg, content_of, and_then, is_unwritten, is_byte, byte_in, index_at, region_cells, cells_at, place_of, read, at_key, has_key, with_key, without_key, update_answer, delete_answer, AreBytes, IsKeyValue, FitsRow, FitRows, IsValue, IsCell, IsCallFrame, value_serials, live_serials, IsState, IsClock}
 use Rattle.isa_model.specs.declared.helpers.Helper.{Helper}
 use Rattle.isa_model.specs.declared.helpers.Helper.TheVariants.{MapLookupElem, MapUpdateElem, MapDeleteElem, KtimeGetNs}
 use Rattle.isa_model.specs.declared.values.Region.TheVariants as region
-use Rattle.isa_model.specs.declared.values.Value.{Value}
-use Rattle.isa_model.specs.declared.values.Value.TheVariants.{Unset, Num, Ptr}
-use Rattle.isa_model.specs.declared.values.Cell.{Cell}
-use Rattle.isa_model.specs.declared.map_defs.MapType.TheVariants.{Hash}
-use Rattle.isa_model.specs.declared.map_defs.MapDef.{MapDef}
-use Rattle.isa_model.specs.declared.ends.TrapReason.{TrapReason}
-use Rattle.isa_model.specs.declared.ends.TrapReason.TheVariants.{UnsetRead, BadAccess}
-use Rattle.isa_model.specs.Code.Instructions.{Program}
-use Rattle.isa_model.specs.Machine.States.{Stored, Content, KeyValues, key_values_of, State, reg, content_of}
-use Rattle.isa_model.specs.Machine.Memory.{and_then, is_unwritten, is_byte, byte_in, index_at, region_cells, cells_at, place_of, read}
-use Rattle.isa_model.specs.Machine.MapContents.{at_key, has_key, with_key, without_key, update_answer, delete_answer}
 use Rattle.isa_model.specs.Machine.MapHelpers.{Helped, serial_given, serial_after, put_bytes, remove_key, pointer_or_zero, map_lookup_elem, map_update_elem, map_delete_elem}
 use Rattle.isa_model.specs.Machine.HelperCalls.{MapArgument, map_of_row, map_argument, BytesArgument, bytes_argument, number_argument, bytes_in, bytes_at, lookup_call, update_call, delete_call, helper_call, answered, after_call}
-use Rattle.isa_model.specs.Machine.MachineStates.{AreBytes, IsKeyValue, FitsRow, FitRows, IsValue, IsCell, IsCallFrame, value_serials, live_serials, IsState, IsClock}
 use Rattle.isa_model.proofs.ValueLaws.{IfOk-and_then, IfOk-then, IfOk-if, IsValue-more, bytes_in_fit}
 use Rattle.isa_model.proofs.StateLaws.{IsState-moved, HasCells, place_in_room, serial_of, flat_map-set_same}
 use Rattle.isa_model.proofs.CallLaws.{IsCallFrame-more}

@@ -1,14 +1,5 @@
 -- Laws of the slots and the registers of instructions.
-use Rattle.std.specs.Prelude.{◌≡◌, ◌≢◌, ℕ, ◌<◌, ◌≤◌, ◌⊎◌, false, length, Option, Some, None, refl}
-use Rattle.std.specs.Option.{option_flatten, option_to_list}
-use Rattle.std.proofs.Common.{ap, sym, arith, inl, inr}
-use Rattle.std.proofs.lemmas.Option.{slice_get_past}
-use Rattle.std.proofs.lemmas.Bool.{cases_lt}
-use Rattle.isa_model.specs.declared.registers.Reg.{Reg}
-use Rattle.isa_model.specs.declared.registers.Reg.TheVariants.{R10}
-use Rattle.isa_model.specs.declared.instructions.Insn.{Insn}
-use Rattle.isa_model.specs.declared.instructions.Insn.TheVariants.{LoadNumber, LoadMap, LoadMapValue}
-use Rattle.isa_model.specs.Code.Instructions.{Program, fetch, slots_filled, is_frame_pointer}
+use Rattle.isa_model.proofs.Common.{◌≡◌, ◌≢◌, ℕ, ◌<◌, ◌≤◌, ◌⊎◌, false, length, Option, Some, None, ap, sym, arith, inl, inr, refl, option_flatten, option_to_list, slice_get_past, cases_lt, Reg, R10, Insn, LoadNumber, LoadMap, LoadMapValue, Program, fetch, slots_filled, is_frame_pointer}
 use Rattle.isa_model.specs.MustAccept.Paths.{IsOneOf}
 
 pub slots_filled-cases : (i : Insn) → (slots_filled i ≡ 1) ⊎ (slots_filled i ≡ 2)

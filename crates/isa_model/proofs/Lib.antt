@@ -1,3 +1,4 @@
+mod Common
 pub mod ExtensionLaws
 pub mod LittleEndianLaws
 pub mod NumberLaws

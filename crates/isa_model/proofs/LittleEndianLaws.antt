@@ -1,10 +1,6 @@
 -- Laws of little-endian numbers in lists of bytes: read and written again, the same bytes.
 use Rattle.std.proofs.Common.{◌≡◌, ℕ, zero, suc, ◌+◌, ◌*◌, ◌/◌, ◌%◌, ◌^◌, ◌≤◌, List, length, take, drop, slice_index, refl, ap, sym, ◌∙◌, arith, drop-cons, inl, inr}
-use Rattle.std.proofs.lemmas.Bool.{cases_lt}
-use Rattle.std.proofs.lemmas.List.{get_or-drop, get_or-take, get_or_past, length-take}
-use Rattle.std.proofs.Math.Nat.{div-div-eq-div-mul, pow-succ'}
-use Rattle.std.specs.Int.{byte_at, bytes_low_first}
-use Rattle.byteorder.specs.Endian.{little_from, little_bytes}
+use Rattle.isa_model.proofs.Common.{cases_lt, get_or-drop, get_or-take, get_or_past, length-take, div-div-eq-div-mul, pow-succ', byte_at, bytes_low_first, little_from, little_bytes}
 use Rattle.isa_model.specs.Code.EachByte.{EachByte}
 
 pub EachByte-drop : (n : ℕ) (xs : List ℕ) → EachByte xs → EachByte (drop n xs)

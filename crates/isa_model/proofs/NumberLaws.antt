@@ -1,22 +1,14 @@
 -- Laws of numbers of 32 and 64 bits: results of operations fit their width; low bits.
-use Rattle.std.proofs.Common.{inl, inr, ◌≡◌, ℕ, ℤ, pos, negsuc, neg_ℤ, zero, suc, ◌+◌, ◌-◌, ◌*◌, ◌/◌, ◌%◌, ◌^◌, ◌<◌, ◌≤◌, refl, arith, Bool, true, false, cond, w32, w64}
-use Rattle.std.specs.Prelude.{int_div, int_rem, nat_eq, unsigned_abs}
+use Rattle.std.proofs.Common.{inl, inr, ◌≡◌, ℕ, ℤ, pos, negsuc, neg_ℤ, zero, suc, ◌+◌, ◌-◌, ◌*◌, ◌/◌, ◌%◌, ◌^◌, ◌<◌, ◌≤◌, refl, arith, Bool, true, false, cond, w32, w64, int_div, int_rem, nat_eq, unsigned_abs}
 use Rattle.std.specs.Int.{Width as IntWidth, cast_signed, cast_unsigned}
 use mir.Val.{bits, hbits}
 use lib.Signed.{mag, shr_z}
-use Rattle.std.proofs.Math.Nat.{mod-le, mod-mod, div-le_self, div-mul-le_self}
-use Rattle.std.proofs.lemmas.Nat.{mod_below, le-div, pow_pos, or_lt, xor_lt, and_le_l}
-use Rattle.std.proofs.lemmas.Bool.{cases_lt, lt-ltb, le-ltb}
-use Rattle.isa_model.specs.declared.sizes.Width.{Width}
-use Rattle.isa_model.specs.declared.sizes.Width.TheVariants.{Low32, Full64}
+use Rattle.isa_model.proofs.Common.{mod-le, mod-mod, div-le_self, div-mul-le_self, mod_below, le-div, pow_pos, or_lt, xor_lt, and_le_l, cases_lt, lt-ltb, le-ltb, Width, Low32, Full64, Add, Sub, Mul, Div, SignedDiv, Or, And, Lsh, Rsh, Mod, SignedMod, Xor, Mov, Arsh, width_bits, span_bits, low, alu, result_of, shift, reordered}
 use Rattle.isa_model.specs.declared.sizes.SwapWidth.{SwapWidth}
 use Rattle.isa_model.specs.declared.sizes.SwapWidth.TheVariants.{B16, B32, B64}
 use Rattle.isa_model.specs.declared.sizes.ByteOrder.{ByteOrder}
 use Rattle.isa_model.specs.declared.sizes.ByteOrder.TheVariants.{Little, Big, Swap}
 use Rattle.isa_model.specs.declared.instructions.AluOp.{AluOp}
-use Rattle.isa_model.specs.declared.instructions.AluOp.TheVariants.{Add, Sub, Mul, Div, SignedDiv, Or, And, Lsh, Rsh, Mod, SignedMod, Xor, Mov, Arsh}
-use Rattle.isa_model.specs.Code.Sizes.{width_bits, span_bits}
-use Rattle.isa_model.specs.Code.Numbers.{low, alu, result_of, shift, reordered}
 
 -- a number of a width fits a register
 pub width_fits : (w : Width) → 2 ^ width_bits w ≤ 2 ^ 64

@@ -1,13 +1,7 @@
 -- Laws of the definitions in specs/Running/Outcomes.
-use Rattle.std.specs.Prelude.{ℕ, zero, suc, ◌≤◌, List, map, refl}
-use Rattle.std.proofs.Common.{subst, sym}
-use Rattle.isa_model.specs.declared.frames.FrameHead.{FrameHead}
-use Rattle.isa_model.specs.Code.Instructions.{Program}
-use Rattle.isa_model.specs.Machine.States.{KeyValues, key_values_of}
-use Rattle.isa_model.specs.Running.Runs.{start_state, Runs, Outcome, HasOutcome}
+use Rattle.isa_model.proofs.Common.{ℕ, zero, suc, ◌≤◌, List, map, subst, sym, refl, FrameHead, Program, KeyValues, key_values_of, start_state, Runs, Outcome, HasOutcome, FitRows, IsProgram, IsClock, IsGiven}
 use Rattle.isa_model.specs.Running.Ends.{Ends}
 use Rattle.isa_model.proofs.EndsLaws.{Runs-Ends}
-use Rattle.isa_model.specs.Machine.MachineStates.{FitRows, IsProgram, IsClock, IsGiven}
 use Rattle.isa_model.proofs.StepLaws.{progress_keeps, start_is_state}
 use Rattle.isa_model.specs.Running.Outcomes.{StartsEnd}
 

@@ -1,18 +1,10 @@
 -- Laws of a content after a value is put: what holds of its keys and values, their order, and which
 -- keys it has.
-use Rattle.std.specs.Prelude.{◌≡◌, ℕ, ◌+◌, ◌≤◌, Bool, true, false, cond, T, List, [], ◌∷◌, map, length, is_some, All, Contains, Some, refl}
-use Rattle.std.specs.List.{AllByRecursion}
+use Rattle.isa_model.proofs.Common.{◌≡◌, ℕ, ◌+◌, ◌≤◌, Bool, true, false, cond, T, List, [], ◌∷◌, map, length, is_some, All, Contains, Some, ap, sym, subst, ◌∙◌, arith, refl, AllByRecursion, is_lt, nat_list_cmp_total, Less, Equal, Greater, by_order, below_all, is_sorted, find-put, is_some-find, length-put, All-nil, All-cons, All-head, All-tail, key_order, is_key, at_key, has_key, with_key}
 use Rattle.std.specs.List.Sorted.{IsStrictlySortedBy}
-use Rattle.std.specs.Ordering.{is_lt}
 use Rattle.std.specs.Cmp.{eq_by_cmp_equiv}
-use Rattle.std.specs.Cmp.Lexicographic.{nat_list_cmp_total}
-use Rattle.std.specs.declared.cmp.Ordering.TheVariants.{Less, Equal, Greater}
 use Rattle.std.specs.FinMap.{slice_cmp-IsAntisymmetric, nat_cmp-IsAntisymmetric}
-use Rattle.std.specs.FinMap.Entries.{by_order, below_all, is_sorted, find-put, is_some-find, length-put}
-use Rattle.std.proofs.Common.{ap, sym, subst, ◌∙◌, arith}
-use Rattle.std.proofs.lemmas.List.Elements.{All-nil, All-cons, All-head, All-tail}
 use Rattle.std.proofs.lemmas.Map.Views.{Contains-from_any}
-use Rattle.isa_model.specs.Machine.MapContents.{key_order, is_key, at_key, has_key, with_key}
 use Rattle.isa_model.proofs.TestLaws.{both_parts, is_less, is_equal}
 
 -- what holds of each key with its value holds of each after a value is put, if it holds of the new

@@ -1,8 +1,6 @@
 -- Laws of registers and their numbers.
 use Rattle.std.proofs.Common.{◌≡◌, ◌<◌, Some, refl, sym, ap, ◌∙◌, arith}
-use Rattle.std.proofs.lemmas.Option.{same_Some}
-use Rattle.isa_model.specs.declared.registers.Reg.{Reg}
-use Rattle.isa_model.specs.declared.registers.Reg.TheVariants.{R0, R10}
+use Rattle.isa_model.proofs.Common.{same_Some, Reg, R0, R10}
 use Rattle.isa_model.specs.Code.Registers.{reg_number, reg_numbered}
 
 pub reg_number-below : (r : Reg) → reg_number r < 11

@@ -1,18 +1,10 @@
 -- Laws of reports: where all runs exit within the limit, the checked report is the report, and the
 -- only one.
-use Rattle.std.specs.Prelude.{◌≡◌, ℕ, ◌+◌, ◌≤◌, ◌==◌, List, [], ◌∷◌, ◌++◌, length, if◌then◌else◌, Bool, true, false, All, Option, Some, None, refl}
-use Rattle.std.proofs.Common.{sym, ap, ◌∙◌, subst, arith}
-use Rattle.std.proofs.lemmas.List.Elements.{All-head, All-tail}
-use Rattle.isa_model.specs.declared.versions.Version.{Version}
+use Rattle.isa_model.proofs.Common.{◌≡◌, ℕ, ◌+◌, ◌≤◌, ◌==◌, List, [], ◌∷◌, ◌++◌, length, if◌then◌else◌, Bool, true, false, All, Option, Some, None, sym, ap, ◌∙◌, subst, arith, refl, All-head, All-tail, Version, max_body, max_packet, Program, KeyValues, Outcome, Turn, FitRows, IsProgram, IsClock, IsGiven}
 use Rattle.isa_model.specs.declared.versions.Version.TheVariants.{One, Two}
 use Rattle.isa_model.specs.Code.Versions.{stream_magic}
-use Rattle.isa_model.specs.Code.Limits.{max_body, max_packet}
-use Rattle.isa_model.specs.Code.Instructions.{Program}
-use Rattle.isa_model.specs.Machine.States.{KeyValues}
 use Rattle.isa_model.specs.Reporting.Streams.{PacketFrame, IsPacketFrame, Stream}
-use Rattle.isa_model.specs.Running.Runs.{Outcome, Turn}
 use Rattle.isa_model.proofs.RunLaws.{turn-outcome, HasOutcome-same}
-use Rattle.isa_model.specs.Machine.MachineStates.{FitRows, IsProgram, IsClock, IsGiven}
 use Rattle.isa_model.specs.Running.Outcomes.{StartsEnd, AllExit, ExitsOn}
 use Rattle.isa_model.proofs.OutcomesLaws.{ExitsWithin, ExitsWithin-StartsEnd, FitRows-HasOutcome}
 use Rattle.isa_model.specs.Reporting.Reports.{OutputPiece, ToReport, ToFrames, ReportForm, maps_pieces, last_line, frame_pieces, frame_line, skip_pieces, turn_pieces, contents_left, turns_pieces, contents_after, checked_rule, checked_report_from, turn_by, ReportsFrame, ReportsFrames, report_form_of, IsReportFrom}

@@ -1,14 +1,8 @@
 -- Laws of runs: two runs from one state are the same, a run that has ended stays so, and its turn
 -- is its outcome, if it has one within the limit.
-use Rattle.std.specs.Prelude.{◌≡◌, ℕ, zero, suc, ◌+◌, ◌-◌, ◌≤◌, List, refl}
-use Rattle.std.proofs.Common.{sym, ap, ◌∙◌, arith, add-suc, add-zero}
-use Rattle.isa_model.specs.declared.frames.FrameHead.{FrameHead}
+use Rattle.isa_model.proofs.Common.{◌≡◌, ℕ, zero, suc, ◌+◌, ◌-◌, ◌≤◌, List, sym, ap, ◌∙◌, arith, add-suc, add-zero, refl, FrameHead, Program, KeyValues, State, Finished, step, start_state, GoesOn, Ended, after_step, advanced, progress, Reaches, Runs, Outcome, HasOutcome, Turn, turn}
 use Rattle.isa_model.specs.declared.ends.End.{End}
 use Rattle.isa_model.specs.declared.ends.End.TheVariants.{Exit}
-use Rattle.isa_model.specs.Code.Instructions.{Program}
-use Rattle.isa_model.specs.Machine.States.{KeyValues, State}
-use Rattle.isa_model.specs.Machine.Steps.{Finished, step}
-use Rattle.isa_model.specs.Running.Runs.{start_state, GoesOn, Ended, after_step, advanced, progress, Reaches, Runs, Outcome, HasOutcome, Turn, turn}
 
 -- after 0 steps a run is at the state where it began
 pub progress-zero : (p : Program) (clock : ℕ → ℕ) (s : State) → progress p clock 0 s ≡ GoesOn s

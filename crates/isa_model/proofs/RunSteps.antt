@@ -1,20 +1,7 @@
 -- Laws of the steps of a run that is known to exit.
-use Rattle.std.proofs.Common.{◌≡◌, ◌+◌, ◌<◌, ◌∷◌, [], ℕ, zero, suc, Some, Ok, Err, Bool, true, false, List, arith, refl, sym, ap, ◌∙◌, inl, inr, ◌⊎◌}
-use Rattle.std.specs.Prelude.{ℤ, if◌then◌else◌, Result}
-use Rattle.std.specs.List.{list_any}
-use Rattle.std.proofs.lemmas.Bool.{cases_lt, or_parts}
-use Rattle.isa_model.specs.declared.registers.Reg.{Reg}
-use Rattle.isa_model.specs.declared.instructions.Insn.{Insn}
-use Rattle.isa_model.specs.declared.instructions.Insn.TheVariants.{Alu, Neg, MovSx, ByteSwap, LoadNumber, Load, StoreConstant, Store, Jump, JumpLong, JumpIf, Exit}
-use Rattle.isa_model.specs.declared.values.Value.{Value}
-use Rattle.isa_model.specs.declared.values.Value.TheVariants.{Num}
-use Rattle.isa_model.specs.declared.ends.TrapReason.{TrapReason}
-use Rattle.isa_model.specs.declared.ends.TrapReason.TheVariants.{UnsetRead, ReadOnly}
+use Rattle.std.proofs.Common.{◌≡◌, ◌+◌, ◌<◌, ◌∷◌, [], ℕ, zero, suc, Some, Ok, Err, Bool, true, false, List, arith, refl, sym, ap, ◌∙◌, inl, inr, ◌⊎◌, ℤ, if◌then◌else◌, Result}
+use Rattle.isa_model.proofs.Common.{list_any, cases_lt, or_parts, Reg, Insn, Alu, Neg, MovSx, ByteSwap, LoadNumber, Load, StoreConstant, Store, Jump, JumpLong, JumpIf, Exit, Value, Num, TrapReason, UnsetRead, ReadOnly, Program, fetch, reads, writes, is_frame_pointer, State, reg, StepResult, Next, Finished, Trapped, is_unset, sets, goes_on, branches, test_of, act, performed, performed_at, step, Ended, after_step, advanced, progress, Reaches, Runs}
 use Rattle.isa_model.specs.declared.ends.End.TheVariants.{Trap}
-use Rattle.isa_model.specs.Code.Instructions.{Program, fetch, reads, writes, is_frame_pointer}
-use Rattle.isa_model.specs.Machine.States.{State, reg}
-use Rattle.isa_model.specs.Machine.Steps.{StepResult, Next, Finished, Trapped, is_unset, sets, goes_on, branches, test_of, act, performed, performed_at, step}
-use Rattle.isa_model.specs.Running.Runs.{Ended, after_step, advanced, progress, Reaches, Runs}
 use Rattle.isa_model.proofs.RunLaws.{progress-zero, progress-suc, progress-ended, progress-exit, Runs-same}
 use Rattle.isa_model.proofs.EndsLaws.{Reaches-then, Reaches-before}
 use Rattle.isa_model.specs.MustAccept.Paths.{IsOneOf}

@@ -1,36 +1,11 @@
 -- Laws of the stack slots of the only call frame, and of the numbers that are known to be there.
-use Rattle.std.proofs.Common.{◌≡◌, ◌≤◌, ◌+◌, ◌-◌, ◌*◌, ◌^◌, ◌<◌, ◌∷◌, ◌++◌, [], ℕ, zero, suc, Some, Ok, Err, true, List, length, map, take, drop, arith, refl, sym, ap, ◌∙◌, subst, inl, inr, ◌⊎◌}
-use Rattle.std.specs.Prelude.{◌≢◌, ℤ, pos, ◌+ℤ◌, ◌==◌, nat_le}
-use Rattle.std.specs.List.{list_any, splice}
-use Rattle.isa_model.specs.declared.sizes.Size.TheVariants.{U64}
-use Rattle.isa_model.specs.declared.registers.Reg.TheVariants.{R10}
-use Rattle.isa_model.specs.declared.values.Value.TheVariants.{Num, Unset}
-use Rattle.isa_model.specs.declared.values.Cell.{Cell}
-use Rattle.isa_model.specs.declared.values.Cell.TheVariants.{Byte, Unwritten}
-use Rattle.isa_model.specs.declared.values.CallFrame.{CallFrame}
-use Rattle.isa_model.specs.declared.ends.TrapReason.{TrapReason}
-use Rattle.isa_model.specs.declared.ends.TrapReason.TheVariants.{UnsetRead}
-use Rattle.isa_model.specs.declared.frames.FrameHead.{FrameHead}
-use Rattle.isa_model.specs.Code.Numbers.{bytes_of, unsigned}
-use Rattle.isa_model.specs.Machine.States.{KeyValues, State, reg, frame_pointer, go_to, new_call_frame}
+use Rattle.std.proofs.Common.{◌≡◌, ◌≤◌, ◌+◌, ◌-◌, ◌*◌, ◌^◌, ◌<◌, ◌∷◌, ◌++◌, [], ℕ, zero, suc, Some, Ok, Err, true, List, length, map, take, drop, arith, refl, sym, ap, ◌∙◌, subst, inl, inr, ◌⊎◌, ◌≢◌, ℤ, pos, ◌+ℤ◌, ◌==◌, nat_le}
+use Rattle.isa_model.proofs.Common.{list_any, splice, U64, R10, Num, Unset, Cell, Byte, Unwritten, CallFrame, TrapReason, UnsetRead, FrameHead, bytes_of, unsigned, KeyValues, State, reg, frame_pointer, go_to, new_call_frame, is_unwritten, load, store, and_then, index_from, index_at, region_cells, cells_at, place_of, place_in, value_in, memory_load, write, put, cases_order, from_le_bytes-to_le_bytes_8, ints, nat_tests, drop-append_seam, drop-append-add, take-append_seam, start_state, count_map_values, Reg, Full64, Load, Store, StoreConstant, Program, Next, Trapped, sets, goes_on, act, stack_size}
 use Rattle.isa_model.specs.declared.values.Region.TheVariants as region
 use Rattle.isa_model.proofs.ByteCells.{value_in-Byte}
-use Rattle.isa_model.specs.Machine.Memory.{is_unwritten, load, store, and_then, index_from, index_at, region_cells, cells_at, place_of, place_in, value_in, memory_load, write, put}
 use Rattle.isa_model.proofs.ValueLaws.{length-splice}
-use Rattle.std.proofs.lemmas.Bool.{cases_order}
-use Rattle.std.proofs.lemmas.Nat.{from_le_bytes-to_le_bytes_8}
-use Rattle.std.proofs.lemmas.Int.{ints}
-use Rattle.std.proofs.lemmas.Bool.Decides.{nat_tests}
 use Rattle.std.proofs.lemmas.List.{length-take-le, drop-append-le, take-append-le, drop-take, drop-drop, length-drop, length-replicate, drop-replicate, take-replicate}
-use Rattle.std.proofs.Math.Seq.{drop-append_seam, drop-append-add, take-append_seam}
-use Rattle.isa_model.specs.Running.Runs.{start_state, count_map_values}
-use Rattle.isa_model.specs.declared.registers.Reg.{Reg}
-use Rattle.isa_model.specs.declared.sizes.Width.TheVariants.{Full64}
-use Rattle.isa_model.specs.declared.instructions.Insn.TheVariants.{Load, Store, StoreConstant}
-use Rattle.isa_model.specs.Code.Instructions.{Program}
 use Rattle.isa_model.specs.MustAccept.Determined.{stack_slot_offset, stack_slot_place}
-use Rattle.isa_model.specs.Machine.Steps.{Next, Trapped, sets, goes_on, act}
-use Rattle.isa_model.specs.Code.Limits.{stack_size}
 
 abbrev pub stack_slot_cells : List Cell → ℕ → List Cell
 stack_slot_cells cells j = take 8 (drop (8 * j) cells)

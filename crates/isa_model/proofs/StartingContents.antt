@@ -1,26 +1,9 @@
 -- The contents that maps start with fit their rows: a hash map is empty, and an array has each of
 -- its indexes once, in the order of the keys.
-use Rattle.std.specs.Prelude.{◌≡◌, ℕ, zero, suc, ◌+◌, ◌<◌, ◌≤◌, true, T, List, [], length, fold, replicate, All, refl}
-use Rattle.std.specs.List.{range_with_len}
-use Rattle.std.specs.Cmp.Lexicographic.{nat_list_cmp_total}
-use Rattle.std.specs.FinMap.Entries.{is_sorted, is_sorted-put}
-use Rattle.std.specs.Int.{byte_at, bytes_low_first}
-use Rattle.std.proofs.Common.{sym, subst, ◌∙◌, arith, inl, inr}
-use Rattle.std.proofs.lemmas.Bool.{cases_lt}
-use Rattle.std.proofs.lemmas.List.{length-replicate}
-use Rattle.std.proofs.lemmas.List.Elements.{All-nil, All-cons, All-map, All-replicate}
-use Rattle.byteorder.specs.Endian.{little_bytes, little_number}
+use Rattle.isa_model.proofs.Common.{◌≡◌, ℕ, zero, suc, ◌+◌, ◌<◌, ◌≤◌, true, T, List, [], length, fold, replicate, All, sym, subst, ◌∙◌, arith, inl, inr, refl, range_with_len, nat_list_cmp_total, is_sorted, is_sorted-put, byte_at, bytes_low_first, cases_lt, length-replicate, All-nil, All-cons, All-map, All-replicate, little_bytes, little_number, MapType, Hash, Array, MapDef, KeyFits, IsRow, KeyValues, key_order, has_key, with_key, AreBytes, IsKeyValue, KeysFit, keys_of, FitsRow, max_map_entries}
 use Rattle.byteorder.specs.Numbers.{little_number-reads_back, length-bytes_low_first}
-use Rattle.isa_model.specs.declared.map_defs.MapType.{MapType}
-use Rattle.isa_model.specs.declared.map_defs.MapType.TheVariants.{Hash, Array}
-use Rattle.isa_model.specs.declared.map_defs.MapDef.{MapDef}
-use Rattle.isa_model.specs.Code.MapRows.{KeyFits, IsRow}
-use Rattle.isa_model.specs.Machine.States.{KeyValues}
-use Rattle.isa_model.specs.Machine.MapContents.{key_order, has_key, with_key}
 use Rattle.isa_model.proofs.PutKeys.{All-with_key, IsStrictlySortedBy-is_sorted, Contains-has_key, has_key-with_key, has_key-after_with_key, length-with_key}
-use Rattle.isa_model.specs.Machine.MachineStates.{AreBytes, IsKeyValue, KeysFit, keys_of, FitsRow}
 use Rattle.isa_model.specs.Reporting.Reports.{starting_key_values}
-use Rattle.isa_model.specs.Code.Limits.{max_map_entries}
 
 -- ---- bytes
 

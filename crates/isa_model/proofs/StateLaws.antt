@@ -1,29 +1,9 @@
 -- A state is still a state with another slot, with a register set, and with cells written. For call
 -- frames pushed and popped see CallLaws.
-use Rattle.std.specs.Prelude.{◌≡◌, ℕ, zero, suc, ◌+◌, ◌<◌, ◌≤◌, ◌==◌, nat_le, List, [], ◌∷◌, ◌++◌, map, length, slice_set, slice_index_or, All, Option, Some, None, Ok, Err, IfOk, refl}
-use Rattle.std.specs.List.{flat_map, splice}
-use Rattle.std.specs.Option.{option_map}
-use Rattle.std.proofs.Common.{sym, ap, ◌∙◌, subst, arith}
-use Rattle.std.proofs.Math.Seq.{map-set_same}
+use Rattle.isa_model.proofs.Common.{◌≡◌, ℕ, zero, suc, ◌+◌, ◌<◌, ◌≤◌, ◌==◌, nat_le, List, [], ◌∷◌, ◌++◌, map, length, slice_set, slice_index_or, All, Option, Some, None, Ok, Err, IfOk, sym, ap, ◌∙◌, subst, arith, refl, flat_map, splice, option_map, map-set_same, nat_tests, length-set, map-set, length-map, All-head, All-tail, All-get_or, All-set, position-Some, Reg, Region, Value, Cell, Byte, CallFrame, MapDef, BadAccess, Program, Stored, Content, KeyValues, key_values_of, State, value_at, reg, set_reg, go_to, content_of, new_call_frame, call_frame_at, byte_in, call_frame_index, index_of_serial, key_value_at, region_cells, place_in, put_call_frame, put_value, put, AreBytes, IsKeyValue, keys_of, FitsRow, FitRows, IsValue, IsCell, IsCallFrame, IsSlot, value_serials, live_serials, IsState}
 use Rattle.std.proofs.Math.ListN.{get_or-map as get_or-map_default}
-use Rattle.std.proofs.lemmas.Bool.Decides.{nat_tests}
-use Rattle.std.proofs.lemmas.List.{length-set, map-set, length-map}
-use Rattle.std.proofs.lemmas.List.Elements.{All-head, All-tail, All-get_or, All-set}
-use Rattle.std.proofs.lemmas.List.Quantifiers.{position-Some}
-use Rattle.isa_model.specs.declared.registers.Reg.{Reg}
-use Rattle.isa_model.specs.declared.values.Region.{Region}
 use Rattle.isa_model.specs.declared.values.Region.TheVariants as region
-use Rattle.isa_model.specs.declared.values.Value.{Value}
-use Rattle.isa_model.specs.declared.values.Cell.{Cell}
-use Rattle.isa_model.specs.declared.values.Cell.TheVariants.{Byte}
-use Rattle.isa_model.specs.declared.values.CallFrame.{CallFrame}
-use Rattle.isa_model.specs.declared.map_defs.MapDef.{MapDef}
-use Rattle.isa_model.specs.declared.ends.TrapReason.TheVariants.{BadAccess}
 use Rattle.isa_model.specs.Code.Registers.{reg_number}
-use Rattle.isa_model.specs.Code.Instructions.{Program}
-use Rattle.isa_model.specs.Machine.States.{Stored, Content, KeyValues, key_values_of, State, value_at, reg, set_reg, go_to, content_of, new_call_frame, call_frame_at}
-use Rattle.isa_model.specs.Machine.Memory.{byte_in, call_frame_index, index_of_serial, key_value_at, region_cells, place_in, put_call_frame, put_value, put}
-use Rattle.isa_model.specs.Machine.MachineStates.{AreBytes, IsKeyValue, keys_of, FitsRow, FitRows, IsValue, IsCell, IsCallFrame, IsSlot, value_serials, live_serials, IsState}
 use Rattle.isa_model.proofs.ValueLaws.{IfOk-if, bytes_in_fit, length-splice, All-splice}
 
 -- ---- another slot, other registers, and another count of the times that the clock was asked

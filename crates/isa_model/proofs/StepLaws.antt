@@ -1,46 +1,17 @@
 -- A step from a state of a program leads to a state of it, and the start state is one.
-use Rattle.std.specs.Prelude.{◌≡◌, ◌≢◌, ℕ, zero, suc, ◌+◌, ◌^◌, ◌<◌, ◌≤◌, ◌==◌, Bool, true, false, if◌then◌else◌, ℤ, pos, negsuc, ◌+ℤ◌, ◌≤ℤ◌, unwrap_or, List, [], ◌∷◌, ◌++◌, map, length, All, AllPairs, Option, Some, None, Result, Ok, Err, IfOk, refl}
+use Rattle.isa_model.proofs.Common.{◌≡◌, ◌≢◌, ℕ, zero, suc, ◌+◌, ◌^◌, ◌<◌, ◌≤◌, ◌==◌, Bool, true, false, if◌then◌else◌, ℤ, pos, negsuc, ◌+ℤ◌, ◌≤ℤ◌, List, [], ◌∷◌, ◌++◌, map, length, All, AllPairs, Option, Some, None, Result, Ok, Err, IfOk, sym, ap, ◌∙◌, subst, arith, add-zero, add-one, zero-add, unwrap_or, refl, list_any, flat_map, range_with_len, ints, nat_tests, All-nil, All-cons, All-replicate, All-from_recursion, Reg, R0, Width, Full64, Sub, Insn, Alu, Neg, MovSx, ByteSwap, LoadNumber, LoadMap, LoadMapValue, Load, LoadSx, StoreConstant, Store, Atomic, Exchange, CompareExchange, Jump, JumpLong, JumpIf, CallHelper, CallLocal, Exit, Value, Unset, Num, Ptr, CallFrame, TrapReason, UnsetRead, ReadOnly, TooManyCallFrames, BadAction, low, unsigned, alu, sign_extended, reordered, negated, atomic_alu, Program, fetch, slots_filled, reads, writes, is_frame_pointer, IsRow, NamesRows, KeyValues, key_values_of, State, reg, set_reg, frame_pointer, new_call_frame, and_then, max_call_frames, stack_size, enter, leave, StepResult, Next, Finished, Trapped, map_pointer, value_pointer, operand_value, base_of, destination, sets, goes_on, jumps, branches, test_of, calls, is_answer, finishes, exits, atomic_number, act, is_unset, performed_at, step, numbered, numbered_maps, count_map_values, start_regs, start_state, GoesOn, Reaches, FrameHead, Unwritten, value_serials, IsClock, IsGiven, IsProgram, IsValue, IsCell, IsCallFrame, IsSlot, IsState}
 use Rattle.std.specs.Int.{w16, w32}
 use Rattle.std.specs.Int.RustNames.{FitsSigned}
-use Rattle.std.specs.List.{list_any, flat_map, range_with_len}
-use Rattle.std.proofs.Common.{sym, ap, ◌∙◌, subst, arith, add-zero, add-one, zero-add}
-use Rattle.std.proofs.lemmas.Int.{ints}
-use Rattle.std.proofs.lemmas.Bool.Decides.{nat_tests}
-use Rattle.std.proofs.lemmas.List.Elements.{All-nil, All-cons, All-replicate, All-from_recursion}
 use Rattle.std.proofs.lemmas.List.FromFn.{length-range_with_len, get_or-range_with_len}
-use Rattle.isa_model.specs.declared.registers.Reg.{Reg}
-use Rattle.isa_model.specs.declared.registers.Reg.TheVariants.{R0}
-use Rattle.isa_model.specs.declared.sizes.Width.{Width}
-use Rattle.isa_model.specs.declared.sizes.Width.TheVariants.{Full64}
-use Rattle.isa_model.specs.declared.instructions.AluOp.TheVariants.{Sub}
 use Rattle.isa_model.specs.declared.instructions.Operand.{Operand}
 use Rattle.isa_model.specs.declared.instructions.Operand.TheVariants.{Constant, Register}
-use Rattle.isa_model.specs.declared.instructions.Insn.{Insn}
-use Rattle.isa_model.specs.declared.instructions.Insn.TheVariants.{Alu, Neg, MovSx, ByteSwap, LoadNumber, LoadMap, LoadMapValue, Load, LoadSx, StoreConstant, Store, Atomic, Exchange, CompareExchange, Jump, JumpLong, JumpIf, CallHelper, CallLocal, Exit}
-use Rattle.isa_model.specs.declared.values.Value.{Value}
 use Rattle.isa_model.specs.declared.values.Region.TheVariants as region
-use Rattle.isa_model.specs.declared.values.Value.TheVariants.{Unset, Num, Ptr}
-use Rattle.isa_model.specs.declared.values.CallFrame.{CallFrame}
-use Rattle.isa_model.specs.declared.ends.TrapReason.{TrapReason}
-use Rattle.isa_model.specs.declared.ends.TrapReason.TheVariants.{UnsetRead, ReadOnly, TooManyCallFrames, BadAction}
-use Rattle.isa_model.specs.Code.Numbers.{low, unsigned, alu, sign_extended, reordered, negated, atomic_alu}
 use Rattle.isa_model.proofs.NumberLaws.{alu_fits, reordered_fits}
 use Rattle.isa_model.proofs.ExtensionLaws.{sign_extended_fits}
 use Rattle.isa_model.specs.Code.Spelling.{InsnFits, OperandFits}
-use Rattle.isa_model.specs.Code.Instructions.{Program, fetch, slots_filled, reads, writes, is_frame_pointer}
 use Rattle.isa_model.specs.Code.Helpers.{helper_numbered}
-use Rattle.isa_model.specs.Code.MapRows.{IsRow, NamesRows}
-use Rattle.isa_model.specs.Machine.States.{KeyValues, key_values_of, State, reg, set_reg, frame_pointer, new_call_frame}
-use Rattle.isa_model.specs.Machine.Memory.{and_then}
-use Rattle.isa_model.specs.Code.Limits.{max_call_frames, stack_size}
-use Rattle.isa_model.specs.Machine.Calls.{enter, leave}
-use Rattle.isa_model.specs.Machine.Steps.{StepResult, Next, Finished, Trapped, map_pointer, value_pointer, operand_value, base_of, destination, sets, goes_on, jumps, branches, test_of, calls, is_answer, finishes, exits, atomic_number, act, is_unset, performed_at, step}
-use Rattle.isa_model.specs.Running.Runs.{numbered, numbered_maps, count_map_values, start_regs, start_state, GoesOn, Reaches}
 use Rattle.isa_model.proofs.RunLaws.{progress-zero}
 use Rattle.isa_model.proofs.EndsLaws.{Reaches-last}
-use Rattle.isa_model.specs.declared.frames.FrameHead.{FrameHead}
-use Rattle.isa_model.specs.declared.values.Cell.TheVariants.{Unwritten}
-use Rattle.isa_model.specs.Machine.MachineStates.{value_serials, IsClock, IsGiven, IsProgram, IsValue, IsCell, IsCallFrame, IsSlot, IsState}
 use Rattle.isa_model.proofs.ValueLaws.{unsigned_fits, arithmetic_fits, on_number_fits}
 use Rattle.isa_model.proofs.StateLaws.{IsState-go_to, reg_fits, IsState-set_reg}
 use Rattle.isa_model.proofs.CallLaws.{IsState-enter, IsState-leave}

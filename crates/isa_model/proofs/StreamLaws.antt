@@ -1,17 +1,12 @@
 -- Laws of frame streams: the parts of a record, and which frames a stream of records has.
-use Rattle.std.proofs.Common.{◌≡◌, ◌≢◌, ℕ, zero, suc, ◌+◌, ◌<◌, ◌≤◌, List, [], ◌∷◌, ◌++◌, length, take, drop, Option, None, Some, Ok, Err, nat_lt, false, le-ltb, refl, sym, ap, ◌∙◌, subst, append_assoc, append-nil, length-append, length-drop, arith, add-zero}
-use Rattle.std.proofs.lemmas.List.{take_at, drop_at, drop-drop}
-use Rattle.std.proofs.lemmas.Bool.Decides.{nat_tests}
-use Rattle.std.proofs.lemmas.List.Elements.{All-head, All-tail, All-nil, All-push}
-use Rattle.std.specs.Prelude.{All}
+use Rattle.std.proofs.Common.{◌≡◌, ◌≢◌, ℕ, zero, suc, ◌+◌, ◌<◌, ◌≤◌, List, [], ◌∷◌, ◌++◌, length, take, drop, Option, None, Some, Ok, Err, nat_lt, false, le-ltb, refl, sym, ap, ◌∙◌, subst, append_assoc, append-nil, length-append, length-drop, arith, add-zero, All}
+use Rattle.isa_model.proofs.Common.{take_at, drop_at, drop-drop, nat_tests, All-head, All-tail, All-nil, All-push, Version, max_body}
 use Rattle.byteorder.specs.Numbers.{little_number-reads_back}
 use Rattle.isa_model.specs.declared.streams.Fault.{Fault}
 use Rattle.isa_model.specs.declared.streams.Finish.{Finish}
 use Rattle.isa_model.specs.declared.streams.Finish.TheVariants as finish
-use Rattle.isa_model.specs.declared.versions.Version.{Version}
 use Rattle.isa_model.specs.declared.versions.Version.TheVariants.{One, Two}
 use Rattle.isa_model.specs.Code.Versions.{stream_magic, head_size}
-use Rattle.isa_model.specs.Code.Limits.{max_body}
 use Rattle.isa_model.specs.Reporting.Streams.{PacketFrame, IsPacketFrame, max_frames, head_bytes, record_bytes, records_bytes, length_field, reason_field, InputEnding, ByEnd, ByError, Input, opened, stop_at, packet_frame_of, record_size, frames_from, stream_with, stream_opened, stream_of, AreOpen}
 
 -- the length in a record's head is that of its body

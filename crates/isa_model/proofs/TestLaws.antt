@@ -1,8 +1,6 @@
 -- What tests show, and what shows them: two tests together, and an order that two things have.
-use Rattle.std.specs.Prelude.{◌≡◌, ◌&&◌, Bool, true, false, T, refl}
-use Rattle.std.specs.Ordering.{is_lt, is_eq}
+use Rattle.isa_model.proofs.Common.{◌≡◌, ◌&&◌, Bool, true, false, T, refl, is_lt, is_eq, Less, Equal, Greater}
 use Rattle.std.specs.declared.cmp.Ordering.{Ordering}
-use Rattle.std.specs.declared.cmp.Ordering.TheVariants.{Less, Equal, Greater}
 
 pub both : (a b : Bool) → T a → T b → T (a && b)
 both true b p q = q

@@ -1,34 +1,12 @@
 -- Laws of values: the results of arithmetic, loads and stores are values and cells that fit.
-use Rattle.std.specs.Prelude.{◌≡◌, ℕ, zero, suc, ◌+◌, ◌^◌, ◌<◌, ◌≤◌, ◌+ℤ◌, ◌-ℤ◌, Bool, true, false, nat_le, if◌then◌else◌, ℤ, unsigned_abs, List, [], ◌∷◌, ◌++◌, map, take, drop, length, All, Result, Ok, Err, IfOk, refl}
+use Rattle.isa_model.proofs.Common.{◌≡◌, ℕ, zero, suc, ◌+◌, ◌^◌, ◌<◌, ◌≤◌, ◌+ℤ◌, ◌-ℤ◌, Bool, true, false, nat_le, if◌then◌else◌, ℤ, unsigned_abs, List, [], ◌∷◌, ◌++◌, map, take, drop, length, All, Result, Ok, Err, IfOk, arith, length-append, length-drop, refl, list_any, list_all, splice, ints, nat_tests, length-take-le, All-head, All-tail, All-append, All-take, All-drop, All-map, All-weaker, All-from_recursion, Width, Low32, Full64, Size, Add, Sub, Mov, Region, Value, Unset, Num, Ptr, Cell, Unwritten, Byte, Piece, TrapReason, UnsetRead, BadPointer, OutOfRange, BadAccess, size_bytes, signed, unsigned, bytes_of, number_from, offset_limit, and_then, is_unwritten, is_byte, byte_in, number_of, pieces, are_pieces, pointer_in, number_in, value_in, AreBytes, IsOffset, IsRegion, IsValue, IsCell}
 use Rattle.std.specs.Int.{w32, w64, to_le_bytes}
 use Rattle.std.specs.Int.RustNames.{FitsSigned}
-use Rattle.std.specs.List.{list_any, list_all, splice}
-use Rattle.std.proofs.Common.{arith, length-append, length-drop}
-use Rattle.std.proofs.lemmas.Int.{ints}
-use Rattle.std.proofs.lemmas.Bool.Decides.{nat_tests}
-use Rattle.std.proofs.lemmas.List.{length-take-le}
-use Rattle.std.proofs.lemmas.List.Elements.{All-head, All-tail, All-append, All-take, All-drop, All-map, All-weaker, All-from_recursion}
-use Rattle.isa_model.specs.declared.sizes.Width.{Width}
-use Rattle.isa_model.specs.declared.sizes.Width.TheVariants.{Low32, Full64}
-use Rattle.isa_model.specs.declared.sizes.Size.{Size}
 use Rattle.isa_model.specs.declared.instructions.AluOp.{AluOp}
-use Rattle.isa_model.specs.declared.instructions.AluOp.TheVariants.{Add, Sub, Mov}
-use Rattle.isa_model.specs.declared.values.Region.{Region}
 use Rattle.isa_model.specs.declared.values.Region.TheVariants as region
-use Rattle.isa_model.specs.declared.values.Value.{Value}
-use Rattle.isa_model.specs.declared.values.Value.TheVariants.{Unset, Num, Ptr}
-use Rattle.isa_model.specs.declared.values.Cell.{Cell}
-use Rattle.isa_model.specs.declared.values.Cell.TheVariants.{Unwritten, Byte, Piece}
-use Rattle.isa_model.specs.declared.ends.TrapReason.{TrapReason}
-use Rattle.isa_model.specs.declared.ends.TrapReason.TheVariants.{UnsetRead, BadPointer, OutOfRange, BadAccess}
-use Rattle.isa_model.specs.Code.Sizes.{size_bytes}
-use Rattle.isa_model.specs.Code.Numbers.{signed, unsigned, bytes_of, number_from}
 use Rattle.isa_model.proofs.NumberLaws.{alu_fits, low_below, width_fits}
-use Rattle.isa_model.specs.Code.Limits.{offset_limit}
 use Rattle.isa_model.specs.Machine.Pointers.{can_move, pointer_at, moved_to, pointer_and_number, number_and_pointer, moved, combined, arithmetic, on_number}
-use Rattle.isa_model.specs.Machine.Memory.{and_then, is_unwritten, is_byte, byte_in, number_of, pieces, are_pieces, pointer_in, number_in, value_in}
 use Rattle.isa_model.specs.Code.EachByte.{EachByte}
-use Rattle.isa_model.specs.Machine.MachineStates.{AreBytes, IsOffset, IsRegion, IsValue, IsCell}
 
 -- ---- results
 

@@ -1,12 +1,6 @@
 -- A sum, bit by bit: the carry into each bit lies between the carries of the least and of the
 -- greatest members.
-use Rattle.std.proofs.Common.{◌≡◌, ℕ, ◌+◌, ◌-◌, ◌*◌, ◌/◌, ◌%◌, ◌^◌, ◌<◌, ◌≤◌, min, max, w64, sym, ap, ◌∙◌, inl, inr, arith, bit_and, bit_or, bit_xor}
-use Rattle.std.specs.Int.{bit_at, bit_not}
-use Rattle.std.proofs.Math.Nat.{div-mul-le_self, mod-lt}
-use Rattle.std.proofs.lemmas.Nat.{and_le_l, and_le_r, and_mod, or_lt, xor_lt, pow_pos, shr_split, div-mul-add, le-div, div_below, and_mask}
-use Rattle.std.proofs.lemmas.Nat.Bits.{bit_at_and, bit_at_or, bit_at_xor, bit_at-lt, bit_at_ones}
-use Rattle.std.proofs.lemmas.Bool.{cases_lt}
-use Rattle.known_bits.specs.Member.{IsMember}
+use Rattle.known_bits.proofs.Common.{◌≡◌, ℕ, ◌+◌, ◌-◌, ◌*◌, ◌/◌, ◌%◌, ◌^◌, ◌<◌, ◌≤◌, min, max, w64, sym, ap, ◌∙◌, inl, inr, arith, bit_and, bit_or, bit_xor, bit_at, bit_not, div-mul-le_self, mod-lt, and_le_l, and_le_r, and_mod, or_lt, xor_lt, pow_pos, shr_split, div-mul-add, le-div, div_below, and_mask, bit_at_and, bit_at_or, bit_at_xor, bit_at-lt, bit_at_ones, cases_lt, IsMember}
 use Rattle.known_bits.proofs.Members.{Apart, Between, bits_between, member_from_bits, member_and_most}
 use Rattle.known_bits.proofs.Logic.{without, without_bit, apart_without}
 

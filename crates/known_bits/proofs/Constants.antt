@@ -1,6 +1,5 @@
 -- Constants: sets of one number.
-use Rattle.std.proofs.Common.{◌≡◌, ℕ}
-use Rattle.known_bits.specs.Member.{IsMember}
+use Rattle.known_bits.proofs.Common.{◌≡◌, ℕ, IsMember}
 use Rattle.known_bits.proofs.Shift.{constant_only}
 
 -- the one member where the mask is empty

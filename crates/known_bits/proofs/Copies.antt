@@ -1,20 +1,10 @@
 -- Numbers whose bits are bits of another: sign extensions, and the shift that keeps the sign.
-use Rattle.std.proofs.Common.{◌≡◌, ◌⊎◌, ℕ, zero, suc, ◌+◌, ◌-◌, ◌*◌, ◌/◌, ◌%◌, ◌^◌, ◌<◌, ◌≤◌, min, w32, w64, refl, sym, ap, ◌∙◌, inl, inr, arith, bit_or}
-use Rattle.std.specs.Int.{bit_at, bit_not, int_shr}
-use Rattle.std.proofs.Math.Nat.{div-le_self, mod-eq_of_lt}
-use Rattle.std.proofs.lemmas.Nat.{pow-add, pow_pos, mod_below}
-use Rattle.std.proofs.lemmas.Nat.Bits.{bit_at_or, bit_at_not, bit_at_above, bit_at_ones, bit_at_cat_low, bit_at_cat_high}
-use Rattle.std.proofs.lemmas.Bool.{cases_lt, lt-ltb, le-ltb}
+use Rattle.known_bits.proofs.Common.{◌≡◌, ◌⊎◌, ℕ, zero, suc, ◌+◌, ◌-◌, ◌*◌, ◌/◌, ◌%◌, ◌^◌, ◌<◌, ◌≤◌, min, w32, w64, refl, sym, ap, ◌∙◌, inl, inr, arith, bit_or, bit_at, bit_not, int_shr, div-le_self, mod-eq_of_lt, pow-add, pow_pos, mod_below, bit_at_or, bit_at_not, bit_at_above, bit_at_ones, bit_at_cat_low, bit_at_cat_high, cases_lt, lt-ltb, le-ltb, Arsh, width_bits, extension_bits, extension_width, alu, low, shift, signed, unsigned, sign_extended, alu_below, low_below, shift_below, width_fits, width_most, IsMember, Occurs}
 use Rattle.isa_model.specs.declared.sizes.Width.{Width}
 use Rattle.isa_model.specs.declared.sizes.Width.TheVariants.{Low32, Full64}
 use Rattle.isa_model.specs.declared.sizes.Extension.{Extension}
 use Rattle.isa_model.specs.declared.sizes.Extension.TheVariants.{Low8, Low16, Full8, Full16, Full32}
-use Rattle.isa_model.specs.declared.instructions.AluOp.TheVariants.{Arsh}
-use Rattle.isa_model.specs.Code.Sizes.{width_bits, extension_bits, extension_width}
-use Rattle.isa_model.specs.Code.Numbers.{alu, low, shift, signed, unsigned, sign_extended}
-use Rattle.isa_model.proofs.NumberLaws.{alu_below, low_below, shift_below, width_fits, width_most}
 use Rattle.isa_model.proofs.ExtensionLaws.{sign_extended_below, sign_extended_cases, sign_extended-small}
-use Rattle.known_bits.specs.Member.{IsMember, Occurs}
 use Rattle.known_bits.proofs.Members.{Apart, bits_between, bits_apart, apart_from_bits, member_from_bits}
 use Rattle.known_bits.proofs.Carry.{low_bit}
 use Rattle.known_bits.proofs.Order.{low_fits}

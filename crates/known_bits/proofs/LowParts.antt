@@ -1,16 +1,8 @@
 -- Operations on the low parts of numbers: what is sharp of the low parts is of the numbers, and what
 -- two factors show of their product.
-use Rattle.std.proofs.Common.{◌≡◌, ℕ, ◌+◌, ◌*◌, ◌%◌, ◌^◌, arith, refl, ap, sym, ◌∙◌, bit_or}
+use Rattle.known_bits.proofs.Common.{◌≡◌, ℕ, ◌+◌, ◌*◌, ◌%◌, ◌^◌, arith, refl, ap, sym, ◌∙◌, bit_or, mod-eq_of_lt, mod-le, or_mod, pow_pos, width_bits, Mul, alu, width_most, Bits, Has, IsSharp, greatest_of, KnowsProduct}
 use Rattle.std.specs.Int.Bits.{or_zero_r}
-use Rattle.std.proofs.Math.Nat.{mod-eq_of_lt, mod-le}
-use Rattle.std.proofs.lemmas.Nat.{or_mod, pow_pos}
-use Rattle.isa_model.specs.Code.Sizes.{width_bits}
 use Rattle.isa_model.specs.declared.sizes.Width.{Width}
-use Rattle.isa_model.specs.declared.instructions.AluOp.TheVariants.{Mul}
-use Rattle.isa_model.specs.Code.Numbers.{alu}
-use Rattle.isa_model.proofs.NumberLaws.{width_most}
-use Rattle.known_bits.specs.declared.bits.Bits.{Bits}
-use Rattle.known_bits.specs.Bits.{Has, IsSharp, greatest_of, KnowsProduct}
 use Rattle.known_bits.proofs.Members.{Apart}
 use Rattle.known_bits.proofs.Sharp.{low_set, occurs_low}
 use Rattle.known_bits.proofs.ProductZeros.{mod-mod_pow, mod-pow-mul}

@@ -1,12 +1,6 @@
 -- What the members of a value and a mask have in common.
-use Rattle.std.specs.Prelude.{ℕ, ◌≡◌, ◌%◌, ◌^◌, ◌<◌, ◌≤◌, ◌-◌, min, bit_and, bit_or}
+use Rattle.known_bits.proofs.Common.{ℕ, ◌≡◌, ◌%◌, ◌^◌, ◌<◌, ◌≤◌, ◌-◌, min, bit_and, bit_or, arith, ap, sym, ◌∙◌, and_le_l, and_le_r, mod_below, pow_pos, bit_at_and, bit_at_or, bit_at_not, bit_at-lt, same_from_bits_below, IsMember, Bits, Has, greatest_of}
 use Rattle.std.specs.Int.{w64, bit_not, bit_at}
-use Rattle.std.proofs.Common.{arith, ap, sym, ◌∙◌}
-use Rattle.std.proofs.lemmas.Nat.{and_le_l, and_le_r, mod_below, pow_pos}
-use Rattle.std.proofs.lemmas.Nat.Bits.{bit_at_and, bit_at_or, bit_at_not, bit_at-lt, same_from_bits_below}
-use Rattle.known_bits.specs.Member.{IsMember}
-use Rattle.known_bits.specs.declared.bits.Bits.{Bits}
-use Rattle.known_bits.specs.Bits.{Has, greatest_of}
 use Rattle.known_bits.proofs.Carry.{low_bit}
 
 kept_bit : (m x i : ℕ) → m < 2 ^ 64 → i < 64

@@ -1,11 +1,6 @@
 -- Members by their bits: each bit of a member lies between that of the value and that plus the
 -- mask's.
-use Rattle.std.proofs.Common.{◌≡◌, ℕ, ◌+◌, ◌-◌, ◌^◌, ◌<◌, ◌≤◌, min, w64, sym, ap, ◌∙◌, arith, bit_and, bit_or}
-use Rattle.std.specs.Int.{bit_at, bit_not}
-use Rattle.std.proofs.lemmas.Nat.{and_le_l}
-use Rattle.std.proofs.lemmas.Nat.Bits.{bit_at_and, bit_at_or, bit_at_not, bit_at-lt, bit_at-zero, same_from_bits_below}
-use Rattle.known_bits.specs.declared.bits.Bits.{Bits}
-use Rattle.known_bits.specs.Member.{IsMember}
+use Rattle.known_bits.proofs.Common.{◌≡◌, ℕ, ◌+◌, ◌-◌, ◌^◌, ◌<◌, ◌≤◌, min, w64, sym, ap, ◌∙◌, arith, bit_and, bit_or, bit_at, bit_not, and_le_l, bit_at_and, bit_at_or, bit_at_not, bit_at-lt, bit_at-zero, same_from_bits_below, Bits, IsMember}
 
 -- a value and a mask that share no bit
 pub record Apart (v m : ℕ) : Type 0 where

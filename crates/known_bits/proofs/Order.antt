@@ -1,9 +1,5 @@
 -- Common members, inclusion, and the order of members: the least and the greatest.
-use Rattle.std.proofs.Common.{◌≡◌, ℕ, ◌+◌, ◌-◌, ◌%◌, ◌^◌, ◌<◌, ◌≤◌, min, max, w64, sym, ap, ◌∙◌, arith, bit_and, bit_or, bit_xor}
-use Rattle.std.specs.Int.{bit_at, bit_not}
-use Rattle.std.proofs.lemmas.Nat.{and_le_l, and_le_r, or_lt, xor_lt, mod_below, pow_pos}
-use Rattle.std.proofs.lemmas.Nat.Bits.{bit_at_and, bit_at_or, bit_at_xor, bit_at-lt, bit_at-zero, same_from_bits_below, same_from_bits}
-use Rattle.known_bits.specs.Member.{IsMember}
+use Rattle.known_bits.proofs.Common.{◌≡◌, ℕ, ◌+◌, ◌-◌, ◌%◌, ◌^◌, ◌<◌, ◌≤◌, min, max, w64, sym, ap, ◌∙◌, arith, bit_and, bit_or, bit_xor, bit_at, bit_not, and_le_l, and_le_r, or_lt, xor_lt, mod_below, pow_pos, bit_at_and, bit_at_or, bit_at_xor, bit_at-lt, bit_at-zero, same_from_bits_below, same_from_bits, IsMember}
 use Rattle.known_bits.proofs.Members.{Apart, bits_between, bits_apart, apart_from_bits, member_from_bits, member_and_most}
 use Rattle.known_bits.proofs.Logic.{without, without_bit}
 use Rattle.known_bits.proofs.Parts.{low_apart}

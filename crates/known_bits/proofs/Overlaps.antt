@@ -1,12 +1,5 @@
 -- Members that overlap, with bits in common, and sets of all numbers below a power of two.
-use Rattle.std.proofs.Common.{◌≡◌, ◌≢◌, ℕ, ◌+◌, ◌-◌, ◌*◌, ◌/◌, ◌%◌, ◌^◌, ◌<◌, ◌≤◌, min, w64, sym, ap, ◌∙◌, inl, inr, arith, bit_and, bit_or}
-use Rattle.std.specs.Int.{bit_at, bit_not, trailing_zeros}
-use Rattle.std.proofs.lemmas.Nat.{and_le_l, and_le_r, one_shl, pow_pos}
-use Rattle.std.proofs.lemmas.Nat.Bits.{bit_at_and, bit_at_or, bit_at-lt, bit_at-zero, bit_at-pow_same, bit_at-pow_other, bit_at-trailing_zeros, and_pow, and_high_mask, same_from_bits_below}
-use Rattle.std.proofs.Math.Nat.{div-eq_of_lt}
-use Rattle.std.proofs.Math.Pow.{pow-lt}
-use Rattle.std.proofs.lemmas.Bool.{cases_lt}
-use Rattle.known_bits.specs.Member.{IsMember}
+use Rattle.known_bits.proofs.Common.{◌≡◌, ◌≢◌, ℕ, ◌+◌, ◌-◌, ◌*◌, ◌/◌, ◌%◌, ◌^◌, ◌<◌, ◌≤◌, min, w64, sym, ap, ◌∙◌, inl, inr, arith, bit_and, bit_or, bit_at, bit_not, trailing_zeros, and_le_l, and_le_r, one_shl, pow_pos, bit_at_and, bit_at_or, bit_at-lt, bit_at-zero, bit_at-pow_same, bit_at-pow_other, bit_at-trailing_zeros, and_pow, and_high_mask, same_from_bits_below, div-eq_of_lt, pow-lt, cases_lt, IsMember}
 use Rattle.known_bits.proofs.Members.{Apart, bits_between}
 use Rattle.known_bits.proofs.Order.{without_self}
 

@@ -1,13 +1,6 @@
 -- Precise operations: each unknown bit of sums, differences and shifts is 0 in some result and 1 in
 -- another.
-use Rattle.std.proofs.Common.{inl, inr, ◌≡◌, ℕ, ◌+◌, ◌-◌, ◌*◌, ◌/◌, ◌%◌, ◌^◌, ◌<◌, ◌≤◌, w64, sym, ap, ◌∙◌, arith, bit_or, bit_xor}
-use Rattle.std.specs.Int.{bit_at, bit_not}
-use Rattle.std.proofs.Math.Nat.{add-mul-div_right}
-use Rattle.std.proofs.Math.Pow.{pow-lt}
-use Rattle.std.proofs.lemmas.Nat.{or_lt, or_disjoint, pow_pos, pow-add, div_below, mod-mul-add, mul-le}
-use Rattle.std.proofs.lemmas.Nat.Bits.{bit_at_or, bit_at_xor, bit_at_not, bit_at-lt, bit_at-pow_other, and_pow, bit_at_cat_low, bit_at_cat_high}
-use Rattle.std.proofs.lemmas.Bool.{cases_lt}
-use Rattle.known_bits.specs.Member.{IsMember, Occurs}
+use Rattle.known_bits.proofs.Common.{inl, inr, ◌≡◌, ℕ, ◌+◌, ◌-◌, ◌*◌, ◌/◌, ◌%◌, ◌^◌, ◌<◌, ◌≤◌, w64, sym, ap, ◌∙◌, arith, bit_or, bit_xor, bit_at, bit_not, add-mul-div_right, pow-lt, or_lt, or_disjoint, pow_pos, pow-add, div_below, mod-mul-add, mul-le, bit_at_or, bit_at_xor, bit_at_not, bit_at-lt, bit_at-pow_other, and_pow, bit_at_cat_low, bit_at_cat_high, cases_lt, IsMember, Occurs}
 use Rattle.known_bits.proofs.Members.{Apart, bits_apart, bits_between, member_from_bits}
 use Rattle.known_bits.proofs.Carry.{sum_least, sum_mask, sum_known, low_bit}
 use Rattle.known_bits.proofs.Order.{low_fits}

@@ -1,13 +1,5 @@
 -- Numbers between two share a prefix of bits, those above the highest in which the two differ.
-use Rattle.std.proofs.Common.{◌≡◌, ℕ, ◌+◌, ◌-◌, ◌*◌, ◌/◌, ◌^◌, ◌<◌, ◌≤◌, w64, inl, inr, sym, ap, ◌∙◌, arith, bit_and, bit_xor}
-use Rattle.std.specs.Int.{bit_at, bit_not, leading_zeros}
-use Rattle.std.proofs.Math.Nat.{div-eq_of_lt, div-lt_iff_lt-mul}
-use Rattle.std.proofs.Math.Pow.{pow_mono}
-use Rattle.std.proofs.lemmas.Nat.{xor_shr, xor_lt, leading_length, pow_pos, pow-add}
-use Rattle.std.proofs.lemmas.Nat.Bits.{bit_at_xor, bit_at-lt, bit_at-zero, same_from_bits, and_high_mask, bit_at_above}
-use Rattle.std.proofs.lemmas.Bool.{cases_lt}
-use Rattle.isa_model.proofs.NumberLaws.{div_mono}
-use Rattle.known_bits.specs.Member.{IsMember}
+use Rattle.known_bits.proofs.Common.{◌≡◌, ℕ, ◌+◌, ◌-◌, ◌*◌, ◌/◌, ◌^◌, ◌<◌, ◌≤◌, w64, inl, inr, sym, ap, ◌∙◌, arith, bit_and, bit_xor, bit_at, bit_not, leading_zeros, div-eq_of_lt, div-lt_iff_lt-mul, pow_mono, xor_shr, xor_lt, leading_length, pow_pos, pow-add, bit_at_xor, bit_at-lt, bit_at-zero, same_from_bits, and_high_mask, bit_at_above, cases_lt, div_mono, IsMember}
 
 same_from_xor : (a b : ℕ) → bit_xor a b ≡ 0 → a ≡ b
 same_from_xor a b e =

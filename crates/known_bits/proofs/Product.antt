@@ -1,9 +1,5 @@
 -- A product by its terms: each term, the product before the first one and after all of them.
-use Rattle.std.proofs.Common.{◌≡◌, ℕ, ◌*◌, ◌%◌, ◌^◌, ◌<◌, ap, ◌∙◌, arith, bit_or}
-use Rattle.std.proofs.lemmas.Nat.{or_lt}
-use Rattle.std.proofs.Math.Nat.{mod-eq_of_lt}
-use Rattle.std.proofs.lemmas.Nat.Bits.{bit_at_or, bit_at-zero}
-use Rattle.known_bits.specs.Member.{IsMember}
+use Rattle.known_bits.proofs.Common.{◌≡◌, ℕ, ◌*◌, ◌%◌, ◌^◌, ◌<◌, ap, ◌∙◌, arith, bit_or, or_lt, mod-eq_of_lt, bit_at_or, bit_at-zero, IsMember}
 use Rattle.known_bits.proofs.Members.{Apart, bits_between, member_from_bits}
 
 pub or_zero_contains : {v m : ℕ} → Apart v m → (x : ℕ) → IsMember v m x → IsMember 0 (bit_or v m) x

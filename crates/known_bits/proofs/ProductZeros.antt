@@ -1,13 +1,6 @@
 -- What two factors show of their product: its trailing zeros, and how many bits it has at most.
-use Rattle.std.proofs.Common.{◌≡◌, ℕ, ◌+◌, ◌-◌, ◌*◌, ◌/◌, ◌%◌, ◌^◌, ◌<◌, ◌≤◌, w64, sym, ap, ◌∙◌, inl, inr, arith, bit_and, bit_or}
-use Rattle.std.specs.Int.{bit_at, trailing_zeros}
+use Rattle.known_bits.proofs.Common.{◌≡◌, ℕ, ◌+◌, ◌-◌, ◌*◌, ◌/◌, ◌%◌, ◌^◌, ◌<◌, ◌≤◌, w64, sym, ap, ◌∙◌, inl, inr, arith, bit_and, bit_or, bit_at, trailing_zeros, and_le_r, and_mod, or_mod, pow_pos, pow-add, mod-pow-add, mod-mul-add, mod_below, bit_at-lt, bit_at-zero, bit_at_above, bit_at-trailing_zeros, same_from_bits, div-eq_of_lt, mod-eq_of_lt, mod-le, pow_mono, cases_lt, IsMember}
 use Rattle.std.specs.Int.Count.{trailing_of_zero}
-use Rattle.std.proofs.lemmas.Nat.{and_le_r, and_mod, or_mod, pow_pos, pow-add, mod-pow-add, mod-mul-add, mod_below}
-use Rattle.std.proofs.lemmas.Nat.Bits.{bit_at-lt, bit_at-zero, bit_at_above, bit_at-trailing_zeros, same_from_bits}
-use Rattle.std.proofs.Math.Nat.{div-eq_of_lt, mod-eq_of_lt, mod-le}
-use Rattle.std.proofs.Math.Pow.{pow_mono}
-use Rattle.std.proofs.lemmas.Bool.{cases_lt}
-use Rattle.known_bits.specs.Member.{IsMember}
 use Rattle.known_bits.proofs.MemberLaws.{bit_at-differing}
 use Rattle.known_bits.proofs.Members.{Apart, member_and_most}
 use Rattle.known_bits.proofs.Carry.{low_bit}

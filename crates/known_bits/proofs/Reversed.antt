@@ -1,16 +1,9 @@
 -- Low bytes in a byte order: each bit is one of the number's.
-use Rattle.std.proofs.Common.{◌≡◌, ℕ, zero, suc, ◌+◌, ◌-◌, ◌*◌, ◌/◌, ◌%◌, ◌^◌, ◌<◌, w16, w32, w64, refl, ap, ◌∙◌, inl, inr, arith}
-use Rattle.std.specs.Int.{bit_at, swap_bytes}
-use Rattle.std.proofs.lemmas.Nat.{mod_below, pow_pos}
-use Rattle.std.proofs.lemmas.Nat.Bits.{bit_at_cat_low, bit_at_cat_high}
-use Rattle.std.proofs.lemmas.Bool.{cases_lt}
+use Rattle.known_bits.proofs.Common.{◌≡◌, ℕ, zero, suc, ◌+◌, ◌-◌, ◌*◌, ◌/◌, ◌%◌, ◌^◌, ◌<◌, w16, w32, w64, refl, ap, ◌∙◌, inl, inr, arith, bit_at, swap_bytes, mod_below, pow_pos, bit_at_cat_low, bit_at_cat_high, cases_lt, span_bits, reordered, reordered_below, span_fits}
 use Rattle.isa_model.specs.declared.sizes.ByteOrder.{ByteOrder}
 use Rattle.isa_model.specs.declared.sizes.ByteOrder.TheVariants.{Little, Big, Swap}
 use Rattle.isa_model.specs.declared.sizes.SwapWidth.{SwapWidth}
 use Rattle.isa_model.specs.declared.sizes.SwapWidth.TheVariants.{B16, B32, B64}
-use Rattle.isa_model.specs.Code.Sizes.{span_bits}
-use Rattle.isa_model.specs.Code.Numbers.{reordered}
-use Rattle.isa_model.proofs.NumberLaws.{reordered_below, span_fits}
 use Rattle.known_bits.proofs.Carry.{low_bit}
 use Rattle.known_bits.proofs.Copies.{Copies}
 use Rattle.known_bits.proofs.Shift.{right_bit}

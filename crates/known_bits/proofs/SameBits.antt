@@ -1,8 +1,6 @@
 -- Bits with the same value and the same mask are the same, whatever proofs they hold.
-use Rattle.std.specs.Prelude.{◌≡◌, ℕ, ◌^◌, ◌<◌, bit_and}
-use Rattle.std.proofs.Common.{ap₂, subst₂}
+use Rattle.known_bits.proofs.Common.{◌≡◌, ℕ, ◌^◌, ◌<◌, bit_and, ap₂, subst₂, Bits}
 use Rattle.std.proofs.Props.{props}
-use Rattle.known_bits.specs.declared.bits.Bits.{Bits}
 
 -- two proofs are one
 pub one_proof : (n m : ℕ) (p q : n ≡ m) → p ≡ q

@@ -1,10 +1,5 @@
 -- Sharp results: each unknown bit is 0 in some result and 1 in another.
-use Rattle.std.proofs.Common.{inl, inr, ◌≡◌, ◌≢◌, ℕ, ◌%◌, ◌^◌, ◌<◌, sym, ap, ◌∙◌, arith, bit_and, bit_or, bit_xor}
-use Rattle.std.specs.Int.{bit_at}
-use Rattle.std.proofs.lemmas.Nat.{or_lt}
-use Rattle.std.proofs.lemmas.Nat.Bits.{bit_at_and, bit_at_or, bit_at_xor, bit_at-lt, bit_at_above}
-use Rattle.std.proofs.lemmas.Bool.{cases_lt}
-use Rattle.known_bits.specs.Member.{IsMember, Occurs}
+use Rattle.known_bits.proofs.Common.{inl, inr, ◌≡◌, ◌≢◌, ℕ, ◌%◌, ◌^◌, ◌<◌, sym, ap, ◌∙◌, arith, bit_and, bit_or, bit_xor, bit_at, or_lt, bit_at_and, bit_at_or, bit_at_xor, bit_at-lt, bit_at_above, cases_lt, IsMember, Occurs}
 use Rattle.known_bits.proofs.Members.{Apart, bits_apart, member_from_bits}
 use Rattle.known_bits.proofs.Logic.{without_bit, and_mask_of, or_mask_of, and_bit, and_known, or_known}
 use Rattle.known_bits.proofs.Carry.{low_bit}

@@ -1,13 +1,7 @@
 -- The least and the greatest member as signed numbers: an unknown sign bit is set in the one and
 -- clear in the other.
-use Rattle.std.proofs.Common.{◌≡◌, ℕ, ◌+◌, ◌-◌, ◌/◌, ◌%◌, ◌^◌, ◌<◌, ◌≤◌, w64, sym, ap, ◌∙◌, inl, inr, arith, bit_or}
-use Rattle.std.specs.Prelude.{◌≤ℤ◌}
-use Rattle.std.specs.Int.{bit_at, cast_signed}
-use Rattle.std.proofs.lemmas.Nat.{le_or_r, or_lt}
-use Rattle.std.proofs.lemmas.Bool.{cases_lt}
-use Rattle.std.proofs.lemmas.Int.{ints}
+use Rattle.known_bits.proofs.Common.{◌≡◌, ℕ, ◌+◌, ◌-◌, ◌/◌, ◌%◌, ◌^◌, ◌<◌, ◌≤◌, w64, sym, ap, ◌∙◌, inl, inr, arith, bit_or, ◌≤ℤ◌, bit_at, cast_signed, le_or_r, or_lt, cases_lt, ints, IsMember}
 use Rattle.isa_model.specs.Code.NumberLaws.{signed_equation}
-use Rattle.known_bits.specs.Member.{IsMember}
 use Rattle.known_bits.proofs.Members.{Apart, bits_between, bits_apart, member_from_bits}
 use Rattle.known_bits.proofs.Carry.{low_bit, low_least, low_most}
 use Rattle.known_bits.proofs.Order.{member_least, member_most}

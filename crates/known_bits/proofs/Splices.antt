@@ -1,13 +1,5 @@
 -- Numbers in which some bits are replaced by those of another number, bit by bit.
-use Rattle.std.proofs.Common.{◌≡◌, ℕ, ◌+◌, ◌-◌, ◌*◌, ◌/◌, ◌%◌, ◌^◌, ◌<◌, ◌≤◌, w64, sym, ap, ◌∙◌, inl, inr, arith, bit_and, bit_or}
-use Rattle.std.specs.Int.{bit_at, bit_not}
-use Rattle.std.proofs.Math.Nat.{mod-eq_of_lt, div-mul-le_self}
-use Rattle.std.proofs.Math.Pow.{pow_mono}
-use Rattle.std.proofs.lemmas.Nat.{or_lt, and_le_l, pow_pos, pow-add, mod_below, div_below, mul-le, le-div, div-mul-add, shr_split}
-use Rattle.std.proofs.lemmas.Nat.Bits.{bit_at_and, bit_at_or, bit_at_not, bit_at-lt, bit_at_cat_low, bit_at_cat_high, bit_at_mask_inside, bit_at_mask_below, bit_at_mask_above, same_from_bits_below}
-use Rattle.std.proofs.lemmas.Bool.{cases_lt}
-use Rattle.known_bits.specs.Member.{IsMember}
-use Rattle.known_bits.specs.Bits.{spliced}
+use Rattle.known_bits.proofs.Common.{◌≡◌, ℕ, ◌+◌, ◌-◌, ◌*◌, ◌/◌, ◌%◌, ◌^◌, ◌<◌, ◌≤◌, w64, sym, ap, ◌∙◌, inl, inr, arith, bit_and, bit_or, bit_at, bit_not, mod-eq_of_lt, div-mul-le_self, pow_mono, or_lt, and_le_l, pow_pos, pow-add, mod_below, div_below, mul-le, le-div, div-mul-add, shr_split, bit_at_and, bit_at_or, bit_at_not, bit_at-lt, bit_at_cat_low, bit_at_cat_high, bit_at_mask_inside, bit_at_mask_below, bit_at_mask_above, same_from_bits_below, cases_lt, IsMember, spliced}
 use Rattle.known_bits.proofs.Members.{Apart, Between, bits_between, bits_apart, apart_from_bits, member_from_bits}
 use Rattle.known_bits.proofs.Carry.{low_bit}
 use Rattle.known_bits.proofs.Shift.{right_bit, shifted_high}

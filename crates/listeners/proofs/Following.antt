@@ -1,22 +1,13 @@
 -- What a listener keeps of a path that it follows, move by move.
-use Rattle.std.proofs.Common.{◌≡◌, ◌∙◌, ℕ, ◌+◌, ◌-◌, ◌≤◌, List, [], ◌∷◌, ◌++◌, Option, Some, None, arith, refl, sym, ap, subst, length, append_assoc, length-append}
-use Rattle.std.specs.Prelude.{slice_get, option_to_list, IsSome}
+use Rattle.listeners.proofs.Common.{◌≡◌, ◌∙◌, ℕ, ◌+◌, ◌-◌, ◌≤◌, List, [], ◌∷◌, ◌++◌, Option, Some, None, arith, refl, sym, ap, subst, length, append_assoc, length-append, slice_get, option_to_list, IsSome, Program, State, Refusal, Precision, Exact, Coarse, StopsAt, StopsIn, IsRefused, precision_of, IsLed, IsTurnBefore, ComesThrough, Explains, ComesTo, IsToStop, IsOutsideSearch, EndsIn, EndsAsPrecise, HasRetraced, HasFollowed, IsWalk, slots_along}
 use Rattle.std.proofs.lemmas.List.{same_from_push}
-use Rattle.isa_model.specs.Code.Instructions.{Program}
-use Rattle.stack_state.specs.declared.states.State.{State}
 use Rattle.walks.specs.declared.explained.Jump.{Jump}
 use Rattle.walks.specs.declared.explained.Explanation.{Explanation}
-use Rattle.walks.specs.declared.refusals.Refusal.{Refusal}
 use Rattle.walks.specs.declared.refusals.Refusal.TheVariants.{Flow, Step, Repeats, TooLong, Memory}
-use Rattle.walks.specs.Forgetting.{Precision, Exact, Coarse}
 use Rattle.walks.specs.Walks.{StepsTo}
-use Rattle.walks.specs.Refused.{StopsAt, StopsIn, IsRefused, precision_of}
-use Rattle.walks.specs.Explained.{IsLed, IsTurnBefore, ComesThrough, Explains}
 use Rattle.walks.specs.Explained.ComesThrough.{AtStart, AfterOne}
-use Rattle.explorer.specs.Listening.{ComesTo, IsToStop, IsOutsideSearch, EndsIn, EndsAsPrecise, HasRetraced}
 use Rattle.listeners.specs.declared.turns.Turns.{Turns}
 use Rattle.listeners.specs.Turns.{AreOn}
-use Rattle.listeners.specs.Followed.{HasFollowed, IsWalk, slots_along}
 use Rattle.explorer.proofs.StoredStatesLaws.{slice_get-push, slice_get-seam}
 use Rattle.walks.proofs.LastJumps.{led_start}
 

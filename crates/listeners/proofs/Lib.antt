@@ -1,3 +1,4 @@
+mod Common
 pub mod Stops
 pub mod Turning
 pub mod Following

@@ -1,6 +1,5 @@
 -- What holds of the number that a search ended with, holds of the first instruction's.
-use Rattle.std.specs.Prelude.{◌≡◌, ℕ, List, [], ◌∷◌}
-use Rattle.std.proofs.Common.{sym, subst}
+use Rattle.std.proofs.Common.{◌≡◌, ℕ, List, [], ◌∷◌, sym, subst}
 use Rattle.listeners.specs.declared.listing.ExploredInsn.{ExploredInsn}
 use Rattle.listeners.specs.Listed.{OfStart}
 

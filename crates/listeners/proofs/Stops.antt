@@ -1,15 +1,8 @@
 -- What is known of the refusal with which a search stopped.
-use Rattle.std.proofs.Common.{◌≡◌, ℕ, Option, Some, None, Result, subst}
-use Rattle.std.specs.Prelude.{Err, IfErr, IfSome}
-use Rattle.isa_model.specs.Code.Instructions.{Program}
+use Rattle.listeners.proofs.Common.{◌≡◌, ℕ, Option, Some, None, Result, subst, Err, IfErr, IfSome, Program, Refusal, IsRefused, AcceptsAll, AcceptsAll-refused, IfRefused}
 use Rattle.isa_model.specs.Machine.MachineStates.{IsProgram}
-use Rattle.walks.specs.declared.refusals.Refusal.{Refusal}
-use Rattle.walks.specs.Refused.{IsRefused}
-use Rattle.walks.specs.Accepting.{AcceptsAll}
-use Rattle.walks.proofs.AcceptingLaws.{AcceptsAll-refused}
 use Rattle.explorer.specs.declared.moves.Halt.{Halt}
 use Rattle.explorer.specs.declared.moves.Halt.TheVariants.{Refused}
-use Rattle.explorer.specs.Listening.{IfRefused}
 use Rattle.listeners.specs.declared.rejections.Unverified.{Unverified}
 use Rattle.listeners.specs.declared.rejections.Unverified.TheVariants.{Rejected, Stopped}
 use Rattle.listeners.specs.Rejections.{IfRejected}

@@ -1,13 +1,7 @@
 -- The last two states of a path at one slot, move by move.
-use Rattle.std.proofs.Common.{◌≡◌, ◌≢◌, ◌∙◌, ℕ, zero, suc, ◌+◌, ◌<◌, List, [], ◌∷◌, ◌++◌, Option, Some, None, arith, refl, sym, ap, subst, length}
-use Rattle.std.specs.Prelude.{IfSome}
-use Rattle.isa_model.specs.Code.Instructions.{Program}
-use Rattle.stack_state.specs.declared.states.State.{State}
-use Rattle.walks.specs.Forgetting.{Precision}
+use Rattle.listeners.proofs.Common.{◌≡◌, ◌≢◌, ◌∙◌, ℕ, zero, suc, ◌+◌, ◌<◌, List, [], ◌∷◌, ◌++◌, Option, Some, None, arith, refl, sym, ap, subst, length, IfSome, Program, State, Precision, IsTurnBefore, IsWalk}
 use Rattle.walks.specs.Walks.{StepsTo, HasSteps}
 use Rattle.listeners.specs.declared.turns.Turns.{Turns}
-use Rattle.walks.specs.Explained.{IsTurnBefore}
-use Rattle.listeners.specs.Followed.{IsWalk}
 use Rattle.listeners.specs.Turns.{IsAtIndex, AreOn, IsFurtherBack}
 
 -- ---- the path grows, and shrinks

@@ -1,15 +1,7 @@
 -- Laws of the chunks of places in an order.
-use Rattle.std.proofs.Common.{◌≡◌, ◌≢◌, Bool, true, false, ℕ, zero, suc, ◌+◌, ◌-◌, ◌*◌, ◌<◌, ◌≤◌, List, [], ◌∷◌, ◌++◌, take, drop, length, Some, refl, sym, ap, subst, ◌∙◌, inl, inr, arith}
-use Rattle.std.specs.Prelude.{min, slice_get, slice_set, slice_index_or, vec_capacity}
-use Rattle.std.specs.List.{concat, insert, remove}
-use Rattle.std.specs.declared.alloc.Global.{Global}
-use Rattle.std.specs.declared.vec.Vec.{Vec}
+use Rattle.live_maps.proofs.Common.{◌≡◌, ◌≢◌, Bool, true, false, ℕ, zero, suc, ◌+◌, ◌-◌, ◌*◌, ◌<◌, ◌≤◌, List, [], ◌∷◌, ◌++◌, take, drop, length, Some, refl, sym, ap, subst, ◌∙◌, inl, inr, arith, min, slice_get, slice_set, slice_index_or, vec_capacity, concat, insert, remove, Global, Vec, slice_get-get_or, slice_get_within, get_or_from_slice_get, eqb, cases_lt, eqb-true, eqb-false, AreChunks, Begin, IsChunk, IsIn, IsSpot, all_places, count_to, lists_of}
 use Rattle.std.proofs.lemmas.List.{get_or-map, get_or_append_left, get_or_default, get_or_push, get_or-set_same, get_or-set_other, length-drop, length-map, length-set, length_push, map-append, map-set, append-nil, take_all, take_min}
-use Rattle.std.proofs.lemmas.Option.{slice_get-get_or, slice_get_within, get_or_from_slice_get}
-use Rattle.std.proofs.Math.Dec.{eqb}
-use Rattle.std.proofs.lemmas.Bool.{cases_lt, eqb-true, eqb-false}
 use Rattle.live_maps.specs.declared.chunks.Chunks.{Chunks}
-use Rattle.live_maps.specs.Ranks.{AreChunks, Begin, IsChunk, IsIn, IsSpot, all_places, count_to, lists_of}
 use Rattle.live_maps.proofs.RanksLaws.{Lists, at_index, count-all, count-most, count-set, count-suc, halved, list_in, nowhere, one_more_set, put_at, take_part, taken_at, without_last}
 
 -- ---- chunks as lists

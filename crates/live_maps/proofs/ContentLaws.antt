@@ -1,14 +1,5 @@
 -- Rows and contents of all maps, by the maps and the serials of their places.
-use Rattle.std.proofs.Common.{◌≡◌, ℕ, zero, suc, ◌<◌, ◌≤◌, List, [], ◌∷◌, map, length, refl, ap, ◌∙◌, arith}
-use Rattle.std.specs.Prelude.{IsSomeAnd, slice_get, slice_set, slice_index_or}
-use Rattle.std.specs.FinMap.{entries}
-use Rattle.std.proofs.lemmas.List.{get_or_past, length-set}
-use Rattle.isa_model.specs.Machine.States.{Content, KeyValues, key_values_of}
-use Rattle.map_indexes.specs.BlockRows.{block_row}
-use Rattle.maps.specs.ContentLaws.{changed}
-use Rattle.maps.specs.Maps.{MapState, map_at, contents_of, rows_of}
-use Rattle.isa_model.specs.declared.map_defs.MapDef.{MapDef}
-use Rattle.live_maps.specs.Live.{Serials, serials_at, stored, live_content, live_contents, Live}
+use Rattle.live_maps.proofs.Common.{◌≡◌, ℕ, zero, suc, ◌<◌, ◌≤◌, List, [], ◌∷◌, map, length, refl, ap, ◌∙◌, arith, IsSomeAnd, slice_get, slice_set, slice_index_or, entries, get_or_past, length-set, Content, KeyValues, key_values_of, block_row, changed, MapState, map_at, contents_of, rows_of, MapDef, Serials, serials_at, stored, live_content, live_contents, Live}
 
 pub length-live_contents : (maps : List MapState) (all : List Serials) → length all ≡ length maps
     → length (live_contents maps all) ≡ length maps

@@ -1,29 +1,11 @@
 -- Keys and values by their places, and the contents that they make: values found by serial,
 -- written, put and removed.
-use Rattle.std.proofs.Common.{◌≡◌, ℕ, suc, ◌+◌, List, [], ◌∷◌, length, Option, Some, None, Bool, true, false, cond, refl, sym, ap, subst, ◌∙◌, arith}
-use Rattle.std.specs.Prelude.{◌≢◌, ◌==◌, T, ◌&&◌, nat_lt, not, All, slice_get, slice_index_or}
-use Rattle.std.specs.List.{position, position_or_len, splice}
-use Rattle.std.specs.Option.{option_map}
+use Rattle.live_maps.proofs.Common.{◌≡◌, ℕ, suc, ◌+◌, List, [], ◌∷◌, length, Option, Some, None, Bool, true, false, cond, refl, sym, ap, subst, ◌∙◌, arith, ◌≢◌, ◌==◌, T, ◌&&◌, nat_lt, not, All, slice_get, slice_index_or, position, position_or_len, splice, option_map, Less, Equal, Greater, nat_list_cmp_total, find, is_sorted, below_all, find-put, find-where_key, is_sorted-put, is_sorted-where_key, nat_tests, slice_get-get_or, Stored, index_of_serial, key_value_at, put_value, key_order, is_key, at_key, with_key, without_key, changed, find-changed, is_sorted-changed, same_contents, get_at, above, Places, is_key-equal, is_key-itself, value_bytes}
 use Rattle.std.specs.Ordering.{is_eq, is_lt}
 use Rattle.std.specs.declared.cmp.Ordering.{Ordering}
-use Rattle.std.specs.declared.cmp.Ordering.TheVariants.{Less, Equal, Greater}
 use Rattle.std.specs.Cmp.{eq_by_cmp_equiv}
-use Rattle.std.specs.Cmp.Lexicographic.{nat_list_cmp_total}
 use Rattle.std.specs.FinMap.{get, remove, entries, entries_sorted, get-entries, get-remove, slice_cmp-IsAntisymmetric, nat_cmp-IsAntisymmetric}
-use Rattle.std.specs.FinMap.Entries.{find, is_sorted, below_all, find-put, find-where_key, is_sorted-put, is_sorted-where_key}
-use Rattle.std.proofs.lemmas.Bool.Decides.{nat_tests}
 use Rattle.std.proofs.lemmas.List.Elements.{All-head, All-tail}
-use Rattle.std.proofs.lemmas.Option.{slice_get-get_or}
-use Rattle.isa_model.specs.Machine.States.{Stored}
-use Rattle.isa_model.specs.Machine.Memory.{index_of_serial, key_value_at, put_value}
-use Rattle.isa_model.specs.Machine.MapContents.{key_order, is_key, at_key, with_key, without_key}
-use Rattle.maps.specs.ContentLaws.{changed, find-changed, is_sorted-changed}
-use Rattle.maps.proofs.ContentLaws.{same_contents}
-use Rattle.maps.proofs.ReportOrderLaws.{get_at, above}
-use Rattle.map_indexes.specs.PlaceKeys.{Places}
-use Rattle.map_indexes.specs.PlaceKeyLaws.{is_key-equal}
-use Rattle.map_indexes.proofs.PlaceKeysLaws.{is_key-itself}
-use Rattle.live_maps.specs.Live.{value_bytes}
 
 -- ---- the first that passes a test
 

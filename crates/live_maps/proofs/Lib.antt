@@ -1,4 +1,5 @@
 pub mod ChunkLaws
+mod Common
 pub mod ContentLaws
 pub mod KeyValueLaws
 pub mod LiveLaws

@@ -1,25 +1,10 @@
 -- Maps whose values have serials: what each change makes of the contents, and that the serials stay
 -- apart.
-use Rattle.std.proofs.Common.{◌≡◌, ℕ, suc, ◌+◌, ◌<◌, ◌≤◌, List, [], length, Option, Some, None, true, false, refl, sym, ap, subst, ◌∙◌, arith}
-use Rattle.std.specs.Prelude.{◌≢◌, ◌==◌, is_some, nat_le, slice_set}
-use Rattle.std.specs.Option.{option_map}
-use Rattle.std.specs.FinMap.{get, entries}
-use Rattle.std.proofs.Math.Dec.{eqb}
-use Rattle.std.proofs.lemmas.Bool.{eqb-true, eqb-false}
-use Rattle.std.proofs.lemmas.Bool.Decides.{nat_tests}
-use Rattle.std.proofs.lemmas.List.{get_or-set_same, get_or-set_other, set-get_or, length-set, length-map}
-use Rattle.isa_model.specs.Machine.States.{Content, KeyValues, key_values_of}
-use Rattle.isa_model.specs.Machine.Memory.{index_of_serial, put_value}
-use Rattle.isa_model.specs.Machine.MapContents.{at_key, with_key, without_key, update_answer, delete_answer, update_answer_by, delete_answer_by}
-use Rattle.map_indexes.specs.BlockRows.{with_block_row}
-use Rattle.map_indexes.specs.PlaceKeys.{Places, TakesPlace}
-use Rattle.maps.specs.Maps.{MapState, IsMap, WritesValue, Updated, Deleted, map_at, content_in}
+use Rattle.live_maps.proofs.Common.{◌≡◌, ℕ, suc, ◌+◌, ◌<◌, ◌≤◌, List, [], length, Option, Some, None, true, false, refl, sym, ap, subst, ◌∙◌, arith, ◌≢◌, ◌==◌, is_some, nat_le, slice_set, option_map, get, entries, eqb, eqb-true, eqb-false, nat_tests, get_or-set_same, get_or-set_other, set-get_or, length-set, length-map, Content, KeyValues, key_values_of, index_of_serial, put_value, at_key, with_key, without_key, update_answer, delete_answer, update_answer_by, delete_answer_by, with_block_row, Places, TakesPlace, MapState, IsMap, WritesValue, Updated, Deleted, map_at, content_in, Hash, Array, Serials, serial_in, serials_at, place_if_new, stored, live_content, live_contents, HasSerials, AreLive, content_at, with_content, with_value, with_bytes, without}
 use Rattle.maps.proofs.UpdateLaws.{delete_answer-places}
 use Rattle.isa_model.specs.declared.map_defs.MapType.{MapType}
-use Rattle.isa_model.specs.declared.map_defs.MapType.TheVariants.{Hash, Array}
 use Rattle.isa_model.specs.Machine.MapHelpers.{serial_given, serial_after}
 use Rattle.isa_model.proofs.ContentLaws.{has_key-key_values_of}
-use Rattle.live_maps.specs.Live.{Serials, serial_in, serials_at, place_if_new, stored, live_content, live_contents, HasSerials, AreLive, content_at, with_content, with_value, with_bytes, without}
 use Rattle.live_maps.proofs.ContentLaws.{live_contents-at, live_contents-set, live_contents-set_map, live_of, rows_of-set, key_values-stored}
 use Rattle.live_maps.proofs.SerialLaws.{put_value-written, at_key-live, HasSerials-more, HasSerials-same, HasSerials-added, with_key-added, with_key-present, HasSerials-removed, without_key-removed}
 

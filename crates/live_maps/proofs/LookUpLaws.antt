@@ -1,28 +1,9 @@
 -- Look-ups of values by a serial, and by a key.
-use Rattle.std.proofs.Common.{◌≡◌, ℕ, zero, suc, ◌<◌, ◌≤◌, List, [], ◌∷◌, length, Option, Some, None, Bool, true, false, cond, refl, sym, ap, ◌∙◌, inl, inr, arith}
-use Rattle.std.specs.Prelude.{◌≢◌, unwrap_or}
-use Rattle.std.specs.List.{position}
+use Rattle.live_maps.proofs.Common.{◌≡◌, ℕ, zero, suc, ◌<◌, ◌≤◌, List, [], ◌∷◌, length, Option, Some, None, Bool, true, false, cond, refl, sym, ap, ◌∙◌, inl, inr, arith, ◌≢◌, unwrap_or, position, option_map, nat_list_cmp_total, get, entries, len-empty, len-entries, entries-insert, put, cases_lt, nat_tests, get_or_past, Stored, Content, key_value_at, key_order, at_key, block_row, length-block_row, Places, changed, MapState, map_at, Array, Serials, serial_in, serials_at, has_serial, stored, live_content, value_bytes, AreLive, content_at}
 use Rattle.std.proofs.lemmas.List.Quantifiers.{position-Some}
-use Rattle.std.specs.Option.{option_map}
-use Rattle.std.specs.Cmp.Lexicographic.{nat_list_cmp_total}
-use Rattle.std.specs.FinMap.{get, entries, len-empty, len-entries, entries-insert}
-use Rattle.std.specs.FinMap.Entries.{put}
-use Rattle.std.proofs.lemmas.Bool.{cases_lt}
-use Rattle.std.proofs.lemmas.Bool.Decides.{nat_tests}
-use Rattle.std.proofs.lemmas.List.{get_or_past}
-use Rattle.isa_model.specs.Machine.States.{Stored, Content}
-use Rattle.isa_model.specs.Machine.Memory.{key_value_at}
-use Rattle.isa_model.specs.Machine.MapContents.{key_order, at_key}
-use Rattle.map_indexes.specs.BlockRows.{block_row}
-use Rattle.map_indexes.specs.BlockRowLaws.{length-block_row}
-use Rattle.map_indexes.specs.PlaceKeys.{Places}
-use Rattle.maps.specs.ContentLaws.{changed}
-use Rattle.maps.specs.Maps.{MapState, map_at}
 use Rattle.map_indexes.specs.ArrayPlaces.{array_places}
 use Rattle.byteorder.specs.Endian.{little_bytes}
-use Rattle.isa_model.specs.declared.map_defs.MapType.TheVariants.{Array}
 use Rattle.isa_model.specs.Machine.Steps.{one_serial}
-use Rattle.live_maps.specs.Live.{Serials, serial_in, serials_at, has_serial, stored, live_content, value_bytes, AreLive, content_at}
 use Rattle.live_maps.proofs.KeyValueLaws.{position-cons}
 use Rattle.live_maps.proofs.ContentLaws.{live_contents-at, live_contents-past, live_of}
 use Rattle.live_maps.proofs.SerialLaws.{index_of_serial-absent, value_bytes-present, place_inside, at_key-live}

@@ -1,24 +1,7 @@
 -- Laws of the numbering at the start of a run.
-use Rattle.std.proofs.Common.{◌≡◌, ℕ, zero, suc, ◌+◌, ◌-◌, ◌<◌, ◌≤◌, List, [], ◌∷◌, map, length, Option, Some, true, false, cond, refl, sym, ap, subst, ◌∙◌, arith, inl, inr}
-use Rattle.std.specs.Prelude.{◌≢◌, All, slice_set, slice_index_or, unwrap_or}
-use Rattle.std.specs.FinMap.{get, entries, values, get-entries, len-entries}
-use Rattle.std.specs.FinMap.Entries.{find}
-use Rattle.std.proofs.Math.ListN.{get_or-map}
-use Rattle.std.proofs.Math.Dec.{eqb}
-use Rattle.std.proofs.lemmas.Bool.{eqb-true, eqb-false}
-use Rattle.std.proofs.lemmas.List.{get_or-set_same, get_or-set_other, get_or_default, length-map, take_all}
-use Rattle.std.proofs.lemmas.Option.{slice_get-get_or}
-use Rattle.isa_model.specs.Machine.MapContents.{key_order, is_key}
+use Rattle.live_maps.proofs.Common.{◌≡◌, ℕ, zero, suc, ◌+◌, ◌-◌, ◌<◌, ◌≤◌, List, [], ◌∷◌, map, length, Option, Some, true, false, cond, refl, sym, ap, subst, ◌∙◌, arith, inl, inr, ◌≢◌, All, slice_set, slice_index_or, unwrap_or, get, entries, values, get-entries, len-entries, find, get_or-map, eqb, eqb-true, eqb-false, get_or-set_same, get_or-set_other, get_or_default, length-map, take_all, slice_get-get_or, key_order, is_key, block_row, below_or_above, Places, changed, get_at, MapState, IsMap, map_at, content_in, contents_of, Serials, serial_in, serials_at, stored, live_content, live_contents, HasSerials, AreLive, AreDistinct, AreNumbered, NumbersAll, count_before, place_in}
 use Rattle.isa_model.specs.Running.Runs.{numbered, numbered_maps, count_map_values}
-use Rattle.map_indexes.specs.BlockRows.{block_row}
-use Rattle.map_indexes.specs.BlockRowLaws.{below_or_above}
-use Rattle.map_indexes.specs.PlaceKeys.{Places}
-use Rattle.maps.specs.ContentLaws.{changed}
-use Rattle.maps.proofs.ReportOrderLaws.{get_at}
-use Rattle.maps.specs.Maps.{MapState, IsMap, map_at, content_in, contents_of}
-use Rattle.live_maps.specs.Live.{Serials, serial_in, serials_at, stored, live_content, live_contents, HasSerials, AreLive}
 use Rattle.live_maps.proofs.KeyValueLaws.{AreApart, keys-apart}
-use Rattle.live_maps.specs.Numbering.{AreDistinct, AreNumbered, NumbersAll, count_before, place_in}
 
 -- a serial of numbered places is that of a place of the list
 pub numbered_only : (n : ℕ) (places : List ℕ) (serials : Serials) → NumbersAll n places serials

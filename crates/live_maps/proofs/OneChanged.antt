@@ -1,11 +1,5 @@
 -- What is known of maps when one of them may have changed.
-use Rattle.std.proofs.Common.{◌≡◌, ◌∙◌, ℕ, ◌<◌, ◌≤◌, List, length, Option, Some, sym, ap, subst, arith}
-use Rattle.std.specs.Prelude.{All, IsSomeAnd, slice_get, slice_set}
-use Rattle.std.specs.List.{position}
-use Rattle.isa_model.specs.declared.map_defs.MapDef.{MapDef}
-use Rattle.maps.specs.Maps.{MapState, IsMap, map_at}
-use Rattle.live_maps.specs.Live.{Live, Serials, AreLive, content_at, serials_at, has_serial, value_bytes}
-use Rattle.live_maps.specs.PlaceOrders.{AreLiveMaps, AreOrdersOf, PlaceOrder, serials_in}
+use Rattle.live_maps.proofs.Common.{◌≡◌, ◌∙◌, ℕ, ◌<◌, ◌≤◌, List, length, Option, Some, sym, ap, subst, arith, All, IsSomeAnd, slice_get, slice_set, position, MapDef, MapState, IsMap, map_at, Live, Serials, AreLive, content_at, serials_at, has_serial, value_bytes, AreLiveMaps, AreOrdersOf, PlaceOrder, serials_in}
 use Rattle.live_maps.proofs.ContentLaws.{live_of, rows_of-known, rows_of-some, length-changed_maps}
 use Rattle.live_maps.proofs.LookUpLaws.{serial_place-inside, serial_place-some}
 

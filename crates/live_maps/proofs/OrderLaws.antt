@@ -1,28 +1,7 @@
 -- Laws of the orders of all maps' keys: as a key is added or removed, and as values are numbered.
-use Rattle.std.specs.Prelude.{◌≢◌, ◌==◌, Bool, not, slice_get, slice_set, slice_index_or}
-use Rattle.std.proofs.Common.{◌≡◌, ℕ, suc, ◌+◌, ◌<◌, List, [], ◌∷◌, map, length, Option, Some, None, true, false, cond, refl, sym, ap, subst, ◌∙◌, arith}
-use Rattle.std.specs.List.{filter}
+use Rattle.live_maps.proofs.Common.{◌≢◌, ◌==◌, Bool, not, slice_get, slice_set, slice_index_or, ◌≡◌, ℕ, suc, ◌+◌, ◌<◌, List, [], ◌∷◌, map, length, Option, Some, None, true, false, cond, refl, sym, ap, subst, ◌∙◌, arith, filter, nat_list_cmp_total, find, find-where_key, is_sorted-where_key, same_entries, where_key, Equal, eqb, eqb-true, eqb-false, get_or-set_same, get_or-set_other, get_or_default, length-set, set-get_or, slice_get_within, get_or_from_slice_get, key_order, is_key, Places, TakesPlace, is_key-equal, is_key-itself, get-taken, get_at, MapState, IsMap, map_at, Since, Same, Gone, Given, New, AreOrdersOf, IsOrderOf, PlaceOrder, after, given_now, is_same, kept_at, serials_in, serials_of, since_in, start_serial, taken_now, with_since, AreLive, HasSerials, Serials, serial_in, serials_at, AreDistinct}
 use Rattle.std.specs.Cmp.{eq_by_cmp_equiv}
-use Rattle.std.specs.Cmp.Lexicographic.{nat_list_cmp_total}
 use Rattle.std.specs.FinMap.{get, entries, entries_sorted, values, get-entries, get-insert, get-remove, insert as with_place, remove, same_map, slice_cmp-IsAntisymmetric, nat_cmp-IsAntisymmetric}
-use Rattle.std.specs.FinMap.Entries.{find, find-where_key, is_sorted-where_key, same_entries, where_key}
-use Rattle.std.specs.declared.cmp.Ordering.TheVariants.{Equal}
-use Rattle.std.proofs.Math.Dec.{eqb}
-use Rattle.std.proofs.lemmas.Bool.{eqb-true, eqb-false}
-use Rattle.std.proofs.lemmas.List.{get_or-set_same, get_or-set_other, get_or_default, length-set, set-get_or}
-use Rattle.std.proofs.lemmas.Option.{slice_get_within, get_or_from_slice_get}
-use Rattle.isa_model.specs.Machine.MapContents.{key_order, is_key}
-use Rattle.map_indexes.specs.PlaceKeys.{Places, TakesPlace}
-use Rattle.map_indexes.specs.PlaceKeyLaws.{is_key-equal}
-use Rattle.map_indexes.proofs.PlaceKeysLaws.{is_key-itself}
-use Rattle.maps.proofs.ContentLaws.{get-taken}
-use Rattle.maps.proofs.ReportOrderLaws.{get_at}
-use Rattle.maps.specs.Maps.{MapState, IsMap, map_at}
-use Rattle.live_maps.specs.declared.place_serials.Since.{Since}
-use Rattle.live_maps.specs.declared.place_serials.Since.TheVariants.{Same, Gone, Given, New}
-use Rattle.live_maps.specs.PlaceOrders.{AreOrdersOf, IsOrderOf, PlaceOrder, after, given_now, is_same, kept_at, serials_in, serials_of, since_in, start_serial, taken_now, with_since}
-use Rattle.live_maps.specs.Live.{AreLive, HasSerials, Serials, serial_in, serials_at}
-use Rattle.live_maps.specs.Numbering.{AreDistinct}
 use Rattle.live_maps.proofs.PlaceOrderLaws.{IsOrderOf-touched, come-live, gone-live, length-serials_in, serial_in-of, serials_at-kept, serials_of-given, serials_of-taken, start-at}
 use Rattle.live_maps.proofs.NumberingLaws.{key_at}
 use Rattle.live_maps.proofs.PlaceLists.{IsOut, equal_to, none_without, not_equal, out_without, without}

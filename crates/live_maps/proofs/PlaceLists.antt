@@ -1,13 +1,6 @@
 -- Lists of places: parts of them, and one put in or taken out.
-use Rattle.std.specs.Prelude.{◌≢◌, ◌==◌, not, slice_get}
-use Rattle.std.proofs.Common.{◌≡◌, ℕ, zero, suc, ◌<◌, ◌≤◌, List, [], ◌∷◌, length, Option, Some, None, Bool, true, false, cond, refl, sym, ap, subst, ◌∙◌, arith}
+use Rattle.live_maps.proofs.Common.{◌≢◌, ◌==◌, not, slice_get, ◌≡◌, ℕ, zero, suc, ◌<◌, ◌≤◌, List, [], ◌∷◌, length, Option, Some, None, Bool, true, false, cond, refl, sym, ap, subst, ◌∙◌, arith, option_map, eqb, eqb-true, eqb-false, nat_tests, slice_get-get_or, slice_get_within, get_or_from_slice_get, AreDistinct, place_in}
 use Rattle.std.specs.List.{filter, insert, position, remove as remove_at}
-use Rattle.std.specs.Option.{option_map}
-use Rattle.std.proofs.Math.Dec.{eqb}
-use Rattle.std.proofs.lemmas.Bool.{eqb-true, eqb-false}
-use Rattle.std.proofs.lemmas.Bool.Decides.{nat_tests}
-use Rattle.std.proofs.lemmas.Option.{slice_get-get_or, slice_get_within, get_or_from_slice_get}
-use Rattle.live_maps.specs.Numbering.{AreDistinct, place_in}
 use Rattle.live_maps.proofs.KeyValueLaws.{position-cons}
 
 abbrev pub without : ℕ → List ℕ → List ℕ

@@ -1,19 +1,5 @@
 -- Laws of the serials of a map's values by what became of them since the last numbering.
-use Rattle.std.specs.Prelude.{◌≢◌, ◌==◌, slice_get, slice_set, slice_index_or}
-use Rattle.std.proofs.Common.{◌≡◌, ℕ, zero, suc, ◌+◌, ◌<◌, List, [], ◌∷◌, ◌++◌, length, Option, Some, None, Bool, true, false, cond, refl, sym, ap, subst, ◌∙◌, arith}
-use Rattle.std.specs.List.{filter, position}
-use Rattle.std.specs.Option.{option_map}
-use Rattle.std.specs.FinMap.{values}
-use Rattle.std.proofs.Math.ListN.{get_or-map}
-use Rattle.std.proofs.lemmas.List.{get_or-set_same, get_or-set_other, get_or_append_left, get_or_default, get_or_push, length-map, length-set, map-set}
-use Rattle.std.proofs.lemmas.Bool.{eqb-true}
-use Rattle.std.proofs.lemmas.Option.{slice_get-get_or, slice_get_within, get_or_from_slice_get}
-use Rattle.maps.specs.Maps.{MapState, IsMap, map_at}
-use Rattle.live_maps.specs.declared.place_serials.Since.{Since}
-use Rattle.live_maps.specs.declared.place_serials.Since.TheVariants.{Same, Gone, Given, New}
-use Rattle.live_maps.specs.PlaceOrders.{AllSame, AreFresh, AreGone, HaveCome, IsLater, IsOrderOf, PlaceOrder, after, given_now, is_given, is_same, is_same_at, kept_at, serials_from, serials_in, serials_of, since_in, start_serial, taken_now, with_since}
-use Rattle.live_maps.specs.Live.{Serials, HasSerials, has_serial, serial_in, serials_at}
-use Rattle.live_maps.specs.Numbering.{AreDistinct, NumbersAll, place_in}
+use Rattle.live_maps.proofs.Common.{◌≢◌, ◌==◌, slice_get, slice_set, slice_index_or, ◌≡◌, ℕ, zero, suc, ◌+◌, ◌<◌, List, [], ◌∷◌, ◌++◌, length, Option, Some, None, Bool, true, false, cond, refl, sym, ap, subst, ◌∙◌, arith, filter, position, option_map, values, get_or-map, get_or-set_same, get_or-set_other, get_or_append_left, get_or_default, get_or_push, length-map, length-set, map-set, eqb-true, slice_get-get_or, slice_get_within, get_or_from_slice_get, MapState, IsMap, map_at, Since, Same, Gone, Given, New, AllSame, AreFresh, AreGone, HaveCome, IsLater, IsOrderOf, PlaceOrder, after, given_now, is_given, is_same, is_same_at, kept_at, serials_from, serials_in, serials_of, since_in, start_serial, taken_now, with_since, Serials, HasSerials, has_serial, serial_in, serials_at, AreDistinct, NumbersAll, place_in}
 use Rattle.live_maps.proofs.KeyValueLaws.{position-cons}
 use Rattle.live_maps.proofs.NumberingLaws.{values-distinct, values-within}
 use Rattle.live_maps.proofs.PlaceLists.{IsOut, either_equal, filter-agree, filter-swap, filter-without, none_without, not_equal, out_without, position-at, position-found, position-out, without}

@@ -1,12 +1,6 @@
 -- Laws of places in lists, one list after another.
-use Rattle.std.proofs.Common.{◌≡◌, ◌≢◌, ℕ, zero, suc, ◌+◌, ◌-◌, ◌<◌, ◌≤◌, List, [], ◌∷◌, ◌++◌, take, drop, length, Some, refl, sym, ap, ◌∙◌, ◌⊎◌, inl, inr, arith, append_assoc}
-use Rattle.std.specs.Prelude.{slice_get, slice_set, slice_index_or}
-use Rattle.std.specs.List.{concat, insert, remove}
-use Rattle.std.proofs.lemmas.List.{append-nil, get_or-append_right, length-append, take-set-le, take_all, take_more, take_more_set}
-use Rattle.std.proofs.Math.ListN.{get_or-append}
-use Rattle.std.proofs.lemmas.List.Edits.{insert-append_left, insert-append_right}
+use Rattle.live_maps.proofs.Common.{◌≡◌, ◌≢◌, ℕ, zero, suc, ◌+◌, ◌-◌, ◌<◌, ◌≤◌, List, [], ◌∷◌, ◌++◌, take, drop, length, Some, refl, sym, ap, ◌∙◌, ◌⊎◌, inl, inr, arith, append_assoc, slice_get, slice_set, slice_index_or, concat, insert, remove, append-nil, get_or-append_right, length-append, take-set-le, take_all, take_more, take_more_set, get_or-append, insert-append_left, insert-append_right, count_to}
 use Rattle.std.proofs.lemmas.List.Folds.{concat-append}
-use Rattle.live_maps.specs.Ranks.{count_to}
 
 abbrev pub Lists : Type 0
 Lists = List (List ℕ)

@@ -1,25 +1,8 @@
 -- Laws of orders of keys that are brought up to date.
-use Rattle.std.specs.Prelude.{◌≢◌, T, nat_lt, slice_get, slice_set, slice_index_or}
-use Rattle.std.proofs.Common.{◌≡◌, ℕ, zero, suc, ◌+◌, ◌<◌, ◌≤◌, List, [], ◌∷◌, ◌++◌, length, Some, None, Bool, true, false, cond, refl, sym, ap, subst, ◌∙◌, inl, inr, arith}
-use Rattle.std.specs.List.{filter, insert, range_with_len}
+use Rattle.live_maps.proofs.Common.{◌≢◌, T, nat_lt, slice_get, slice_set, slice_index_or, ◌≡◌, ℕ, zero, suc, ◌+◌, ◌<◌, ◌≤◌, List, [], ◌∷◌, ◌++◌, length, Some, None, Bool, true, false, cond, refl, sym, ap, subst, ◌∙◌, inl, inr, arith, filter, insert, range_with_len, Less, Equal, Greater, nat_list_cmp_total, get, entries, entries_sorted, values, cases_lt, nat_tests, get_or-set_same, get_or-set_other, get_or_past, get_or_push, length-append, length-range_with_len, get_or-range_with_len, slice_get-get_or, slice_get_within, get_or_from_slice_get, key_order, Places, MapState, IsMap, Since, Same, Gone, Given, New, AllSame, AreGone, AreNoted, HaveCome, IsBefore, IsRising, NotBefore, after, is_same, is_same_at, looked, since_in, place_in}
 use Rattle.std.specs.Ordering.{is_lt, ordering_reverse}
 use Rattle.std.specs.declared.cmp.Ordering.{Ordering}
-use Rattle.std.specs.declared.cmp.Ordering.TheVariants.{Less, Equal, Greater}
-use Rattle.std.specs.Cmp.Lexicographic.{nat_list_cmp_total}
-use Rattle.std.specs.FinMap.{get, entries, entries_sorted, values}
-use Rattle.std.proofs.lemmas.Bool.{cases_lt}
-use Rattle.std.proofs.lemmas.Bool.Decides.{nat_tests}
-use Rattle.std.proofs.lemmas.List.{get_or-set_same, get_or-set_other, get_or_past, get_or_push, length-append}
-use Rattle.std.proofs.lemmas.List.FromFn.{length-range_with_len, get_or-range_with_len}
-use Rattle.std.proofs.lemmas.Option.{slice_get-get_or, slice_get_within, get_or_from_slice_get}
-use Rattle.isa_model.specs.Machine.MapContents.{key_order}
-use Rattle.map_indexes.specs.PlaceKeys.{Places}
 use Rattle.maps.proofs.InsertLaws.{below-below, pair_in, rising, length-inserted, length-values_of}
-use Rattle.maps.specs.Maps.{MapState, IsMap}
-use Rattle.live_maps.specs.declared.place_serials.Since.{Since}
-use Rattle.live_maps.specs.declared.place_serials.Since.TheVariants.{Same, Gone, Given, New}
-use Rattle.live_maps.specs.PlaceOrders.{AllSame, AreGone, AreNoted, HaveCome, IsBefore, IsRising, NotBefore, after, is_same, is_same_at, looked, since_in}
-use Rattle.live_maps.specs.Numbering.{place_in}
 use Rattle.live_maps.proofs.NumberingLaws.{key_at, value_index, values-distinct, values-few}
 use Rattle.live_maps.proofs.PlaceOrderLaws.{since_inside}
 use Rattle.live_maps.proofs.PlaceLists.{IsOut, either_equal, filter-agree, filter-all, in-filter, inserted, length-filter_less, out_still, out_without, pairs-filter, without}

@@ -1,28 +1,7 @@
 -- One map whose values have serials: what each change makes of its content, and that the serials
 -- stay apart.
-use Rattle.std.proofs.Common.{◌≡◌, ℕ, suc, ◌+◌, ◌<◌, ◌≤◌, List, [], length, Option, Some, None, Bool, true, false, cond, refl, sym, ap, ◌∙◌, arith}
-use Rattle.std.specs.Prelude.{◌≢◌, ◌==◌, All, slice_set, slice_index_or, unwrap_or}
-use Rattle.std.specs.List.{splice}
-use Rattle.std.specs.Option.{option_map}
-use Rattle.std.specs.Cmp.Lexicographic.{nat_list_cmp_total}
+use Rattle.live_maps.proofs.Common.{◌≡◌, ℕ, suc, ◌+◌, ◌<◌, ◌≤◌, List, [], length, Option, Some, None, Bool, true, false, cond, refl, sym, ap, ◌∙◌, arith, ◌≢◌, ◌==◌, All, slice_set, slice_index_or, unwrap_or, splice, option_map, nat_list_cmp_total, eqb, eqb-true, eqb-false, get_or-set_same, get_or-set_other, length-set, slice_get-get_or, Stored, index_of_serial, put_value, is_key, at_key, with_key, without_key, block_row, with_block_row, block_row-written, block_row-other, length-changed_row, Places, TakesPlace, is_key-equal, is_key-itself, changed, find-changed, get-taken, get_at, MapState, IsMap, WritesValue, Serials, serial_in, stored, live_content, value_bytes, HasSerials}
 use Rattle.std.specs.FinMap.{get, remove, entries, get-entries, get-insert, get-remove}
-use Rattle.std.proofs.Math.Dec.{eqb}
-use Rattle.std.proofs.lemmas.Bool.{eqb-true, eqb-false}
-use Rattle.std.proofs.lemmas.List.{get_or-set_same, get_or-set_other, length-set}
-use Rattle.std.proofs.lemmas.Option.{slice_get-get_or}
-use Rattle.isa_model.specs.Machine.States.{Stored}
-use Rattle.isa_model.specs.Machine.Memory.{index_of_serial, put_value}
-use Rattle.isa_model.specs.Machine.MapContents.{is_key, at_key, with_key, without_key}
-use Rattle.map_indexes.specs.BlockRows.{block_row, with_block_row}
-use Rattle.map_indexes.specs.BlockRowLaws.{block_row-written, block_row-other, length-changed_row}
-use Rattle.map_indexes.specs.PlaceKeys.{Places, TakesPlace}
-use Rattle.map_indexes.specs.PlaceKeyLaws.{is_key-equal}
-use Rattle.map_indexes.proofs.PlaceKeysLaws.{is_key-itself}
-use Rattle.maps.specs.ContentLaws.{changed, find-changed}
-use Rattle.maps.proofs.ContentLaws.{get-taken}
-use Rattle.maps.proofs.ReportOrderLaws.{get_at}
-use Rattle.maps.specs.Maps.{MapState, IsMap, WritesValue}
-use Rattle.live_maps.specs.Live.{Serials, serial_in, stored, live_content, value_bytes, HasSerials}
 use Rattle.live_maps.proofs.PlaceLists.{equal_to, not_equal}
 use Rattle.live_maps.proofs.KeyValueLaws.{keys-apart, index_of_serial-none, value_bytes-found, put_value-changed, changed-put, changed-removed}
 

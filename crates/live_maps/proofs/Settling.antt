@@ -1,13 +1,5 @@
 -- What an update and a delete make of the maps and of what is kept of them.
-use Rattle.std.proofs.Common.{◌≡◌, ◌∙◌, ◌<◌, ℕ, zero, suc, List, length, Bool, false, Option, Some, None, refl, sym, ap, subst, arith}
-use Rattle.std.specs.Prelude.{◌==◌, if◌then◌else◌, IfSome, IsSomeAnd, slice_get}
-use Rattle.std.specs.FinMap.{get}
-use Rattle.isa_model.specs.declared.map_defs.MapDef.{MapDef}
-use Rattle.isa_model.specs.Machine.MapContents.{update_answer, delete_answer}
-use Rattle.map_indexes.specs.PlaceKeys.{TakesPlace}
-use Rattle.maps.specs.Maps.{MapState, Updated, Deleted, map_at}
-use Rattle.live_maps.specs.Live.{Live, Serials, AreLive, place_if_new, content_at, serials_at, with_bytes, without}
-use Rattle.live_maps.specs.PlaceOrders.{AreOrdersOf, PlaceOrder, serials_in}
+use Rattle.live_maps.proofs.Common.{◌≡◌, ◌∙◌, ◌<◌, ℕ, zero, suc, List, length, Bool, false, Option, Some, None, refl, sym, ap, subst, arith, ◌==◌, if◌then◌else◌, IfSome, IsSomeAnd, slice_get, get, MapDef, update_answer, delete_answer, TakesPlace, MapState, Updated, Deleted, map_at, Live, Serials, AreLive, place_if_new, content_at, serials_at, with_bytes, without, AreOrdersOf, PlaceOrder, serials_in}
 use Rattle.live_maps.specs.Giving.{GivesSerial, TakesSerial}
 use Rattle.live_maps.proofs.ContentLaws.{live_of}
 use Rattle.live_maps.proofs.LiveLaws.{live-updated, live-added, live-removed, live-same, not_zero, updated_there, deleted_there, place_if_new-Some, place_if_new-None, update_answer-live, delete_answer-live}

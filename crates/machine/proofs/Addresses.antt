@@ -1,16 +1,6 @@
 -- Words of pointers as numbers.
-use Rattle.std.proofs.Common.{◌≡◌, ℕ, ◌^◌, ◌<◌, ◌≤◌, refl, arith, ℤ, pos, negsuc, ◌+ℤ◌, ◌-ℤ◌, inl, inr}
-use Rattle.std.proofs.lemmas.Int.{ints}
-use Rattle.std.proofs.lemmas.Bool.{cases_lt, lt-ltb, le-ltb}
-use Rattle.std.specs.Int.{w16, w64, cast_signed}
-use Rattle.std.specs.Int.RustNames.{FitsSigned}
-use Rattle.isa_model.specs.declared.sizes.Width.TheVariants.{Full64}
-use Rattle.isa_model.specs.declared.instructions.AluOp.TheVariants.{Add, Sub}
-use Rattle.isa_model.specs.declared.values.Region.{Region}
+use Rattle.machine.proofs.Common.{◌≡◌, ℕ, ◌^◌, ◌<◌, ◌≤◌, refl, arith, ℤ, pos, negsuc, ◌+ℤ◌, ◌-ℤ◌, inl, inr, ints, cases_lt, lt-ltb, le-ltb, w16, w64, cast_signed, FitsSigned, Full64, Add, Sub, Region, alu, signed, unsigned, IsOffset, IsRegion, Layout, IsLayout, region_start, moved, word}
 use Rattle.isa_model.specs.declared.values.Region.TheVariants as region
-use Rattle.isa_model.specs.Code.Numbers.{alu, signed, unsigned}
-use Rattle.isa_model.specs.Machine.MachineStates.{IsOffset, IsRegion}
-use Rattle.machine.specs.Related.{Layout, IsLayout, region_start, moved, word}
 
 -- an address as an integer, where it cannot be below 0
 pub moved_is : (s : ℕ) (z : ℤ) → 4294967296 ≤ s → IsOffset z → pos (moved s z) ≡ pos s +ℤ z

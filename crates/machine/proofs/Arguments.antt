@@ -1,31 +1,9 @@
 -- Calls of helpers: what their arguments are, and the answer in r0.
-use Rattle.std.proofs.Common.{◌≡◌, ℕ, zero, suc, ◌+◌, ◌-◌, ◌/◌, ◌<◌, List, [], ◌∷◌, ◌++◌, length, drop, map, replicate, refl, sym, ap, subst, ◌∙◌, arith, ℤ, pos, negsuc, ◌+ℤ◌, Ok, Err, Result, Bool, true, false, Some, get_or-set_same, get_or-set_other, length-set, slice_set}
-use Rattle.std.proofs.lemmas.Int.{ints}
-use Rattle.std.proofs.lemmas.List.{get_or-map}
-use Rattle.std.proofs.lemmas.Option.{slice_get-get_or}
-use Rattle.std.specs.Prelude.{if◌then◌else◌, slice_index, slice_index_or, slice_get}
-use Rattle.std.specs.List.{list_any, list_all}
-use Rattle.isa_model.specs.Code.Limits.{max_maps}
-use Rattle.isa_model.specs.declared.registers.Reg.TheVariants.{R1}
-use Rattle.isa_model.specs.declared.map_defs.MapDef.{MapDef}
+use Rattle.machine.proofs.Common.{◌≡◌, ℕ, zero, suc, ◌+◌, ◌-◌, ◌/◌, ◌<◌, List, [], ◌∷◌, ◌++◌, length, drop, map, replicate, refl, sym, ap, subst, ◌∙◌, arith, ℤ, pos, negsuc, ◌+ℤ◌, Ok, Err, Result, Bool, true, false, Some, get_or-set_same, get_or-set_other, length-set, slice_set, if◌then◌else◌, slice_index, slice_index_or, slice_get, ints, get_or-map, slice_get-get_or, list_any, list_all, max_maps, R1, MapDef, Value, Unset, Num, Ptr, Cell, TrapReason, UnsetRead, BadAccess, BadHelper, Program, State, value_at, go_to, and_then, is_unwritten, is_byte, byte_in, index_at, read, Helped, IsOffset, IsValue, IsState, map_at, length-rows_of, region_of, map_base, Layout, region_start, moved, Represents, RepresentsCells, RepresentsRegisters, Related}
 use Rattle.isa_model.specs.declared.values.Region.TheVariants as region
-use Rattle.isa_model.specs.declared.values.Value.{Value}
-use Rattle.isa_model.specs.declared.values.Value.TheVariants.{Unset, Num, Ptr}
-use Rattle.isa_model.specs.declared.values.Cell.{Cell}
-use Rattle.isa_model.specs.declared.ends.TrapReason.{TrapReason}
-use Rattle.isa_model.specs.declared.ends.TrapReason.TheVariants.{UnsetRead, BadAccess, BadHelper}
-use Rattle.isa_model.specs.Code.Instructions.{Program}
-use Rattle.isa_model.specs.Machine.States.{State, value_at, go_to}
-use Rattle.isa_model.specs.Machine.Memory.{and_then, is_unwritten, is_byte, byte_in, index_at, read}
-use Rattle.isa_model.specs.Machine.MapHelpers.{Helped}
 use Rattle.isa_model.specs.Machine.HelperCalls.{MapArgument, map_of_row, map_argument, BytesArgument, bytes_argument, number_argument, bytes_in, bytes_at, answered}
-use Rattle.isa_model.specs.Machine.MachineStates.{IsOffset, IsValue, IsState}
-use Rattle.maps.specs.Maps.{map_at}
-use Rattle.maps.proofs.MapLaws.{length-rows_of}
-use Rattle.word_machine.specs.Addresses.{region_of, map_base}
 use Rattle.word_machine.specs.Words.{Words, word_at, spot_of, IsInside, get}
 use Rattle.word_machine.specs.Helping.{map_named, named, words_answered as answered_words}
-use Rattle.machine.specs.Related.{Layout, region_start, moved, Represents, RepresentsCells, RepresentsRegisters, Related}
 use Rattle.machine.proofs.Addresses.{moved_is}
 use Rattle.machine.proofs.Arithmetic.{far}
 use Rattle.machine.proofs.Cells.{bytes-shown}

@@ -1,27 +1,11 @@
 -- Arithmetic and comparisons on words are those of the values that they represent.
-use Rattle.std.proofs.Common.{◌≡◌, ℕ, ◌+◌, ◌^◌, ◌<◌, ◌≤◌, refl, sym, ap, ◌∙◌, subst, arith, ℤ, pos, negsuc, ◌+ℤ◌, ◌-ℤ◌, Ok, Err, Result, Bool, true, false}
-use Rattle.std.proofs.lemmas.Bool.Decides.{nat_tests}
-use Rattle.std.specs.Prelude.{if◌then◌else◌, nat_le, unsigned_abs, ◌==◌}
-use Rattle.isa_model.specs.declared.sizes.Width.{Width}
-use Rattle.isa_model.specs.declared.sizes.Width.TheVariants.{Low32, Full64}
+use Rattle.machine.proofs.Common.{◌≡◌, ℕ, ◌+◌, ◌^◌, ◌<◌, ◌≤◌, refl, sym, ap, ◌∙◌, subst, arith, ℤ, pos, negsuc, ◌+ℤ◌, ◌-ℤ◌, Ok, Err, Result, Bool, true, false, if◌then◌else◌, nat_le, unsigned_abs, ◌==◌, nat_tests, Width, Low32, Full64, Add, Sub, Mov, Region, Value, Unset, Num, Ptr, TrapReason, OutOfRange, BadCompare, alu, low, signed, unsigned, holds, offset_limit, pointer_at, can_move, moved_to, pointer_and_number, number_and_pointer, combined, arithmetic, compared, compared_constant, packet_order, pointer_order, null_test, IsOffset, IsRegion, IsValue, Layout, IsLayout, region_start, moved, word, Represents, packet_base}
 use Rattle.isa_model.specs.declared.instructions.AluOp.{AluOp}
-use Rattle.isa_model.specs.declared.instructions.AluOp.TheVariants.{Add, Sub, Mov}
 use Rattle.isa_model.specs.declared.instructions.Comparison.{Comparison}
 use Rattle.isa_model.specs.declared.instructions.Comparison.TheVariants.{Equal, NotEqual, Greater, GreaterEqual, Less, LessEqual}
-use Rattle.isa_model.specs.declared.values.Region.{Region}
 use Rattle.isa_model.specs.declared.values.Region.TheVariants as region
-use Rattle.isa_model.specs.declared.values.Value.{Value}
-use Rattle.isa_model.specs.declared.values.Value.TheVariants.{Unset, Num, Ptr}
-use Rattle.isa_model.specs.declared.ends.TrapReason.{TrapReason}
-use Rattle.isa_model.specs.declared.ends.TrapReason.TheVariants.{OutOfRange, BadCompare}
-use Rattle.isa_model.specs.Code.Numbers.{alu, low, signed, unsigned, holds}
-use Rattle.isa_model.specs.Code.Limits.{offset_limit}
-use Rattle.isa_model.specs.Machine.Pointers.{pointer_at, can_move, moved_to, pointer_and_number, number_and_pointer, combined, arithmetic, compared, compared_constant, packet_order, pointer_order, null_test}
 use Rattle.isa_model.specs.Machine.Pointers as pointers
-use Rattle.isa_model.specs.Machine.MachineStates.{IsOffset, IsRegion, IsValue}
-use Rattle.machine.specs.Related.{Layout, IsLayout, region_start, moved, word, Represents}
 use Rattle.machine.proofs.Addresses.{add_moved, sub_moved, alu_add_swap, start_far, word_far}
-use Rattle.word_machine.specs.Addresses.{packet_base}
 
 -- what holds of a word for this result: it represents the value, if the result is one
 abbrev pub OkShows : Layout → Result Value TrapReason → ℕ → Type 0

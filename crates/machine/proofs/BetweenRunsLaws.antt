@@ -1,33 +1,14 @@
 -- The results of a caller's look-ups, updates and deletes between runs, by the maps.
-use Rattle.std.proofs.Common.{◌≡◌, ℕ, ◌<◌, List, [], ◌∷◌, length, take, drop, cond, refl, sym, ap, subst, ◌∙◌}
-use Rattle.std.specs.Prelude.{All, true, false, IfSome, Option, None, Some, is_some, option_copied, slice_set, slice_index_or}
+use Rattle.machine.proofs.Common.{◌≡◌, ℕ, ◌<◌, List, [], ◌∷◌, length, take, drop, cond, refl, sym, ap, subst, ◌∙◌, All, true, false, IfSome, Option, None, Some, is_some, option_copied, slice_set, slice_index_or, option_map, empty, find, get_or-map, take_at, All-nil, All-cons, All-head, All-tail, All-weaker, All-get_or, slice_get_within, get_or_from_slice_get, Hash, Array, MapDef, Program, KeyFits, KeyValues, key_order, is_key, at_key, update_answer, delete_answer, after_update, after_delete, FitRows, IsKeyValue, MapState, IsMap, Updated, Deleted, map_at, content_in, ordered_in, rows_of, contents_of, FitsRow-IsMap, FitRows-IsMap, contents_of-at, contents_of-set, rows_of-set, length-rows_of, Running, IsReady, IsVersioned, row_at, content_at, ordered_at, with_content, key_or, value_or, AnswersUpdate, AnswersDelete, CopiesKeyValue}
 use Rattle.std.specs.Borrow.{Bor}
 use Rattle.std.specs.List.{slice_get, filter_map, cons_option, range_with_len}
-use Rattle.std.specs.Option.{option_map}
-use Rattle.std.specs.FinMap.{empty}
-use Rattle.std.specs.FinMap.Entries.{find}
-use Rattle.std.proofs.lemmas.List.{get_or-map, take_at}
-use Rattle.std.proofs.lemmas.List.Elements.{All-nil, All-cons, All-head, All-tail, All-weaker, All-get_or}
-use Rattle.std.proofs.lemmas.Option.{slice_get_within, get_or_from_slice_get}
 use Rattle.byteorder.specs.Endian.{little_bytes}
 use Rattle.byteorder.specs.Numbers.{length-bytes_low_first}
 use Rattle.isa_model.specs.declared.map_defs.MapType.{MapType}
-use Rattle.isa_model.specs.declared.map_defs.MapType.TheVariants.{Hash, Array}
-use Rattle.isa_model.specs.declared.map_defs.MapDef.{MapDef}
-use Rattle.isa_model.specs.Code.Instructions.{Program}
-use Rattle.isa_model.specs.Code.MapRows.{KeyFits}
-use Rattle.isa_model.specs.Machine.States.{KeyValues}
-use Rattle.isa_model.specs.Machine.MapContents.{key_order, is_key, at_key, update_answer, delete_answer, after_update, after_delete}
-use Rattle.isa_model.specs.Machine.MachineStates.{FitRows, IsKeyValue}
 use Rattle.isa_model.specs.Reporting.Reports.{key_value_by_index, in_report_order}
-use Rattle.maps.specs.Maps.{MapState, IsMap, Updated, Deleted, map_at, content_in, ordered_in, rows_of, contents_of}
 use Rattle.maps.specs.ReportOrder.{with_key_of}
-use Rattle.maps.proofs.MapLaws.{FitsRow-IsMap, FitRows-IsMap, contents_of-at, contents_of-set, rows_of-set, length-rows_of}
 use Rattle.map_texts.proofs.Listing.{pair_at}
 use Rattle.word_machine.specs.declared.memory.Memory.{Memory}
-use Rattle.machine.specs.Running.{Running}
-use Rattle.machine.specs.Ready.{IsReady, IsVersioned}
-use Rattle.machine.specs.BetweenRuns.{row_at, content_at, ordered_at, with_content, key_or, value_or, AnswersUpdate, AnswersDelete, CopiesKeyValue}
 
 abbrev no_row : MapDef
 no_row = record { kind = Hash; key_size = 0; value_size = 0; entries = 0 }

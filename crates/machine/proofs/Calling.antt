@@ -1,24 +1,7 @@
 -- Call frames pushed and popped.
-use Rattle.std.proofs.Common.{◌≡◌, ℕ, zero, suc, ◌+◌, ◌-◌, ◌*◌, ◌<◌, ◌≤◌, List, [], ◌∷◌, ◌++◌, length, length-append, take, replicate, refl, sym, ap, subst, ◌∙◌, arith, add-zero, inl, inr, slice_set, get_or-set_same, get_or-set_other, length-set}
-use Rattle.std.proofs.lemmas.Bool.{cases_lt}
-use Rattle.std.proofs.lemmas.List.{length-take-le, get_or-take, get_or_past}
-use Rattle.std.specs.Prelude.{slice_index, slice_index_or}
-use Rattle.flatmem.specs.Bytes.{bytes_at}
-use Rattle.flatmem.proofs.BytesLaws.{length-bytes_at}
-use Rattle.isa_model.specs.Code.Limits.{stack_size, max_call_frames}
-use Rattle.isa_model.specs.declared.values.Value.{Value}
-use Rattle.isa_model.specs.declared.values.Value.TheVariants.{Unset}
-use Rattle.isa_model.specs.declared.values.Cell.TheVariants.{Unwritten}
+use Rattle.machine.proofs.Common.{◌≡◌, ℕ, zero, suc, ◌+◌, ◌-◌, ◌*◌, ◌<◌, ◌≤◌, List, [], ◌∷◌, ◌++◌, length, length-append, take, replicate, refl, sym, ap, subst, ◌∙◌, arith, add-zero, inl, inr, slice_set, get_or-set_same, get_or-set_other, length-set, slice_index, slice_index_or, cases_lt, length-take-le, get_or-take, get_or_past, bytes_at, length-bytes_at, stack_size, max_call_frames, Value, Unset, Unwritten, R0, Program, State, value_at, reg, call_frame_at, new_call_frame, IsState, frame_end, Saved, Words, saved_at, kept_words, regs_back, word_enter, word_leave, Layout, Represents, RepresentsCells, RepresentsRegisters, RepresentsFrame, RepresentsSaved, RepresentsFrames, Related}
 use Rattle.isa_model.specs.declared.values.CallFrame.{CallFrame}
-use Rattle.isa_model.specs.declared.registers.Reg.TheVariants.{R0}
-use Rattle.isa_model.specs.Code.Instructions.{Program}
-use Rattle.isa_model.specs.Machine.States.{State, value_at, reg, call_frame_at, new_call_frame}
 use Rattle.isa_model.specs.Machine.Calls.{saved_registers, regs_within, regs_after, enter, leave, callers, innermost}
-use Rattle.isa_model.specs.Machine.MachineStates.{IsState}
-use Rattle.word_machine.specs.Addresses.{frame_end}
-use Rattle.word_machine.specs.declared.memory.Saved.{Saved}
-use Rattle.word_machine.specs.Words.{Words, saved_at, kept_words, regs_back, word_enter, word_leave}
-use Rattle.machine.specs.Related.{Layout, Represents, RepresentsCells, RepresentsRegisters, RepresentsFrame, RepresentsSaved, RepresentsFrames, Related}
 use Rattle.machine.proofs.Extending.{ExtendsLayout, put_at-there, with_depth, ExtendsLayout-with_depth, IsLayout-with_depth, register_old, frame_old, saved_old, maps_old}
 
 -- an element of a list with one more at its end

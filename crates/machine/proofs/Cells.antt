@@ -1,20 +1,6 @@
 -- Bytes that represent cells: parts of them, and what they spell.
-use Rattle.std.proofs.Common.{◌≡◌, ℕ, zero, suc, ◌+◌, List, [], ◌∷◌, ◌++◌, length, take, drop, map, refl, ap, subst, ◌∙◌, arith, add-one, Ok, Err, Result, Bool, true, false, ℤ, pos, negsuc}
-use Rattle.std.proofs.lemmas.Bool.Decides.{nat_tests}
+use Rattle.machine.proofs.Common.{◌≡◌, ℕ, zero, suc, ◌+◌, List, [], ◌∷◌, ◌++◌, length, take, drop, map, refl, ap, subst, ◌∙◌, arith, add-one, Ok, Err, Result, Bool, true, false, ℤ, pos, negsuc, if◌then◌else◌, ◌==◌, ◌&&◌, nat_tests, list_any, list_all, enumerate_from, w64, byte_at, bytes_low_first, to_le_bytes, Region, Value, Unset, Num, Ptr, Cell, Unwritten, Byte, Piece, TrapReason, UnsetRead, BadAccess, number_from, is_unwritten, is_byte, byte_in, number_of, number_in, value_in, pointer_in, pieces, is_piece, are_pieces, same_region, same_int, Layout, word, RepresentsCell, RepresentsCells}
 use Rattle.isa_model.specs.declared.values.Region.TheVariants as region
-use Rattle.std.specs.Prelude.{if◌then◌else◌, ◌==◌, ◌&&◌}
-use Rattle.std.specs.List.{list_any, list_all, enumerate_from}
-use Rattle.std.specs.Int.{w64, byte_at, bytes_low_first, to_le_bytes}
-use Rattle.isa_model.specs.declared.values.Region.{Region}
-use Rattle.isa_model.specs.declared.values.Value.{Value}
-use Rattle.isa_model.specs.declared.values.Value.TheVariants.{Unset, Num, Ptr}
-use Rattle.isa_model.specs.declared.values.Cell.{Cell}
-use Rattle.isa_model.specs.declared.values.Cell.TheVariants.{Unwritten, Byte, Piece}
-use Rattle.isa_model.specs.declared.ends.TrapReason.{TrapReason}
-use Rattle.isa_model.specs.declared.ends.TrapReason.TheVariants.{UnsetRead, BadAccess}
-use Rattle.isa_model.specs.Code.Numbers.{number_from}
-use Rattle.isa_model.specs.Machine.Memory.{is_unwritten, is_byte, byte_in, number_of, number_in, value_in, pointer_in, pieces, is_piece, are_pieces, same_region, same_int}
-use Rattle.machine.specs.Related.{Layout, word, RepresentsCell, RepresentsCells}
 
 both_true : (b c : Bool) → (b && c) ≡ true → (b ≡ true) × (c ≡ true)
 both_true true c e = (refl, e)

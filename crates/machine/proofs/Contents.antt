@@ -1,20 +1,11 @@
 -- The keys' values and places after a key is put or removed.
-use Rattle.std.proofs.Common.{◌≡◌, ℕ, ◌*◌, ◌<◌, List, [], ◌∷◌, length, Option, Some, None, Bool, true, false, cond, refl, sym, ap, subst, ◌∙◌}
-use Rattle.std.specs.Prelude.{not, T}
-use Rattle.std.specs.Option.{option_map}
+use Rattle.machine.proofs.Common.{◌≡◌, ℕ, ◌*◌, ◌<◌, List, [], ◌∷◌, length, Option, Some, None, Bool, true, false, cond, refl, sym, ap, subst, ◌∙◌, not, T, option_map, get, remove, entries, entries_sorted, get-entries, get-remove, slice_cmp-IsAntisymmetric, nat_cmp-IsAntisymmetric, key_order, is_key, at_key, with_key, without_key, with_block_row, block_row-written, block_row-other, Places, changed, find-changed, is_sorted-changed, by_place}
 use Rattle.std.specs.Cmp.{eq_by_cmp_equiv}
 use Rattle.std.specs.Cmp.Lexicographic.{nat_list_cmp_total}
 use Rattle.std.specs.declared.cmp.Ordering.TheVariants.{Less, Equal, Greater}
-use Rattle.std.specs.FinMap.{get, remove, entries, entries_sorted, get-entries, get-remove, slice_cmp-IsAntisymmetric, nat_cmp-IsAntisymmetric}
 use Rattle.std.specs.FinMap.Entries.{by_order, find, is_sorted, find-put, find-where_key, is_sorted-put, is_sorted-where_key}
-use Rattle.isa_model.specs.Machine.MapContents.{key_order, is_key, at_key, with_key, without_key}
-use Rattle.map_indexes.specs.BlockRows.{with_block_row}
-use Rattle.map_indexes.specs.BlockRowLaws.{block_row-written, block_row-other}
-use Rattle.map_indexes.specs.PlaceKeys.{Places}
 use Rattle.map_indexes.specs.PlaceKeyLaws.{is_key-equal}
-use Rattle.maps.specs.ContentLaws.{changed, find-changed, is_sorted-changed}
 use Rattle.maps.proofs.ContentLaws.{same_contents}
-use Rattle.machine.specs.Related.{by_place}
 
 -- ---- a value changed by a function, and a key put or removed
 

@@ -1,29 +1,8 @@
 -- Layouts with one serial more: what was represented still is.
-use Rattle.std.proofs.Common.{◌≡◌, ℕ, ◌+◌, ◌*◌, ◌<◌, List, [], ◌∷◌, length, refl, sym, ap, ◌∙◌, arith, ℤ, Bool, true, false}
-use Rattle.std.proofs.lemmas.Bool.Decides.{nat_tests}
-use Rattle.std.proofs.lemmas.List.Elements.{All-get_or, All-head, All-tail}
-use Rattle.std.specs.Prelude.{if◌then◌else◌, ◌==◌, slice_index, All}
-use Rattle.std.specs.Int.{byte_at}
-use Rattle.flatmem.specs.Bytes.{bytes_at}
-use Rattle.isa_model.specs.Code.Limits.{stack_size, max_call_frames, offset_limit}
-use Rattle.isa_model.specs.declared.values.Region.{Region}
+use Rattle.machine.proofs.Common.{◌≡◌, ℕ, ◌+◌, ◌*◌, ◌<◌, List, [], ◌∷◌, length, refl, sym, ap, ◌∙◌, arith, ℤ, Bool, true, false, if◌then◌else◌, ◌==◌, slice_index, All, nat_tests, All-get_or, All-head, All-tail, byte_at, bytes_at, stack_size, max_call_frames, offset_limit, Region, Value, Unset, Num, Ptr, Cell, Unwritten, Byte, Piece, Program, State, Content, content_of, value_at, call_frame_at, new_call_frame, IsRegion, IsValue, IsCell, IsCallFrame, IsState, value_serials, value_at_fits, changed, MapState, map_at, packet_base, values_base, frame_end, Saved, saved_at, Layout, IsLayout, moved, word, Represents, RepresentsCell, RepresentsCells, RepresentsRegisters, RepresentsFrame, RepresentsSaved, RepresentsFrames, by_serial, RepresentsMap, RepresentsMaps}
 use Rattle.isa_model.specs.declared.values.Region.TheVariants as region
-use Rattle.isa_model.specs.declared.values.Value.{Value}
-use Rattle.isa_model.specs.declared.values.Value.TheVariants.{Unset, Num, Ptr}
-use Rattle.isa_model.specs.declared.values.Cell.{Cell}
-use Rattle.isa_model.specs.declared.values.Cell.TheVariants.{Unwritten, Byte, Piece}
-use Rattle.isa_model.specs.Code.Instructions.{Program}
-use Rattle.isa_model.specs.Machine.States.{State, Content, content_of, value_at, call_frame_at, new_call_frame}
-use Rattle.isa_model.specs.Machine.MachineStates.{IsRegion, IsValue, IsCell, IsCallFrame, IsState, value_serials}
-use Rattle.isa_model.proofs.StateLaws.{value_at_fits}
 use Rattle.isa_model.proofs.CallLaws.{call_frame_serial_given}
 use Rattle.isa_model.proofs.HelperLaws.{value_serials_given}
-use Rattle.maps.specs.ContentLaws.{changed}
-use Rattle.maps.specs.Maps.{MapState, map_at}
-use Rattle.word_machine.specs.Addresses.{packet_base, values_base, frame_end}
-use Rattle.word_machine.specs.declared.memory.Saved.{Saved}
-use Rattle.word_machine.specs.Words.{saved_at}
-use Rattle.machine.specs.Related.{Layout, IsLayout, moved, word, Represents, RepresentsCell, RepresentsCells, RepresentsRegisters, RepresentsFrame, RepresentsSaved, RepresentsFrames, by_serial, RepresentsMap, RepresentsMaps}
 
 -- what had a serial before `next` is where it was
 pub record ExtendsLayout (a b : Layout) (next : ℕ) : Type 0 where

@@ -1,32 +1,13 @@
 -- The call of each helper, from its arguments to the words after it.
-use Rattle.std.proofs.Common.{◌≡◌, ℕ, ◌+◌, ◌<◌, List, length, refl, sym, ap, subst, arith, Ok, Err, Result, Bool, true, false, Option, Some, None}
-use Rattle.std.specs.Prelude.{if◌then◌else◌, ◌==◌}
+use Rattle.machine.proofs.Common.{◌≡◌, ℕ, ◌+◌, ◌<◌, List, length, refl, sym, ap, subst, arith, Ok, Err, Result, Bool, true, false, Option, Some, None, if◌then◌else◌, ◌==◌, length-bytes_at, R1, R2, R3, R4, MapDef, Hash, Array, Num, TrapReason, reg_number, IsRow, Program, State, reg, go_to, content_of, and_then, at_key, update_answer, delete_answer, Helped, pointer_or_zero, put_bytes, remove_key, map_lookup_elem, map_update_elem, map_delete_elem, IsState, reg_fits, map_at, Words, word_at, spot_of, IsInside, area, index_of, Layout, Represents, Related}
 use Rattle.std.specs.FinMap as finmap
-use Rattle.flatmem.proofs.BytesLaws.{length-bytes_at}
-use Rattle.isa_model.specs.declared.registers.Reg.TheVariants.{R1, R2, R3, R4}
 use Rattle.isa_model.specs.declared.helpers.Helper.{Helper}
 use Rattle.isa_model.specs.declared.helpers.Helper.TheVariants.{MapLookupElem, MapUpdateElem, MapDeleteElem, KtimeGetNs}
-use Rattle.isa_model.specs.declared.map_defs.MapDef.{MapDef}
 use Rattle.isa_model.specs.declared.map_defs.MapType.{MapType}
-use Rattle.isa_model.specs.declared.map_defs.MapType.TheVariants.{Hash, Array}
-use Rattle.isa_model.specs.declared.values.Value.TheVariants.{Num}
-use Rattle.isa_model.specs.declared.ends.TrapReason.{TrapReason}
-use Rattle.isa_model.specs.Code.Registers.{reg_number}
-use Rattle.isa_model.specs.Code.MapRows.{IsRow}
 use Rattle.isa_model.specs.Code.MapRows as rows
-use Rattle.isa_model.specs.Code.Instructions.{Program}
-use Rattle.isa_model.specs.Machine.States.{State, reg, go_to, content_of}
-use Rattle.isa_model.specs.Machine.Memory.{and_then}
-use Rattle.isa_model.specs.Machine.MapContents.{at_key, update_answer, delete_answer}
-use Rattle.isa_model.specs.Machine.MapHelpers.{Helped, pointer_or_zero, put_bytes, remove_key, map_lookup_elem, map_update_elem, map_delete_elem}
 use Rattle.isa_model.specs.Machine.HelperCalls.{bytes_argument, bytes_at, lookup_call, update_call, delete_call, helper_call, ktime_get_ns, answered}
-use Rattle.isa_model.specs.Machine.MachineStates.{IsState}
-use Rattle.isa_model.proofs.StateLaws.{reg_fits}
-use Rattle.maps.specs.Maps.{map_at}
 use Rattle.maps.proofs.KeySizes.{KeyFits-most}
-use Rattle.word_machine.specs.Words.{Words, word_at, spot_of, IsInside, area, index_of}
 use Rattle.word_machine.specs.Helping.{map_named, named, key_named, value_named, NamesKey, HasPlaces, CallFits, found_at, Calls}
-use Rattle.machine.specs.Related.{Layout, Represents, Related}
 use Rattle.machine.proofs.Arguments.{answered_related, maps_long, with_map, with_argument, with_number, with_bytes_at}
 use Rattle.machine.proofs.MapCalls.{address, lookup_shown, update_related, delete_related}
 

@@ -1,34 +1,12 @@
 -- Map values in their maps' blocks: where the bytes of a live one are, and what a write to it
 -- leaves.
-use Rattle.std.proofs.Common.{◌≡◌, ℕ, zero, suc, ◌+◌, ◌*◌, ◌<◌, ◌≤◌, List, [], ◌∷◌, length, map, refl, sym, ap, subst, ◌∙◌, arith, true, Some, inl, inr, get_or-set_same, get_or-set_other, slice_set}
-use Rattle.std.specs.Prelude.{slice_index_or, T}
-use Rattle.std.specs.List.{splice}
+use Rattle.machine.proofs.Common.{◌≡◌, ℕ, zero, suc, ◌+◌, ◌*◌, ◌<◌, ◌≤◌, List, [], ◌∷◌, length, map, refl, sym, ap, subst, ◌∙◌, arith, true, Some, inl, inr, get_or-set_same, get_or-set_other, slice_set, slice_index_or, T, splice, entries, entries_sorted, get, is_sorted, below_all, map-set, get_or-map, length-map, cases_lt, slice_get-get_or, bytes_at, with_bytes, length-with_bytes, MapDef, Program, State, Stored, Content, KeyValues, content_of, key_values_of, key_value_at, key_order, AreBytes, FitRows, IsState, All-splice, block_row, with_block_row, row_end, length-block_row, splice_in_row, length-changed_row, block_row-written, block_row-other, length-changed, MapState, IsMap, map_at, length-rows_of, rows_of-set, Layout, by_serial, by_place, RepresentsMap, RepresentsMaps}
 use Rattle.std.specs.Ordering.{is_lt, is_eq}
 use Rattle.std.specs.declared.cmp.Ordering.{Ordering}
 use Rattle.std.specs.declared.cmp.Ordering.TheVariants.{Less, Equal, Greater}
-use Rattle.std.specs.FinMap.{entries, entries_sorted, get, is_sorted}
-use Rattle.std.specs.FinMap.Entries.{below_all}
-use Rattle.std.proofs.lemmas.List.{map-set, get_or-map, length-map}
-use Rattle.std.proofs.lemmas.Bool.{cases_lt}
-use Rattle.std.proofs.lemmas.Option.{slice_get-get_or}
-use Rattle.flatmem.specs.Bytes.{bytes_at, with_bytes}
-use Rattle.flatmem.proofs.BytesLaws.{length-with_bytes}
-use Rattle.isa_model.specs.declared.map_defs.MapDef.{MapDef}
-use Rattle.isa_model.specs.Code.Instructions.{Program}
-use Rattle.isa_model.specs.Machine.States.{State, Stored, Content, KeyValues, content_of, key_values_of}
-use Rattle.isa_model.specs.Machine.Memory.{key_value_at}
-use Rattle.isa_model.specs.Machine.MapContents.{key_order}
-use Rattle.isa_model.specs.Machine.MachineStates.{AreBytes, FitRows, IsState}
-use Rattle.isa_model.proofs.ValueLaws.{All-splice}
 use Rattle.isa_model.proofs.TestLaws.{both_parts}
-use Rattle.map_indexes.specs.BlockRows.{block_row, with_block_row}
-use Rattle.map_indexes.specs.BlockRowLaws.{row_end, length-block_row, splice_in_row, length-changed_row, block_row-written, block_row-other}
 use Rattle.map_indexes.proofs.PlaceKeysLaws.{is_key-itself, same_or_not}
-use Rattle.maps.specs.ContentLaws.{length-changed}
-use Rattle.maps.specs.Maps.{MapState, IsMap, map_at}
-use Rattle.maps.proofs.MapLaws.{length-rows_of, rows_of-set}
 use Rattle.maps.proofs.ReportOrderLaws.{above, get_at}
-use Rattle.machine.specs.Related.{Layout, by_serial, by_place, RepresentsMap, RepresentsMaps}
 
 FitRows-length : (rows : List MapDef) (contents : List KeyValues) → FitRows rows contents
     → length rows ≡ length contents

@@ -1,41 +1,12 @@
 -- Where the cells that a read finds are in the blocks.
-use Rattle.std.proofs.Common.{◌≡◌, ℕ, ◌+◌, ◌-◌, ◌*◌, ◌/◌, ◌%◌, ◌<◌, ◌≤◌, List, [], length, take, drop, map, refl, sym, ap, subst, ◌∙◌, arith, ℤ, pos, negsuc, ◌+ℤ◌, Ok, Err, Result, Bool, true, false, Option, Some, None}
-use Rattle.std.proofs.lemmas.Int.{ints}
-use Rattle.std.proofs.lemmas.Bool.Decides.{nat_tests}
-use Rattle.std.proofs.lemmas.List.{length-map}
-use Rattle.std.proofs.lemmas.List.Elements.{All-get_or}
-use Rattle.std.specs.Prelude.{if◌then◌else◌, nat_le, ◌==◌, IfOk}
-use Rattle.std.specs.Option.{option_map}
-use Rattle.std.specs.Int.{w16}
-use Rattle.std.specs.Int.RustNames.{FitsSigned}
-use Rattle.flatmem.specs.Bytes.{bytes_at}
-use Rattle.flatmem.proofs.BytesLaws.{bytes_of_bytes}
-use Rattle.isa_model.specs.Code.Limits.{stack_size, max_maps, offset_limit}
-use Rattle.isa_model.specs.declared.sizes.Width.TheVariants.{Full64}
-use Rattle.isa_model.specs.declared.sizes.Size.{Size}
-use Rattle.isa_model.specs.declared.sizes.Size.TheVariants.{U8, U16, U32, U64}
-use Rattle.isa_model.specs.declared.instructions.AluOp.TheVariants.{Add}
-use Rattle.isa_model.specs.declared.values.Region.{Region}
+use Rattle.machine.proofs.Common.{◌≡◌, ℕ, ◌+◌, ◌-◌, ◌*◌, ◌/◌, ◌%◌, ◌<◌, ◌≤◌, List, [], length, take, drop, map, refl, sym, ap, subst, ◌∙◌, arith, ℤ, pos, negsuc, ◌+ℤ◌, Ok, Err, Result, Bool, true, false, Option, Some, None, if◌then◌else◌, nat_le, ◌==◌, IfOk, ints, nat_tests, length-map, All-get_or, option_map, w16, FitsSigned, bytes_at, bytes_of_bytes, stack_size, max_maps, offset_limit, Full64, Size, U8, U16, U32, U64, Add, Region, Value, Unset, Num, Ptr, Cell, Byte, TrapReason, BadAccess, size_bytes, alu, unsigned, number_from, State, content_of, call_frame_at, new_call_frame, IsValue, IsCallFrame, IsState, region_size, context_base, packet_base, values_base, frame_end, packet_index, block_index, first_frame, map_at, Layout, region_start, moved, word, Represents, RepresentsCells, Related}
 use Rattle.isa_model.specs.declared.values.Region.TheVariants as region
-use Rattle.isa_model.specs.declared.values.Value.{Value}
-use Rattle.isa_model.specs.declared.values.Value.TheVariants.{Unset, Num, Ptr}
-use Rattle.isa_model.specs.declared.values.Cell.{Cell}
-use Rattle.isa_model.specs.declared.values.Cell.TheVariants.{Byte}
-use Rattle.isa_model.specs.declared.ends.TrapReason.{TrapReason}
-use Rattle.isa_model.specs.declared.ends.TrapReason.TheVariants.{BadAccess}
-use Rattle.isa_model.specs.Code.Sizes.{size_bytes}
-use Rattle.isa_model.specs.Code.Numbers.{alu, unsigned, number_from}
 use Rattle.isa_model.proofs.ByteCells.{take-drop-Byte}
 use Rattle.isa_model.specs.{Program, max_packet}
-use Rattle.isa_model.specs.Machine.States.{State, content_of, call_frame_at, new_call_frame}
 use Rattle.isa_model.specs.Machine.Memory.{and_then, index_of_serial, key_value_at, index_from, index_at, place_in, cells_at, read, number_in, value_in, as_number, memory_load, context_field, context_load, load, call_frame_index as frame_index_of}
-use Rattle.isa_model.specs.Machine.MachineStates.{IsValue, IsCallFrame, IsState}
 use Rattle.std.proofs.lemmas.List.Quantifiers.{position-Some}
 use Rattle.word_machine.proofs.FrameLaws.{spot_frame}
-use Rattle.word_machine.specs.Addresses.{region_size, context_base, packet_base, values_base, frame_end, packet_index, block_index, first_frame}
 use Rattle.word_machine.specs.Words.{Words, InPacket, InFrames, InBlock, spot_of, IsInside, get, in_context, word_from, CanLoad}
-use Rattle.maps.specs.Maps.{map_at}
-use Rattle.machine.specs.Related.{Layout, region_start, moved, word, Represents, RepresentsCells, Related}
 use Rattle.machine.proofs.LiveValues.{live_map, value_inside, value_at_block, value_long}
 use Rattle.isa_model.proofs.AccessLaws.{load_fits}
 use Rattle.std.proofs.lemmas.Nat.{from_le_bytes-to_le_bytes_8}

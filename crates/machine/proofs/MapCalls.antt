@@ -1,27 +1,10 @@
 -- Look-ups, updates and deletes: the words after them represent the states after them.
-use Rattle.std.proofs.Common.{◌≡◌, ℕ, zero, suc, ◌+◌, ◌*◌, ◌<◌, List, [], ◌∷◌, length, refl, sym, ap, subst, ◌∙◌, arith, add-zero, mul-le-mul, Bool, true, false, cond, Option, Some, None, slice_set}
-use Rattle.std.proofs.lemmas.Bool.Decides.{nat_tests}
-use Rattle.std.specs.Prelude.{if◌then◌else◌, ◌==◌, ◌≢◌, nat_le, is_some, slice_index_or}
-use Rattle.std.specs.Option.{option_map}
+use Rattle.machine.proofs.Common.{◌≡◌, ℕ, zero, suc, ◌+◌, ◌*◌, ◌<◌, List, [], ◌∷◌, length, refl, sym, ap, subst, ◌∙◌, arith, add-zero, mul-le-mul, Bool, true, false, cond, Option, Some, None, slice_set, if◌then◌else◌, ◌==◌, ◌≢◌, nat_le, is_some, slice_index_or, nat_tests, option_map, get, remove, len, entries, get-insert, len-entries, offset_limit, Program, State, Content, Stored, content_of, is_key, at_key, has_key, with_key, without_key, update_answer_by, update_answer, delete_answer_by, delete_answer, serial_given, serial_after, put_bytes, remove_key, pointer_or_zero, IsState, row_end, Places, changed, find-changed, MapState, IsMap, map_at, content_in, Updated, Deleted, values_base, Words, Layout, IsLayout, Represents, by_serial, by_place, RepresentsMap, RepresentsMaps, Related}
 use Rattle.std.specs.Cmp.Lexicographic.{nat_list_cmp_total}
-use Rattle.std.specs.FinMap.{get, remove, len, entries, get-insert, len-entries}
-use Rattle.isa_model.specs.Code.Limits.{offset_limit}
-use Rattle.isa_model.specs.Code.Instructions.{Program}
-use Rattle.isa_model.specs.Machine.States.{State, Content, Stored, content_of}
-use Rattle.isa_model.specs.Machine.MapContents.{is_key, at_key, has_key, with_key, without_key, update_answer_by, update_answer, delete_answer_by, delete_answer}
-use Rattle.isa_model.specs.Machine.MapHelpers.{serial_given, serial_after, put_bytes, remove_key, pointer_or_zero}
-use Rattle.isa_model.specs.Machine.MachineStates.{IsState}
 use Rattle.isa_model.proofs.HelperLaws.{value_serials_given}
-use Rattle.map_indexes.specs.BlockRowLaws.{row_end}
-use Rattle.map_indexes.specs.PlaceKeys.{Places}
 use Rattle.map_indexes.proofs.PlaceKeysLaws.{is_key-itself}
 use Rattle.maps.specs.Changes.{WritesPair}
-use Rattle.maps.specs.ContentLaws.{changed, find-changed}
 use Rattle.maps.proofs.UpdateLaws.{update_answer-places, delete_answer-places}
-use Rattle.maps.specs.Maps.{MapState, IsMap, map_at, content_in, Updated, Deleted}
-use Rattle.word_machine.specs.Addresses.{values_base}
-use Rattle.word_machine.specs.Words.{Words}
-use Rattle.machine.specs.Related.{Layout, IsLayout, Represents, by_serial, by_place, RepresentsMap, RepresentsMaps, Related}
 use Rattle.machine.proofs.Extending.{ExtendsLayout, with_value_start, put_at-there, ExtendsLayout-with_value_start, IsLayout-with_value_start, registers_old, frames_old, maps_old, content_old}
 use Rattle.machine.proofs.Contents.{changed-with_key, changed-without_key, find-placed, placed-remove, placed-put}
 use Rattle.machine.proofs.LiveValues.{contents_are, as_many, set_shown}

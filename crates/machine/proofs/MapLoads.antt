@@ -1,24 +1,7 @@
 -- Wide loads of a map's only value: it begins where its map's block begins.
-use Rattle.std.proofs.Common.{◌≡◌, ℕ, ◌+◌, ◌*◌, ◌<◌, [], ◌∷◌, length, refl, sym, ap, ◌∙◌, arith, zero-mul, Option, Some, None}
-use Rattle.std.specs.Prelude.{slice_get, IsSomeAnd}
-use Rattle.std.specs.Option.{option_map}
-use Rattle.std.specs.FinMap.{get}
-use Rattle.std.proofs.lemmas.Option.{slice_get_within}
+use Rattle.machine.proofs.Common.{◌≡◌, ℕ, ◌+◌, ◌*◌, ◌<◌, [], ◌∷◌, length, refl, sym, ap, ◌∙◌, arith, zero-mul, Option, Some, None, slice_get, IsSomeAnd, option_map, get, slice_get_within, max_maps, MapDef, Array, HoldsOffset, Program, State, Content, content_of, one_serial, value_pointer, IsState, Places, MapState, map_at, values_base, Words, Layout, Represents, by_place, RepresentsMap, Related}
 use Rattle.byteorder.specs.Endian.{little_bytes}
-use Rattle.isa_model.specs.Code.Limits.{max_maps}
-use Rattle.isa_model.specs.declared.map_defs.MapDef.{MapDef}
-use Rattle.isa_model.specs.declared.map_defs.MapType.TheVariants.{Array}
-use Rattle.isa_model.specs.Code.MapRows.{HoldsOffset}
-use Rattle.isa_model.specs.Code.Instructions.{Program}
-use Rattle.isa_model.specs.Machine.States.{State, Content, content_of}
-use Rattle.isa_model.specs.Machine.Steps.{one_serial, value_pointer}
-use Rattle.isa_model.specs.Machine.MachineStates.{IsState}
-use Rattle.map_indexes.specs.PlaceKeys.{Places}
 use Rattle.map_indexes.proofs.ArrayLaws.{get_index}
-use Rattle.maps.specs.Maps.{MapState, map_at}
-use Rattle.word_machine.specs.Addresses.{values_base}
-use Rattle.word_machine.specs.Words.{Words}
-use Rattle.machine.specs.Related.{Layout, Represents, by_place, RepresentsMap, Related}
 use Rattle.machine.proofs.LiveValues.{value_starts, in_block, keyed_at}
 use Rattle.machine.proofs.Arguments.{row_of}
 use Rattle.machine.proofs.MapCalls.{found}

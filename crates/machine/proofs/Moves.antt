@@ -1,41 +1,12 @@
 -- Where a machine state makes a step, words that represent it make a move.
-use Rattle.std.proofs.Common.{◌≡◌, ℕ, ◌+◌, ◌<◌, List, length, refl, sym, ap, subst, ◌∙◌, arith, add-zero, ℤ, Ok, Err, Result, Bool, true, false, Option, Some, None}
-use Rattle.std.proofs.lemmas.Bool.Decides.{nat_tests}
-use Rattle.std.specs.Prelude.{if◌then◌else◌, ◌==◌, IfOk}
-use Rattle.std.specs.List.{list_any}
-use Rattle.isa_model.specs.declared.registers.Reg.{Reg}
-use Rattle.isa_model.specs.declared.registers.Reg.TheVariants.{R0}
-use Rattle.isa_model.specs.declared.sizes.Width.TheVariants.{Full64}
-use Rattle.isa_model.specs.declared.sizes.Size.{Size}
+use Rattle.machine.proofs.Common.{◌≡◌, ℕ, ◌+◌, ◌<◌, List, length, refl, sym, ap, subst, ◌∙◌, arith, add-zero, ℤ, Ok, Err, Result, Bool, true, false, Option, Some, None, if◌then◌else◌, ◌==◌, IfOk, nat_tests, list_any, Reg, R0, Full64, Size, Value, Unset, Num, Ptr, TrapReason, UnsetRead, ReadOnly, TooManyCallFrames, BadAction, unsigned_size, size_extension, reg_number, NamesRows, alu, low, unsigned, negated, sign_extended, reordered, atomic_alu, bytes_of, Program, fetch, slots_filled, reads, writes, is_frame_pointer, State, reg, set_reg, go_to, arithmetic, on_number, and_then, load, load_signed, store, Helped, helper_call, after_call, max_call_frames, StepResult, Next, Finished, Trapped, operand_value, base_of, destination, map_pointer, value_pointer, sets, goes_on, jumps, branches, test_of, calls, is_answer, finishes, exits, atomic_number, swaps_in, fetched_into, act, is_unset, performed_at, step, IsProgram, IsState, reg_fits, map_base, values_base, Words, word_at, set_word, word_operand, at_slot, address_of, word_from, word_tested, word_enter, number_at, CanLoad, put, spot_of, IsInside, IsLast, Layout, Represents, Related}
 use Rattle.isa_model.specs.declared.instructions.Insn.{Insn}
 use Rattle.isa_model.specs.declared.instructions.Insn.TheVariants.{Alu, Neg, MovSx, ByteSwap, LoadNumber, LoadMap, LoadMapValue, Load, LoadSx, StoreConstant, Store, Atomic, Exchange, CompareExchange, Jump, JumpLong, JumpIf, CallHelper, CallLocal, Exit}
-use Rattle.isa_model.specs.declared.values.Value.{Value}
-use Rattle.isa_model.specs.declared.values.Value.TheVariants.{Unset, Num, Ptr}
-use Rattle.isa_model.specs.declared.ends.TrapReason.{TrapReason}
-use Rattle.isa_model.specs.declared.ends.TrapReason.TheVariants.{UnsetRead, ReadOnly, TooManyCallFrames, BadAction}
-use Rattle.isa_model.specs.Code.Sizes.{unsigned_size, size_extension}
-use Rattle.isa_model.specs.Code.Registers.{reg_number}
 use Rattle.isa_model.specs.Code.Helpers.{helper_numbered}
-use Rattle.isa_model.specs.Code.MapRows.{NamesRows}
-use Rattle.isa_model.specs.Code.Numbers.{alu, low, unsigned, negated, sign_extended, reordered, atomic_alu, bytes_of}
 use Rattle.isa_model.specs.Code.Spelling.{InsnFits}
-use Rattle.isa_model.specs.Code.Instructions.{Program, fetch, slots_filled, reads, writes, is_frame_pointer}
-use Rattle.isa_model.specs.Machine.States.{State, reg, set_reg, go_to}
-use Rattle.isa_model.specs.Machine.Pointers.{arithmetic, on_number}
-use Rattle.isa_model.specs.Machine.Memory.{and_then, load, load_signed, store}
-use Rattle.isa_model.specs.Machine.MapHelpers.{Helped}
-use Rattle.isa_model.specs.Machine.HelperCalls.{helper_call, after_call}
-use Rattle.isa_model.specs.Code.Limits.{max_call_frames}
 use Rattle.isa_model.specs.Machine.Calls.{enter, leave}
-use Rattle.isa_model.specs.Machine.Steps.{StepResult, Next, Finished, Trapped, operand_value, base_of, destination, map_pointer, value_pointer, sets, goes_on, jumps, branches, test_of, calls, is_answer, finishes, exits, atomic_number, swaps_in, fetched_into, act, is_unset, performed_at, step}
-use Rattle.isa_model.specs.Machine.MachineStates.{IsProgram, IsState}
-use Rattle.isa_model.proofs.StateLaws.{reg_fits}
-use Rattle.word_machine.specs.Addresses.{map_base, values_base}
-use Rattle.word_machine.specs.Words.{Words, word_at, set_word, word_operand, at_slot, address_of, word_from, word_tested, word_enter, number_at, CanLoad, put, spot_of, IsInside}
 use Rattle.word_machine.specs.Words as words
 use Rattle.word_machine.specs.Effects.{AccessesFit, WordStep}
-use Rattle.word_machine.specs.Runs.{IsLast}
-use Rattle.machine.specs.Related.{Layout, Represents, Related}
 use Rattle.machine.proofs.Registers.{set_related, go_related}
 use Rattle.machine.proofs.Arithmetic.{OkShows, shows_arithmetic, OkHolds}
 use Rattle.machine.proofs.Operands.{shows_operand, operand_fits, shows_tested}

@@ -1,21 +1,9 @@
 -- Words of operands represent their values, and conditions test them alike.
-use Rattle.std.proofs.Common.{length, refl, subst}
-use Rattle.isa_model.specs.declared.sizes.Width.{Width}
+use Rattle.machine.proofs.Common.{length, refl, subst, Width, reg_number, holds, Program, State, reg, compared, operand_value, tested, IsValue, IsState, unsigned_fits, reg_fits, Words, word_at, word_operand, Layout, Represents, Related}
 use Rattle.isa_model.specs.declared.instructions.Cond.{Cond}
 use Rattle.isa_model.specs.declared.instructions.Operand.{Operand}
 use Rattle.isa_model.specs.declared.instructions.Operand.TheVariants.{Constant, Register}
-use Rattle.isa_model.specs.Code.Registers.{reg_number}
-use Rattle.isa_model.specs.Code.Numbers.{holds}
 use Rattle.isa_model.specs.Code.Spelling.{OperandFits}
-use Rattle.isa_model.specs.Code.Instructions.{Program}
-use Rattle.isa_model.specs.Machine.States.{State, reg}
-use Rattle.isa_model.specs.Machine.Pointers.{compared}
-use Rattle.isa_model.specs.Machine.Steps.{operand_value, tested}
-use Rattle.isa_model.specs.Machine.MachineStates.{IsValue, IsState}
-use Rattle.isa_model.proofs.ValueLaws.{unsigned_fits}
-use Rattle.isa_model.proofs.StateLaws.{reg_fits}
-use Rattle.word_machine.specs.Words.{Words, word_at, word_operand}
-use Rattle.machine.specs.Related.{Layout, Represents, Related}
 use Rattle.machine.proofs.Arithmetic.{OkHolds, shows_compared, shows_compared_constant}
 
 module _ (p : Program) (a : Layout) (s : State) (w : Words) (R : Related p a s w)

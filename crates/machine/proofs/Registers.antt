@@ -1,16 +1,5 @@
 -- Representation after a register is set, and at another slot.
-use Rattle.std.proofs.Common.{◌≡◌, ℕ, List, length, refl, sym, subst, ◌∙◌, arith, inl, inr, get_or-set_same, get_or-set_other, length-set, slice_set}
-use Rattle.std.proofs.lemmas.Bool.{cases_lt}
-use Rattle.std.proofs.lemmas.List.{get_or_past}
-use Rattle.std.specs.Prelude.{slice_index}
-use Rattle.isa_model.specs.declared.registers.Reg.{Reg}
-use Rattle.isa_model.specs.declared.values.Value.{Value}
-use Rattle.isa_model.specs.declared.values.Value.TheVariants.{Unset}
-use Rattle.isa_model.specs.Code.Registers.{reg_number}
-use Rattle.isa_model.specs.Code.Instructions.{Program}
-use Rattle.isa_model.specs.Machine.States.{State, value_at, set_reg, go_to}
-use Rattle.word_machine.specs.Words.{Words, set_word, at_slot}
-use Rattle.machine.specs.Related.{Layout, Represents, RepresentsRegisters, Related}
+use Rattle.machine.proofs.Common.{◌≡◌, ℕ, List, length, refl, sym, subst, ◌∙◌, arith, inl, inr, get_or-set_same, get_or-set_other, length-set, slice_set, slice_index, cases_lt, get_or_past, Reg, Value, Unset, reg_number, Program, State, value_at, set_reg, go_to, Words, set_word, at_slot, Layout, Represents, RepresentsRegisters, Related}
 
 -- a value instead of another, and its word instead of that one's
 pub set_shown : (a : Layout) (regs : List Value) (words : List ℕ) (n : ℕ) (v : Value) (x : ℕ)

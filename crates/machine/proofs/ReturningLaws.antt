@@ -1,23 +1,10 @@
 -- Laws of the definitions in specs/Returning.
-use Rattle.std.proofs.Common.{◌≡◌, ℕ, suc, ◌<◌, List, [], ◌∷◌, length, map, refl, sym, ap, ◌∙◌, arith}
-use Rattle.std.specs.Prelude.{slice_index_or}
-use Rattle.std.specs.FinMap.{entries}
-use Rattle.isa_model.specs.declared.frames.FrameHead.{FrameHead}
-use Rattle.isa_model.specs.Code.Instructions.{Program}
-use Rattle.isa_model.specs.Machine.States.{State, Content, key_values_of}
+use Rattle.machine.proofs.Common.{◌≡◌, ℕ, suc, ◌<◌, List, [], ◌∷◌, length, map, refl, sym, ap, ◌∙◌, arith, slice_index_or, entries, FrameHead, Program, State, Content, key_values_of, IsState, changed, length-rows_of, MapState, map_at, rows_of, content_in, contents_of, Words, EndsSafely, Exits, Layout, by_serial, by_place, RepresentsMap, Related, start_of}
 use Rattle.isa_model.proofs.StepLaws.{start_is_state}
-use Rattle.isa_model.specs.Machine.MachineStates.{IsState}
 use Rattle.isa_model.specs.Running.Runs.{start_state}
 use Rattle.isa_model.specs.Running.Outcomes.{StartsEnd}
 use Rattle.isa_model.specs.Running.Ends.{Ends as ModelEnds}
-use Rattle.maps.specs.ContentLaws.{changed}
-use Rattle.maps.proofs.MapLaws.{length-rows_of}
-use Rattle.maps.specs.Maps.{MapState, map_at, rows_of, content_in, contents_of}
-use Rattle.word_machine.specs.Words.{Words}
-use Rattle.word_machine.specs.Runs.{EndsSafely, Exits}
-use Rattle.machine.specs.Related.{Layout, by_serial, by_place, RepresentsMap, Related}
 use Rattle.machine.proofs.TrackingLaws.{related_Ends, related_Exits}
-use Rattle.machine.specs.Starting.{start_of}
 use Rattle.machine.proofs.StartingLaws.{start_layout, start_related}
 use Rattle.machine.proofs.LiveValues.{contents_are}
 use Rattle.machine.specs.Returning.{ReturnsAsModel, IsStart}

@@ -1,27 +1,12 @@
 -- The results of runs of words, where every run exits within the bound.
-use Rattle.std.proofs.Common.{◌≡◌, ℕ, ◌+◌, ◌<◌, ◌≤◌, ◌^◌, List, length, sym, ap, subst, ◌∙◌}
-use Rattle.std.proofs.lemmas.List.{nil_from_length}
-use Rattle.std.specs.Prelude.{All, vec_capacity}
-use Rattle.isa_model.specs.Code.Limits.{max_call_frames}
-use Rattle.isa_model.specs.declared.frames.FrameHead.{FrameHead}
-use Rattle.isa_model.specs.Code.Instructions.{Program}
-use Rattle.isa_model.specs.Machine.States.{KeyValues}
-use Rattle.isa_model.specs.{max_packet}
-use Rattle.isa_model.specs.Machine.MachineStates.{AreBytes, FitRows, IsClock, IsGiven}
+use Rattle.machine.proofs.Common.{◌≡◌, ℕ, ◌+◌, ◌<◌, ◌≤◌, ◌^◌, List, length, sym, ap, subst, ◌∙◌, All, vec_capacity, nil_from_length, max_call_frames, FrameHead, Program, KeyValues, max_packet, AreBytes, FitRows, IsClock, IsGiven, IsMap, contents_of, Saved, Words, EndsSafely, EndsInTime, Exits, start_words, start_of, RunsWithinBound, ReturnsOutcome, IsReady}
 use Rattle.isa_model.proofs.OutcomesLaws.{FitRows-HasOutcome}
 use Rattle.image.proofs.Programs.{IsProgram-IsImage}
 use Rattle.bounds.specs.Bounds.{Bounded, IsVerified}
-use Rattle.maps.specs.Maps.{IsMap, contents_of}
-use Rattle.word_machine.specs.declared.memory.Saved.{Saved}
 use Rattle.word_machine.specs.declared.memory.Memory.{Memory}
-use Rattle.word_machine.specs.Words.{Words}
 use Rattle.word_machine.specs.Machine.{words_of}
-use Rattle.word_machine.specs.Runs.{EndsSafely, EndsInTime, Exits}
-use Rattle.machine.specs.Starting.{start_words, start_of}
 use Rattle.machine.specs.Returning.{IsStart, ReturnsAsModel as WordReturns}
 use Rattle.machine.proofs.ReturningLaws.{start_ends, start_returns}
-use Rattle.machine.specs.Running.{RunsWithinBound, ReturnsOutcome}
-use Rattle.machine.specs.Ready.{IsReady}
 
 -- the machine of an accepted program, whose maps fit its rows
 pub starts_running : (a : Bounded) (contents : List KeyValues) → IsVerified a

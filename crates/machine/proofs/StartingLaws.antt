@@ -1,29 +1,9 @@
 -- Laws of the definitions in specs/Starting.
-use Rattle.std.proofs.Common.{◌≡◌, ℕ, zero, suc, ◌+◌, ◌-◌, ◌*◌, ◌<◌, ◌≤◌, List, [], ◌∷◌, length, map, refl, sym, ap, subst, ◌∙◌, arith, mul-le-mul, inl, inr}
-use Rattle.std.proofs.lemmas.Bool.{cases_lt}
-use Rattle.std.proofs.lemmas.List.{get_or_past}
-use Rattle.std.proofs.lemmas.List.Elements.{All-get_or, All-head, All-tail}
-use Rattle.std.proofs.lemmas.Option.{slice_get-get_or}
-use Rattle.std.specs.Prelude.{slice_index, slice_index_or, All}
-use Rattle.std.specs.FinMap.{entries}
-use Rattle.flatmem.specs.Bytes.{bytes_at}
-use Rattle.flatmem.proofs.BytesLaws.{length-bytes_at}
-use Rattle.isa_model.specs.Code.Limits.{stack_size, max_maps, offset_limit}
-use Rattle.isa_model.specs.declared.frames.FrameHead.{FrameHead}
-use Rattle.isa_model.specs.declared.values.Value.TheVariants.{Unset}
+use Rattle.machine.proofs.Common.{◌≡◌, ℕ, zero, suc, ◌+◌, ◌-◌, ◌*◌, ◌<◌, ◌≤◌, List, [], ◌∷◌, length, map, refl, sym, ap, subst, ◌∙◌, arith, mul-le-mul, inl, inr, slice_index, slice_index_or, All, cases_lt, get_or_past, All-get_or, All-head, All-tail, slice_get-get_or, entries, bytes_at, length-bytes_at, stack_size, max_maps, offset_limit, FrameHead, Unset, Stored, value_at, new_call_frame, call_frame_at, block_row, row_end, changed, length-rows_of, MapState, IsMap, map_at, rows_of, content_in, contents_of, Layout, Represents, RepresentsFrame, by_place, Related, start_of, start_words, frames_size}
 use Rattle.isa_model.specs.{Program, max_packet}
-use Rattle.isa_model.specs.Machine.States.{Stored, value_at, new_call_frame, call_frame_at}
 use Rattle.isa_model.specs.Running.Runs.{start_state, start_regs, numbered, numbered_maps, count_map_values}
-use Rattle.map_indexes.specs.BlockRows.{block_row}
-use Rattle.map_indexes.specs.BlockRowLaws.{row_end}
-use Rattle.maps.specs.ContentLaws.{changed}
-use Rattle.maps.proofs.MapLaws.{length-rows_of}
-use Rattle.maps.specs.Maps.{MapState, IsMap, map_at, rows_of, content_in, contents_of}
 use Rattle.maps.proofs.ReportOrderLaws.{get_at}
-use Rattle.machine.specs.Related.{Layout, Represents, RepresentsFrame, by_place, Related}
 use Rattle.machine.proofs.Calling.{by_register, cells_unwritten}
-use Rattle.machine.specs.Starting.{start_of, start_words}
-use Rattle.word_machine.specs.Addresses.{frames_size}
 
 abbrev pub place_of : MapState → ℕ → ℕ
 place_of state k = (slice_index_or (entries state.places) k ([], 0)).1

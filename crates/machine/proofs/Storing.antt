@@ -1,42 +1,10 @@
 -- Writes of bytes that represent cells.
-use Rattle.std.proofs.Common.{◌≡◌, ℕ, ◌+◌, ◌*◌, ◌<◌, ◌≤◌, List, [], ◌++◌, length, take, drop, map, refl, sym, ap, subst, ◌∙◌, arith, ℤ, pos, negsuc, ◌+ℤ◌, Ok, Err, Result, Bool, true, false, Option, Some, None, inl, inr, get_or-set_same, get_or-set_other, length-set, slice_set}
-use Rattle.std.proofs.lemmas.Int.{ints}
-use Rattle.std.proofs.lemmas.Bool.Decides.{nat_tests}
-use Rattle.std.proofs.lemmas.Bool.{cases_lt}
-use Rattle.std.proofs.lemmas.List.{length-map}
-use Rattle.std.specs.Prelude.{if◌then◌else◌, nat_le}
-use Rattle.std.specs.List.{splice}
-use Rattle.std.specs.Option.{option_map}
-use Rattle.std.specs.Int.{w16, w64, to_le_bytes}
-use Rattle.std.specs.Int.RustNames.{FitsSigned}
-use Rattle.flatmem.specs.Bytes.{bytes_at, with_bytes}
-use Rattle.flatmem.proofs.BytesLaws.{bytes_with, bytes_before, bytes_after, length-with_bytes}
-use Rattle.isa_model.specs.Code.Limits.{stack_size}
-use Rattle.isa_model.specs.declared.sizes.Width.TheVariants.{Full64}
-use Rattle.isa_model.specs.declared.sizes.Size.{Size}
-use Rattle.isa_model.specs.declared.sizes.Size.TheVariants.{U8, U16, U32, U64}
-use Rattle.isa_model.specs.declared.instructions.AluOp.TheVariants.{Add}
-use Rattle.isa_model.specs.declared.values.Region.{Region}
+use Rattle.machine.proofs.Common.{◌≡◌, ℕ, ◌+◌, ◌*◌, ◌<◌, ◌≤◌, List, [], ◌++◌, length, take, drop, map, refl, sym, ap, subst, ◌∙◌, arith, ℤ, pos, negsuc, ◌+ℤ◌, Ok, Err, Result, Bool, true, false, Option, Some, None, inl, inr, get_or-set_same, get_or-set_other, length-set, slice_set, if◌then◌else◌, nat_le, ints, nat_tests, cases_lt, length-map, splice, option_map, w16, w64, to_le_bytes, FitsSigned, bytes_at, with_bytes, bytes_with, bytes_before, bytes_after, length-with_bytes, stack_size, Full64, Size, U8, U16, U32, U64, Add, Region, Value, Unset, Num, Ptr, Cell, Byte, TrapReason, BadAccess, size_bytes, alu, unsigned, bytes_of, Program, State, Content, content_of, call_frame_at, new_call_frame, MapState, map_at, with_block, AreBytes, IsValue, IsState, length-splice, bytes_of_fit, packet_base, Layout, region_start, moved, word, Represents, RepresentsCells, RepresentsFrame, RepresentsSaved, RepresentsFrames, RepresentsMaps, Related}
 use Rattle.isa_model.specs.declared.values.Region.TheVariants as region
-use Rattle.isa_model.specs.declared.values.Value.{Value}
-use Rattle.isa_model.specs.declared.values.Value.TheVariants.{Unset, Num, Ptr}
-use Rattle.isa_model.specs.declared.values.Cell.{Cell}
-use Rattle.isa_model.specs.declared.values.Cell.TheVariants.{Byte}
 use Rattle.isa_model.specs.declared.values.CallFrame.{CallFrame}
-use Rattle.isa_model.specs.declared.ends.TrapReason.{TrapReason}
-use Rattle.isa_model.specs.declared.ends.TrapReason.TheVariants.{BadAccess}
-use Rattle.isa_model.specs.Code.Sizes.{size_bytes}
-use Rattle.isa_model.specs.Code.Numbers.{alu, unsigned, bytes_of}
 use Rattle.isa_model.proofs.ByteCells.{map-byte_in-Byte}
-use Rattle.isa_model.specs.Code.Instructions.{Program}
-use Rattle.isa_model.specs.Machine.States.{State, Content, content_of, call_frame_at, new_call_frame}
 use Rattle.isa_model.specs.Machine.Memory.{and_then, byte_in, index_of_serial, key_value_at, index_from, index_at, place_in, put_call_frame, put_value, write, pieces, store_number, store_pointer, store, call_frame_index as frame_index_of}
-use Rattle.maps.specs.Maps.{MapState, map_at, with_block}
-use Rattle.isa_model.specs.Machine.MachineStates.{AreBytes, IsValue, IsState}
-use Rattle.isa_model.proofs.ValueLaws.{length-splice, bytes_of_fit}
-use Rattle.word_machine.specs.Addresses.{packet_base}
 use Rattle.word_machine.specs.Words.{Words, InPacket, InFrames, InBlock, spot_of, IsInside, saved_at, put as words_put}
-use Rattle.machine.specs.Related.{Layout, region_start, moved, word, Represents, RepresentsCells, RepresentsFrame, RepresentsSaved, RepresentsFrames, RepresentsMaps, Related}
 use Rattle.machine.proofs.LiveValues.{contents_are, written, written_shown, set_shown}
 use Rattle.machine.proofs.Addresses.{add_near}
 use Rattle.machine.proofs.Arithmetic.{far}

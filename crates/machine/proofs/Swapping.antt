@@ -1,35 +1,10 @@
 -- Numbers loaded and swapped: signed loads, and atomic instructions.
-use Rattle.std.proofs.Common.{◌≡◌, ℕ, ◌<◌, List, length, sym, ap, subst, arith, ℤ, pos, ◌+ℤ◌, Ok, Err, Result, Bool, true, false}
-use Rattle.std.specs.Prelude.{IfOk}
-use Rattle.std.specs.Int.{w16}
-use Rattle.std.specs.Int.RustNames.{FitsSigned}
-use Rattle.isa_model.specs.declared.registers.Reg.{Reg}
-use Rattle.isa_model.specs.declared.sizes.Width.{Width}
-use Rattle.isa_model.specs.declared.sizes.Width.TheVariants.{Full64}
-use Rattle.isa_model.specs.declared.sizes.Size.{Size}
-use Rattle.isa_model.specs.declared.sizes.Size.TheVariants.{U8, U16, U32, U64}
+use Rattle.machine.proofs.Common.{◌≡◌, ℕ, ◌<◌, List, length, sym, ap, subst, arith, ℤ, pos, ◌+ℤ◌, Ok, Err, Result, Bool, true, false, IfOk, w16, FitsSigned, Reg, Width, Full64, Size, U8, U16, U32, U64, Add, Region, Value, Unset, Num, Ptr, Cell, TrapReason, BadPointer, reg_number, size_bytes, width_size, unsigned_size, size_extension, alu, unsigned, sign_extended, bytes_of, number_from, Program, State, and_then, index_at, read, number_in, load_number, load_signed, store_number, base_of, atomic_number, swaps_in, fetched_into, IsValue, IsState, reg_fits, Layout, region_start, moved, word, Represents, Related}
 use Rattle.isa_model.specs.declared.sizes.SignedSize.{SignedSize}
 use Rattle.isa_model.specs.declared.instructions.Place.{Place}
-use Rattle.isa_model.specs.declared.instructions.AluOp.TheVariants.{Add}
-use Rattle.isa_model.specs.declared.values.Region.{Region}
 use Rattle.isa_model.specs.declared.values.Region.TheVariants as region
-use Rattle.isa_model.specs.declared.values.Value.{Value}
-use Rattle.isa_model.specs.declared.values.Value.TheVariants.{Unset, Num, Ptr}
-use Rattle.isa_model.specs.declared.values.Cell.{Cell}
-use Rattle.isa_model.specs.declared.ends.TrapReason.{TrapReason}
-use Rattle.isa_model.specs.declared.ends.TrapReason.TheVariants.{BadPointer}
-use Rattle.isa_model.specs.Code.Registers.{reg_number}
-use Rattle.isa_model.specs.Code.Sizes.{size_bytes, width_size, unsigned_size, size_extension}
-use Rattle.isa_model.specs.Code.Numbers.{alu, unsigned, sign_extended, bytes_of, number_from}
-use Rattle.isa_model.specs.Code.Instructions.{Program}
-use Rattle.isa_model.specs.Machine.States.{State}
-use Rattle.isa_model.specs.Machine.Memory.{and_then, index_at, read, number_in, load_number, load_signed, store_number}
-use Rattle.isa_model.specs.Machine.Steps.{base_of, atomic_number, swaps_in, fetched_into}
-use Rattle.isa_model.specs.Machine.MachineStates.{IsValue, IsState}
-use Rattle.isa_model.proofs.StateLaws.{reg_fits}
 use Rattle.isa_model.proofs.AccessLaws.{store_number_keeps}
 use Rattle.word_machine.specs.Words.{Words, word_at, address_of, spot_of, IsInside, get, number_at, swaps, old_number, fetched_regs, put as words_put}
-use Rattle.machine.specs.Related.{Layout, region_start, moved, word, Represents, Related}
 use Rattle.machine.proofs.Addresses.{add_near}
 use Rattle.machine.proofs.Arithmetic.{far, OkShows}
 use Rattle.machine.proofs.Cells.{OkNumber, shows_number_in}

@@ -1,14 +1,10 @@
 -- The maps of a machine between runs, by the texts that fill and list them.
-use Rattle.std.proofs.Common.{◌≡◌, ℕ, List, Result, ap, subst, ◌∙◌}
-use Rattle.isa_model.specs.declared.map_defs.MapDef.{MapDef}
-use Rattle.isa_model.specs.Code.Instructions.{Program}
+use Rattle.machine.proofs.Common.{◌≡◌, ℕ, List, Result, ap, subst, ◌∙◌, MapDef, Program, MapState, rows_of, contents_of, Running}
 use Rattle.isa_model.specs.Reporting.Streams.{ByEnd}
-use Rattle.maps.specs.Maps.{MapState, rows_of, contents_of}
 use Rattle.map_texts.specs.declared.errors.MapTextError.{MapTextError}
 use Rattle.map_texts.specs.Fillings.{FilledMaps, filled_by}
 use Rattle.map_texts.specs.Listings.{text_of}
 use Rattle.map_texts.specs.Reading.{filled_of, error_of}
-use Rattle.machine.specs.Running.{Running}
 use Rattle.machine.specs.Texts.{FillsMaps, filled_maps}
 use Rattle.machine.proofs.BetweenRunsLaws.{seen}
 

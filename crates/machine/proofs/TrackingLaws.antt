@@ -1,24 +1,12 @@
 -- Laws of the definitions in specs/Tracking.
-use Rattle.std.proofs.Common.{◌≡◌, ℕ, zero, suc, ◌<◌, ◌≤◌, length, refl, sym, ap, subst, ◌∙◌, arith, add-one, Bool, true, false, Option, Some, None}
-use Rattle.std.specs.Prelude.{if◌then◌else◌}
-use Rattle.std.specs.List.{list_any}
-use Rattle.isa_model.specs.Code.Limits.{max_call_frames}
+use Rattle.machine.proofs.Common.{◌≡◌, ℕ, zero, suc, ◌<◌, ◌≤◌, length, refl, sym, ap, subst, ◌∙◌, arith, add-one, Bool, true, false, Option, Some, None, if◌then◌else◌, list_any, max_call_frames, UnsetRead, ReadOnly, max_packet, Program, fetch, reads, writes, is_frame_pointer, State, reg, StepResult, Next, Finished, Trapped, is_unset, act, performed_at, step, IsProgram, IsClock, IsState, Words, CanStepTo, EndsSafely, WordsStepTo, WordsReach, Exits, Layout, Related}
 use Rattle.isa_model.specs.declared.instructions.Insn.{Insn}
 use Rattle.isa_model.specs.declared.instructions.Insn.TheVariants.{Exit}
-use Rattle.isa_model.specs.declared.ends.TrapReason.TheVariants.{UnsetRead, ReadOnly}
-use Rattle.isa_model.specs.{max_packet}
-use Rattle.isa_model.specs.Code.Instructions.{Program, fetch, reads, writes, is_frame_pointer}
-use Rattle.isa_model.specs.Machine.States.{State, reg}
-use Rattle.isa_model.specs.Machine.Steps.{StepResult, Next, Finished, Trapped, is_unset, act, performed_at, step}
-use Rattle.isa_model.specs.Machine.MachineStates.{IsProgram, IsClock, IsState}
 use Rattle.isa_model.proofs.StepLaws.{IfNext, step_keeps}
 use Rattle.isa_model.proofs.RunLaws.{progress-zero}
 use Rattle.isa_model.specs.Running.Ends.{After, Ends as ModelEnds}
 use Rattle.isa_model.proofs.EndsLaws.{Reaches-then}
-use Rattle.word_machine.specs.Words.{Words}
 use Rattle.word_machine.specs.Effects.{AccessesFit}
-use Rattle.word_machine.specs.Runs.{CanStepTo, EndsSafely, WordsStepTo, WordsReach, Exits}
-use Rattle.machine.specs.Related.{Layout, Related}
 use Rattle.machine.proofs.Moves.{OkMove, not_last, moves}
 use Rattle.machine.specs.Tracking.{Finishes, Tracks}
 

@@ -1,20 +1,9 @@
 -- Laws of the finite map from an array's keys to their places: each index is found, and there are
 -- no other places.
-use Rattle.std.proofs.Common.{◌≡◌, ℕ, zero, suc, ◌+◌, ◌^◌, ◌<◌, ◌≤◌, List, [], Option, Some, None, Bool, true, false, cond, length, refl, sym, ap, ◌∙◌, arith, inl, inr}
-use Rattle.std.proofs.lemmas.Bool.{cases_lt}
-use Rattle.std.proofs.lemmas.List.{take_all}
-use Rattle.std.specs.Prelude.{is_some, nat_lt, if◌then◌else◌}
-use Rattle.std.specs.Cmp.Lexicographic.{nat_list_cmp_total}
-use Rattle.std.specs.FinMap.{get, len, get-insert, len-empty, len-insert}
-use Rattle.byteorder.specs.Endian.{little_bytes, little_number}
-use Rattle.byteorder.specs.Numbers.{little_number-reads_back}
+use Rattle.map_indexes.proofs.Common.{◌≡◌, ℕ, zero, suc, ◌+◌, ◌^◌, ◌<◌, ◌≤◌, List, [], Option, Some, None, Bool, true, false, cond, length, refl, sym, ap, ◌∙◌, arith, inl, inr, is_some, nat_lt, if◌then◌else◌, cases_lt, take_all, nat_list_cmp_total, get, len, get-insert, len-empty, len-insert, little_bytes, little_number, little_number-reads_back, key_order, is_key, array_places, is_key-equal, got_index}
 use Rattle.isa_model.specs.Code.EachByte.{EachByte}
 use Rattle.isa_model.proofs.LittleEndianLaws.{little_bytes-little_from}
-use Rattle.isa_model.specs.Machine.MapContents.{key_order, is_key}
-use Rattle.map_indexes.specs.ArrayPlaces.{array_places}
 use Rattle.map_indexes.proofs.PlaceKeysLaws.{is_key-itself}
-use Rattle.map_indexes.specs.PlaceKeyLaws.{is_key-equal}
-use Rattle.map_indexes.specs.ArrayLaws.{got_index}
 
 -- the bytes of an index of 32 bits read as that index
 little_number-little_bytes : (n : ℕ) → n < 2 ^ 32 → little_number 4 (little_bytes 4 n) ≡ n

@@ -1,27 +1,10 @@
 -- The indexes of an array in the order of the bytes of their keys, which is that of the finite map
 -- of its places.
-use Rattle.std.proofs.Common.{◌≡◌, ℕ, zero, suc, ◌+◌, ◌^◌, ◌<◌, ◌≤◌, List, [], ◌∷◌, ◌++◌, Option, Some, None, map, unwrap_or, refl, sym, ap, subst, ◌∙◌, arith, inl, inr}
-use Rattle.std.proofs.lemmas.Bool.{cases_lt}
-use Rattle.std.proofs.lemmas.List.{length-map, get_or_default, get_or_past}
+use Rattle.map_indexes.proofs.Common.{◌≡◌, ℕ, zero, suc, ◌+◌, ◌^◌, ◌<◌, ◌≤◌, List, [], ◌∷◌, ◌++◌, Option, Some, None, map, unwrap_or, refl, sym, ap, subst, ◌∙◌, arith, inl, inr, All, IsPermutation, slice_index_or, cases_lt, length-map, get_or_default, get_or_past, All-permutation, range_with_len, IsSortedByKey, is_lt, nat_list_cmp_total, get, values, same_map, slice_cmp-IsAntisymmetric, nat_cmp-IsAntisymmetric, little_bytes, little_number, little_number-reads_back, key_order, array_places, got_index, PlaceKeys, key_in, places, IsDistinct, got, key_or_none, used_places}
 use Rattle.std.proofs.lemmas.List.FromFn.{get_or-range_with_len, length-range_with_len}
-use Rattle.std.proofs.lemmas.List.Sorted.{All-permutation}
 use Rattle.std.proofs.Math.ListN.{get_or-map}
-use Rattle.std.specs.Prelude.{All, IsPermutation, slice_index_or}
-use Rattle.std.specs.List.{range_with_len}
-use Rattle.std.specs.List.Sorted.{IsSortedByKey}
-use Rattle.std.specs.Ordering.{is_lt}
-use Rattle.std.specs.Cmp.Lexicographic.{nat_list_cmp_total}
-use Rattle.std.specs.FinMap.{get, values, same_map, slice_cmp-IsAntisymmetric, nat_cmp-IsAntisymmetric}
-use Rattle.byteorder.specs.Endian.{little_bytes, little_number}
-use Rattle.byteorder.specs.Numbers.{little_number-reads_back}
-use Rattle.isa_model.specs.Machine.MapContents.{key_order}
-use Rattle.map_indexes.specs.ArrayPlaces.{array_places}
-use Rattle.map_indexes.specs.ArrayLaws.{got_index}
 use Rattle.map_indexes.proofs.ArrayLaws.{get_index}
-use Rattle.map_indexes.specs.PlaceKeys.{PlaceKeys, key_in, places, IsDistinct}
-use Rattle.map_indexes.specs.PlaceKeyLaws.{got}
 use Rattle.map_indexes.proofs.PlaceKeysLaws.{get_here}
-use Rattle.map_indexes.specs.KeyOrder.{key_or_none, used_places}
 use Rattle.map_indexes.proofs.KeyOrderLaws.{values-sorted}
 
 abbrev index_keys : ℕ → ℕ → PlaceKeys

@@ -1,12 +1,7 @@
 -- Chains after a link is put in or taken out.
-use Rattle.std.proofs.Common.{◌≡◌, ℕ, ◌<◌, ◌≤◌, List, length, Option, Some, None, Bool, true, false, refl, sym, ap, subst, ◌∙◌, arith, inl, inr}
-use Rattle.std.proofs.lemmas.Bool.{cases_lt}
-use Rattle.std.specs.Prelude.{nat_eq, slice_index_or, slice_set, if◌then◌else◌}
-use Rattle.map_indexes.specs.declared.chains.Link.{Link}
-use Rattle.map_indexes.specs.LastBelow.{last_below}
+use Rattle.map_indexes.proofs.Common.{◌≡◌, ℕ, ◌<◌, ◌≤◌, List, length, Option, Some, None, Bool, true, false, refl, sym, ap, subst, ◌∙◌, arith, inl, inr, nat_eq, slice_index_or, slice_set, if◌then◌else◌, cases_lt, Link, last_below, is_in, in_chain, IsChained, IsBehind, heads_led, next_led, link_led}
 use Rattle.map_indexes.proofs.LastBelowLaws.{last_same, last_skip, last_here, last_above}
 use Rattle.map_indexes.proofs.PlaceKeysLaws.{same_or_not}
-use Rattle.map_indexes.specs.Chains.{is_in, in_chain, IsChained, IsBehind, heads_led, next_led, link_led}
 use Rattle.map_indexes.proofs.ChainLaws.{place_or, is_in-led, in_chain-is, link_of, not_in, elsewhere, head_set, head_other, length-heads_led}
 
 module _ (heads : List (Option ℕ)) (room : ℕ) (links new : ℕ → Option Link)

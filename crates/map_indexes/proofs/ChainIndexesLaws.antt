@@ -1,25 +1,12 @@
 -- Laws of keys found by chains: a key more or less, the free places, and look-ups.
-use Rattle.std.proofs.Common.{◌≡◌, ℕ, ◌+◌, ◌-◌, ◌<◌, ◌≤◌, List, [], ◌∷◌, ◌++◌, length, Option, Some, None, true, refl, sym, ap, subst, ◌∙◌, arith, inl, inr}
-use Rattle.std.proofs.lemmas.Bool.{cases_lt}
-use Rattle.std.proofs.lemmas.List.{get_or_append_left, length-append, length-set, length-replicate}
+use Rattle.map_indexes.proofs.Common.{◌≡◌, ℕ, ◌+◌, ◌-◌, ◌<◌, ◌≤◌, List, [], ◌∷◌, ◌++◌, length, Option, Some, None, true, refl, sym, ap, subst, ◌∙◌, arith, inl, inr, slice_set, replicate, cases_lt, get_or_append_left, length-append, length-set, length-replicate, option_map, get, Link, last_below, in_chain, chain_of, PlaceKeys, key_in, places, IsScan, key_inside, HasKey, IsChainIndex, free_at, found_places}
 use Rattle.std.proofs.Math.Logic.{∥∥₁_map}
 use Rattle.std.proofs.Math.Seq.{get_or-append_seam}
-use Rattle.std.specs.Option.{option_map}
-use Rattle.std.specs.Prelude.{slice_set, replicate}
-use Rattle.std.specs.FinMap.{get}
-use Rattle.map_indexes.specs.declared.chains.Link.{Link}
-use Rattle.map_indexes.specs.LastBelow.{last_below}
 use Rattle.map_indexes.proofs.LastBelowLaws.{last_is, none_below}
-use Rattle.map_indexes.specs.Chains.{in_chain}
 use Rattle.map_indexes.proofs.ChainLaws.{link_of, in_chain-is}
-use Rattle.map_indexes.specs.Hashing.{chain_of}
-use Rattle.map_indexes.specs.PlaceKeys.{PlaceKeys, key_in, places, IsScan}
 use Rattle.map_indexes.proofs.PlaceKeysLaws.{key_in-none, same_or_not, set_here, set_else, get_here}
-use Rattle.map_indexes.specs.ScanLaws.{key_inside}
 use Rattle.map_indexes.proofs.ScanLaws.{scan-added, scan-emptied, scan_some}
 use Rattle.map_indexes.proofs.ScanLaws.{scan-none}
-use Rattle.map_indexes.specs.ChainIndexes.{HasKey, IsChainIndex, free_at}
-use Rattle.map_indexes.specs.Overflow.{found_places}
 use Rattle.map_indexes.proofs.FoundPlaces.{found_link}
 
 -- equal pairs have equal parts

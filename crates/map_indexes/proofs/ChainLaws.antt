@@ -1,11 +1,6 @@
 -- Chains: the links of each, the links above a place, and chains without links.
-use Rattle.std.proofs.Common.{◌≡◌, ℕ, zero, suc, ◌+◌, ◌<◌, ◌≤◌, List, [], ◌∷◌, length, Option, Some, None, Bool, true, false, refl, sym, ap, ◌∙◌, arith, inl, inr}
-use Rattle.std.proofs.lemmas.Bool.{cases_lt}
-use Rattle.std.specs.Prelude.{nat_eq, slice_index_or, slice_set, replicate}
-use Rattle.map_indexes.specs.declared.chains.Link.{Link}
-use Rattle.map_indexes.specs.LastBelow.{last_below}
+use Rattle.map_indexes.proofs.Common.{◌≡◌, ℕ, zero, suc, ◌+◌, ◌<◌, ◌≤◌, List, [], ◌∷◌, length, Option, Some, None, Bool, true, false, refl, sym, ap, ◌∙◌, arith, inl, inr, nat_eq, slice_index_or, slice_set, replicate, cases_lt, Link, last_below, is_in, in_chain, IsChained, IsBehind, height, heads_led, link_led, nexts_led}
 use Rattle.map_indexes.proofs.LastBelowLaws.{last_is, none_below, last_skip}
-use Rattle.map_indexes.specs.Chains.{is_in, in_chain, IsChained, IsBehind, height, heads_led, link_led, nexts_led}
 
 -- the place of the link, or the size of the room if there is no link
 abbrev pub place_or : ℕ → Option ℕ → ℕ

@@ -1,15 +1,6 @@
 -- Laws of where keys are found: at links, and at places in the list of those whose chains were full.
-use Rattle.std.proofs.Common.{◌≡◌, ℕ, List, Option, Some, None, Bool, true, false, if◌then◌else◌, refl, sym, ap, ap₂, ◌∙◌}
+use Rattle.map_indexes.proofs.Common.{◌≡◌, ℕ, List, Option, Some, None, Bool, true, false, if◌then◌else◌, refl, sym, ap, ap₂, ◌∙◌, slice_set, option_map, option_or, get, Link, HasKey, IsChainIndex, chain_place, chain_of, is_listed, listed_place, found_places, PlaceKeys, key_in, places}
 use Rattle.std.proofs.Math.Logic.{∥∥₁_elim}
-use Rattle.std.specs.Option.{option_map, option_or}
-use Rattle.std.specs.Prelude.{slice_set}
-use Rattle.std.specs.FinMap.{get}
-use Rattle.map_indexes.specs.declared.chains.Link.{Link}
-use Rattle.map_indexes.specs.ChainIndexes.{HasKey, IsChainIndex}
-use Rattle.map_indexes.specs.Chains.{chain_place}
-use Rattle.map_indexes.specs.Hashing.{chain_of}
-use Rattle.map_indexes.specs.Overflow.{is_listed, listed_place, found_places}
-use Rattle.map_indexes.specs.PlaceKeys.{PlaceKeys, key_in, places}
 use Rattle.map_indexes.proofs.PlaceKeysLaws.{set_else, get_none}
 
 -- what is found at a place, by whether it is in the list and by its key

@@ -1,7 +1,5 @@
 -- Laws of the hash of a key, four bytes at a time.
-use Rattle.std.proofs.Common.{◌≡◌, ℕ, suc, ◌+◌, ◌-◌, ◌/◌, ◌<◌, ◌≤◌, List, length, drop, ap, arith}
-use Rattle.byteorder.specs.Endian.{little_number}
-use Rattle.map_indexes.specs.Hashing.{mixed, words_mixed}
+use Rattle.map_indexes.proofs.Common.{◌≡◌, ℕ, suc, ◌+◌, ◌-◌, ◌/◌, ◌<◌, ◌≤◌, List, length, drop, ap, arith, little_number, mixed, words_mixed}
 
 -- four bytes are mixed
 pub words_mixed-four : (bs : List ℕ) (h : ℕ) → 4 ≤ length bs

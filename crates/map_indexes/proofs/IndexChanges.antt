@@ -1,17 +1,6 @@
 -- Laws of an index by chains and a list: a key more or fewer, at a link or in the list.
-use Rattle.std.proofs.Common.{◌≡◌, ℕ, ◌<◌, List, [], ◌∷◌, ◌++◌, length, Option, Some, None, Bool, true, false, ◌||◌, refl, sym, ap, subst, ◌∙◌, arith, inl, inr}
-use Rattle.std.specs.Option.{option_map}
-use Rattle.std.specs.Prelude.{IsSome, is_some, nat_eq, slice_set}
-use Rattle.std.specs.FinMap.{get}
-use Rattle.std.specs.List.{remove}
-use Rattle.map_indexes.specs.declared.chains.Link.{Link}
+use Rattle.map_indexes.proofs.Common.{◌≡◌, ℕ, ◌<◌, List, [], ◌∷◌, ◌++◌, length, Option, Some, None, Bool, true, false, ◌||◌, refl, sym, ap, subst, ◌∙◌, arith, inl, inr, IsSome, is_some, nat_eq, slice_set, option_map, get, remove, Link, IsChainIndex, chain_place, link_in, chain_of, place_at, is_listed, found_places, AreRising, AreUnlinked, PlaceKeys, key_in, places, key_inside}
 use Rattle.map_indexes.specs.declared.chained.ChainIndex.{ChainIndex}
-use Rattle.map_indexes.specs.ChainIndexes.{IsChainIndex}
-use Rattle.map_indexes.specs.Chains.{chain_place, link_in}
-use Rattle.map_indexes.specs.Hashing.{chain_of}
-use Rattle.map_indexes.specs.Overflow.{place_at, is_listed, found_places, AreRising, AreUnlinked}
-use Rattle.map_indexes.specs.PlaceKeys.{PlaceKeys, key_in, places}
-use Rattle.map_indexes.specs.ScanLaws.{key_inside}
 use Rattle.map_indexes.proofs.ChainIndexesLaws.{chain_index-added, chain_index-removed, last_inside, last_free}
 use Rattle.map_indexes.proofs.FoundPlaces.{found_link, found_linked, found_listed, found_nothing, found_other, no_link}
 use Rattle.map_indexes.proofs.ListedLinks.{link_own}

@@ -1,16 +1,8 @@
 -- The keys of places are bytes and have the map's key size, also after one is put or cleared, and
 -- in an array.
-use Rattle.std.specs.Prelude.{◌≡◌, ℕ, ◌<◌, List, length, Some, None, slice_set, replicate}
-use Rattle.std.specs.FinMap.{get}
-use Rattle.std.proofs.Common.{sym, ap, subst, ◌∙◌, inl, inr}
-use Rattle.byteorder.specs.Endian.{little_bytes}
-use Rattle.byteorder.specs.Numbers.{length-bytes_low_first}
+use Rattle.map_indexes.proofs.Common.{◌≡◌, ℕ, ◌<◌, List, length, Some, None, slice_set, replicate, sym, ap, subst, ◌∙◌, inl, inr, get, little_bytes, length-bytes_low_first, array_places, got_index, PlaceKeys, key_in, places, IsKey, AreKeys, got}
 use Rattle.isa_model.proofs.StartingContents.{AreBytes-bytes_low_first}
-use Rattle.map_indexes.specs.ArrayPlaces.{array_places}
-use Rattle.map_indexes.specs.ArrayLaws.{got_index}
-use Rattle.map_indexes.specs.PlaceKeys.{PlaceKeys, key_in, places, IsKey, AreKeys}
 use Rattle.map_indexes.proofs.PlaceKeysLaws.{key_in-none, same_or_not, set_here, set_else}
-use Rattle.map_indexes.specs.PlaceKeyLaws.{got}
 
 pub AreKeys-none : (size n : ℕ) → AreKeys size (replicate n None)
 AreKeys-none size n p key e = let f = key_in-none n p in absurd (cc)

@@ -1,9 +1,5 @@
 -- The keys by place of a block of keys, also after one is written or removed.
-use Rattle.std.proofs.Common.{◌≡◌, ℕ, zero, suc, ◌+◌, ◌*◌, ◌<◌, List, [], ◌∷◌, Some, None, Bool, true, false, length, refl, ap, ◌∙◌, arith}
-use Rattle.std.specs.Prelude.{slice_index_or, slice_set, is_some, replicate}
-use Rattle.map_indexes.specs.BlockRows.{block_row, with_block_row}
-use Rattle.map_indexes.specs.BlockRowLaws.{block_row-other, block_row-written}
-use Rattle.map_indexes.specs.PlaceKeys.{PlaceKeys, keys_by_place, key_in}
+use Rattle.map_indexes.proofs.Common.{◌≡◌, ℕ, zero, suc, ◌+◌, ◌*◌, ◌<◌, List, [], ◌∷◌, Some, None, Bool, true, false, length, refl, ap, ◌∙◌, arith, slice_index_or, slice_set, is_some, replicate, block_row, with_block_row, block_row-other, block_row-written, PlaceKeys, keys_by_place, key_in}
 
 module _ (size : ℕ) (block : List ℕ) where
   pub length-keys_by_place : (at : ℕ) (used : List Bool)

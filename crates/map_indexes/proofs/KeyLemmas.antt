@@ -1,7 +1,5 @@
 -- The places of a block of keys, and a block that was lent.
-use Rattle.std.proofs.Common.{◌≡◌, ℕ, List, ◌++◌, take, drop, Bool, length, sym, ap, ◌∙◌}
-use Rattle.std.proofs.lemmas.List.{take_at}
-use Rattle.map_indexes.specs.PlaceKeys.{KeysByPlace, keys_by_place}
+use Rattle.map_indexes.proofs.Common.{◌≡◌, ℕ, List, ◌++◌, take, drop, Bool, length, sym, ap, ◌∙◌, take_at, KeysByPlace, keys_by_place}
 use Rattle.map_indexes.proofs.KeyLaws.{length-keys_by_place}
 
 -- there are as many places as the block has

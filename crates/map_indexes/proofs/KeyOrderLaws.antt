@@ -1,25 +1,15 @@
 -- Laws of the places of keys in the order of the keys.
-use Rattle.std.proofs.Common.{◌≡◌, ℕ, zero, suc, ◌+◌, ◌<◌, List, [], ◌∷◌, ◌++◌, Option, Some, None, true, false, cond, map, take, length, unwrap_or, refl, sym, ap, subst, ◌∙◌, arith}
-use Rattle.std.specs.Prelude.{T, is_some, slice_index_or, All, IsPermutation}
+use Rattle.map_indexes.proofs.Common.{◌≡◌, ℕ, zero, suc, ◌+◌, ◌<◌, List, [], ◌∷◌, ◌++◌, Option, Some, None, true, false, cond, map, take, length, unwrap_or, refl, sym, ap, subst, ◌∙◌, arith, T, is_some, slice_index_or, All, IsPermutation, IsSortedByKey, is_lt, ordering_reverse, nat_list_cmp_total, entries, entries_sorted, values, get, find, get-entries, is_sorted, slice_cmp-IsAntisymmetric, nat_cmp-IsAntisymmetric, eqb-true, eqb-false, eq-eqb, ne_eqb, ranks_by, sorted_far, All-permutation, IsPermutation-sym, key_order, is_key, is_key-equal, got, key_or_none, used_places}
 use Rattle.std.specs.List.{AllByRecursion, IsDistinct}
-use Rattle.std.specs.List.Sorted.{IsSortedByKey}
-use Rattle.std.specs.Ordering.{is_lt, ordering_reverse}
 use Rattle.std.specs.declared.cmp.Ordering.{Ordering}
 use Rattle.std.specs.declared.cmp.Ordering.TheVariants.{Less, Equal, Greater}
-use Rattle.std.specs.Cmp.Lexicographic.{nat_list_cmp_total}
-use Rattle.std.specs.FinMap.{entries, entries_sorted, values, get, find, get-entries, is_sorted, slice_cmp-IsAntisymmetric, nat_cmp-IsAntisymmetric}
 use Rattle.std.specs.FinMap.Entries.{below_all, same_entries}
-use Rattle.std.proofs.lemmas.Bool.{eqb-true, eqb-false, eq-eqb, ne_eqb}
 use Rattle.std.proofs.lemmas.List.Elements.{All-nil, All-cons, All-head, All-tail}
-use Rattle.std.proofs.lemmas.List.Sorted.{ranks_by, sorted_far, All-permutation, IsPermutation-sym}
 use Rattle.std.proofs.lemmas.Map.Keys.{IsDistinct-IsPermutation}
 use Rattle.std.proofs.Math.Dec.{eqb}
-use Rattle.isa_model.specs.Machine.MapContents.{key_order, is_key}
 use Rattle.isa_model.proofs.TestLaws.{both, less_is}
 use Rattle.map_indexes.specs.PlaceKeys.{PlaceKeys, key_in, places, IsDistinct as IsApart}
 use Rattle.map_indexes.proofs.PlaceKeysLaws.{is_key-itself, get_here}
-use Rattle.map_indexes.specs.PlaceKeyLaws.{is_key-equal, got}
-use Rattle.map_indexes.specs.KeyOrder.{key_or_none, used_places}
 
 abbrev place_if : Option (List ℕ) → ℕ → List ℕ
 place_if None p = []

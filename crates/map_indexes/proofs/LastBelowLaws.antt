@@ -1,7 +1,5 @@
 -- Laws of the greatest number below another that passes a test, and of how many do.
-use Rattle.std.proofs.Common.{◌≡◌, ℕ, zero, suc, ◌+◌, ◌<◌, ◌≤◌, Bool, true, false, cond, Some, None, refl, sym, ap, ◌∙◌, arith, inl, inr}
-use Rattle.std.proofs.lemmas.Bool.{cases_lt}
-use Rattle.map_indexes.specs.LastBelow.{last_below, count_below}
+use Rattle.map_indexes.proofs.Common.{◌≡◌, ℕ, zero, suc, ◌+◌, ◌<◌, ◌≤◌, Bool, true, false, cond, Some, None, refl, sym, ap, ◌∙◌, arith, inl, inr, cases_lt, last_below, count_below}
 
 -- it is below m and passes, and no number between it and m does
 pub last_is : (test : ℕ → Bool) (m k : ℕ) → last_below test m ≡ Some k

@@ -1,3 +1,4 @@
+mod Common
 pub mod KeyLemmas
 pub mod ArrayLaws
 pub mod ArrayOrder

@@ -1,11 +1,7 @@
 -- Links in two lists: what they are, and their chains after one is put in or taken out.
-use Rattle.std.proofs.Common.{◌≡◌, ℕ, ◌+◌, ◌<◌, List, length, Option, Some, None, Bool, true, false, refl, sym, ap, subst, ◌∙◌, arith, inl, inr}
-use Rattle.std.specs.Prelude.{◌^◌, IfSome, nat_eq, slice_index_or, slice_set, if◌then◌else◌}
-use Rattle.map_indexes.specs.declared.chains.Link.{Link}
-use Rattle.map_indexes.specs.LastBelow.{last_below}
+use Rattle.map_indexes.proofs.Common.{◌≡◌, ℕ, ◌+◌, ◌<◌, List, length, Option, Some, None, Bool, true, false, refl, sym, ap, subst, ◌∙◌, arith, inl, inr, ◌^◌, IfSome, nat_eq, slice_index_or, slice_set, if◌then◌else◌, Link, last_below, in_chain, IsChained, IsBehind, chain_place, heads_led, next_led, link_led, link_with, link_in, nexts_led, led_from}
 use Rattle.map_indexes.proofs.LastBelowLaws.{last_is}
 use Rattle.map_indexes.proofs.PlaceKeysLaws.{same_or_not}
-use Rattle.map_indexes.specs.Chains.{in_chain, IsChained, IsBehind, chain_place, heads_led, next_led, link_led, link_with, link_in, nexts_led, led_from}
 use Rattle.map_indexes.proofs.ChainLaws.{place_or, link_of, head_set, head_other, length-head_set}
 use Rattle.map_indexes.proofs.ChainChanges.{chained_added, chained_removed}
 

@@ -1,22 +1,10 @@
 -- Laws of the list of the places whose chains were full: a place more or less, and its search.
-use Rattle.std.proofs.Common.{◌≡◌, ℕ, ◌+◌, ◌-◌, ◌<◌, ◌≤◌, [], ◌∷◌, List, length, Option, Some, None, Bool, true, false, ◌||◌, unwrap_or, sym, ap, ap₂, subst, ◌∙◌, arith, inl, inr}
-use Rattle.std.proofs.lemmas.Bool.{cases_lt}
-use Rattle.std.proofs.lemmas.List.{get_or_default}
+use Rattle.map_indexes.proofs.Common.{◌≡◌, ℕ, ◌+◌, ◌-◌, ◌<◌, ◌≤◌, [], ◌∷◌, List, length, Option, Some, None, Bool, true, false, ◌||◌, unwrap_or, sym, ap, ap₂, subst, ◌∙◌, arith, inl, inr, is_some, nat_eq, slice_set, cases_lt, get_or_default, list_any-IsPermutation, IsPermutation-insert, IsPermutation-remove, searchable_from_sorted, nat_list_cmp_total, slice_cmp-IsAntisymmetric, nat_cmp-IsAntisymmetric, IsNonDecreasingBy, IsPartitionPoint, is_lt, ordering_index, ordering_reverse, key_order, key_or_none, place_at, is_listed, AreRising, PlaceKeys, key_in}
 use Rattle.std.proofs.lemmas.List.Edits.{length-insert, length-remove, get_or-insert_below, get_or-insert_at, get_or-insert_above, get_or-remove_below, get_or-remove_above}
 use Rattle.std.proofs.lemmas.List.Folds.{Any-from_list_any, list_any_at}
-use Rattle.std.proofs.lemmas.List.Sorted.{list_any-IsPermutation, IsPermutation-insert, IsPermutation-remove, searchable_from_sorted}
 use Rattle.std.specs.Cmp.{tied_itself}
-use Rattle.std.specs.Cmp.Lexicographic.{nat_list_cmp_total}
-use Rattle.std.specs.FinMap.{slice_cmp-IsAntisymmetric, nat_cmp-IsAntisymmetric}
 use Rattle.std.specs.List.{list_any, insert, remove, slice_index_or}
-use Rattle.std.specs.List.Sorted.{IsNonDecreasingBy, IsPartitionPoint}
-use Rattle.std.specs.Ordering.{is_lt, ordering_index, ordering_reverse}
-use Rattle.std.specs.Prelude.{is_some, nat_eq, slice_set}
 use Rattle.std.specs.declared.cmp.Ordering.TheVariants.{Less, Equal, Greater}
-use Rattle.isa_model.specs.Machine.MapContents.{key_order}
-use Rattle.map_indexes.specs.KeyOrder.{key_or_none}
-use Rattle.map_indexes.specs.Overflow.{place_at, is_listed, AreRising}
-use Rattle.map_indexes.specs.PlaceKeys.{PlaceKeys, key_in}
 use Rattle.map_indexes.proofs.PlaceKeysLaws.{same_or_not, set_else}
 
 -- ---- the places in the list

@@ -1,11 +1,6 @@
 -- Laws of the keys of places: the place of a key is found, and what is there after one was set.
-use Rattle.std.proofs.Common.{◌≡◌, ℕ, zero, suc, ◌+◌, ◌<◌, List, [], ◌∷◌, Option, Some, None, Bool, true, false, cond, length, refl, sym, ap, ◌∙◌, arith, inl, inr, ◌⊎◌}
-use Rattle.std.specs.Prelude.{slice_set, replicate}
-use Rattle.std.specs.Cmp.Lexicographic.{nat_list_cmp_total}
+use Rattle.map_indexes.proofs.Common.{◌≡◌, ℕ, zero, suc, ◌+◌, ◌<◌, List, [], ◌∷◌, Option, Some, None, Bool, true, false, cond, length, refl, sym, ap, ◌∙◌, arith, inl, inr, ◌⊎◌, slice_set, replicate, nat_list_cmp_total, key_order, is_key, Places, PlaceKeys, pairs_from, places, key_in, IsDistinct, got, is_key-equal}
 use Rattle.std.specs.FinMap.{find, get, insert, remove, get-insert, get-remove, get-from_entries, same_map, slice_cmp-IsAntisymmetric, nat_cmp-IsAntisymmetric}
-use Rattle.isa_model.specs.Machine.MapContents.{key_order, is_key}
-use Rattle.map_indexes.specs.PlaceKeys.{Places, PlaceKeys, pairs_from, places, key_in, IsDistinct}
-use Rattle.map_indexes.specs.PlaceKeyLaws.{got, is_key-equal}
 pub use Rattle.isa_model.proofs.PutKeys.{is_key-itself}
 
 pub key_in-none : (n i : ℕ) → key_in (replicate n None) i ≡ None

@@ -1,13 +1,7 @@
 -- Laws of places that are scanned, with one key more or less.
-use Rattle.std.proofs.Common.{◌≡◌, ℕ, zero, suc, ◌+◌, ◌-◌, ◌<◌, List, [], ◌∷◌, Option, Some, None, true, cond, length, refl, sym, ap, ◌∙◌, arith}
-use Rattle.std.specs.Prelude.{slice_set, is_some, replicate}
-use Rattle.std.specs.Cmp.Lexicographic.{nat_list_cmp_total}
-use Rattle.std.specs.FinMap.{get, len, empty, from_entries, len-insert, len-remove, len-empty}
-use Rattle.isa_model.specs.Machine.MapContents.{key_order}
-use Rattle.map_indexes.specs.PlaceKeys.{PlaceKeys, key_in, pairs_from, places, IsScan, key_count}
+use Rattle.map_indexes.proofs.Common.{◌≡◌, ℕ, zero, suc, ◌+◌, ◌-◌, ◌<◌, List, [], ◌∷◌, Option, Some, None, true, cond, length, refl, sym, ap, ◌∙◌, arith, slice_set, is_some, replicate, nat_list_cmp_total, get, len, empty, from_entries, len-insert, len-remove, len-empty, key_order, PlaceKeys, key_in, pairs_from, places, IsScan, key_count, key_inside}
 use Rattle.map_indexes.proofs.PlaceKeysLaws.{get_here, key_in-none}
 use Rattle.map_indexes.proofs.PlaceKeysLaws.{added-distinct, places-added, emptied-distinct, places-emptied}
-use Rattle.map_indexes.specs.ScanLaws.{key_inside}
 
 pairs_from-none : (at n : ℕ) → pairs_from at (replicate n None) ≡ []
 pairs_from-none at zero = refl

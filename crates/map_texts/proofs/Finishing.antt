@@ -1,20 +1,8 @@
 -- How filling maps ends: at the end of a text, at a line that is refused, or by the source's error.
-use Rattle.std.proofs.Common.{◌≡◌, ℕ, ◌+◌, ◌≤◌, List, [], ◌++◌, length, take, drop, Option, Some, None, Result, Err, unwrap_or, refl, sym, ap, ◌∙◌, subst, append_assoc, append-nil}
-use Rattle.std.specs.Prelude.{IfSome}
-use Rattle.std.specs.List.{slice_split}
-use Rattle.std.specs.Io.KnownBytes.{Consumes, IsAtEnd}
-use Rattle.std.proofs.lemmas.List.{take_at, drop_at, take-append-le, length-take-le}
+use Rattle.map_texts.proofs.Common.{◌≡◌, ℕ, ◌+◌, ◌≤◌, List, [], ◌++◌, length, take, drop, Option, Some, None, Result, Err, unwrap_or, refl, sym, ap, ◌∙◌, subst, append_assoc, append-nil, IfSome, slice_split, Consumes, IsAtEnd, take_at, drop_at, take-append-le, length-take-le, MapDef, KeyValues, ByEnd, ByError, MapState, rows_of, contents_of, MapTextError, ReadFailed, after_line, after_lines, is_line_feed, filled_by, GoesOnReading, StopsFilling, IsPending, HasNoFeed}
 use borrow.Rule.Slice.PartMut.{put_mid, post_of}
 use lib.Seq.{take-add}
-use Rattle.isa_model.specs.declared.map_defs.MapDef.{MapDef}
-use Rattle.isa_model.specs.Machine.States.{KeyValues}
-use Rattle.isa_model.specs.Reporting.Streams.{ByEnd, ByError}
-use Rattle.maps.specs.Maps.{MapState, rows_of, contents_of}
-use Rattle.map_texts.specs.declared.errors.MapTextError.{MapTextError}
-use Rattle.map_texts.specs.declared.errors.MapTextErrorKind.TheVariants.{ReadFailed}
-use Rattle.map_texts.specs.Fillings.{after_line, after_lines, is_line_feed, filled_by}
 use Rattle.map_texts.specs.Reading.{AreFilledFrom, IsTextFrom, TellsReadFailure, filled_of, error_of}
-use Rattle.map_texts.specs.Progress.{GoesOnReading, StopsFilling, IsPending, HasNoFeed}
 use Rattle.map_texts.proofs.LineLaws.{allowed_cut}
 use Rattle.map_texts.proofs.Splitting.{left_none}
 

@@ -1,3 +1,4 @@
+mod Common
 pub mod Splitting
 pub mod LineLaws
 pub mod PutLaws

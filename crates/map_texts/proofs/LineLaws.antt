@@ -1,13 +1,5 @@
 -- Laws of lines: which of their bytes say that they are passed over, and how long lines are.
-use Rattle.std.proofs.Common.{◌≡◌, ℕ, ◌+◌, ◌<◌, ◌≤◌, List, [], ◌∷◌, ◌++◌, length, take, drop, true, false, refl, ap, ◌∙◌, arith}
-use Rattle.std.proofs.lemmas.List.{drop_more, get_or-map, length-map}
-use Rattle.std.specs.Prelude.{nat_lt}
-use Rattle.isa_model.specs.declared.map_defs.MapDef.{MapDef}
-use Rattle.isa_model.specs.Machine.States.{KeyValues}
-use Rattle.maps.specs.Maps.{MapState, map_at, rows_of}
-use Rattle.map_texts.specs.declared.errors.MapTextErrorKind.TheVariants.{LongLine, ReadFailed}
-use Rattle.map_texts.specs.Lines.{is_passed, is_too_long, longest_line, line_meaning, map_line_meaning}
-use Rattle.map_texts.specs.Fillings.{accepted, refused, after_line, after_meaning, after_cut_line}
+use Rattle.map_texts.proofs.Common.{◌≡◌, ℕ, ◌+◌, ◌<◌, ◌≤◌, List, [], ◌∷◌, ◌++◌, length, take, drop, true, false, refl, ap, ◌∙◌, arith, nat_lt, drop_more, get_or-map, length-map, MapDef, KeyValues, MapState, map_at, rows_of, LongLine, ReadFailed, is_passed, is_too_long, longest_line, line_meaning, map_line_meaning, accepted, refused, after_line, after_meaning, after_cut_line}
 
 -- ---- the first five bytes say whether a line is passed over
 

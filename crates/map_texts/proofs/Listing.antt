@@ -1,14 +1,8 @@
 -- Lines of keys and values written one after another, and lines of maps.
-use Rattle.std.proofs.Common.{◌≡◌, ℕ, zero, suc, ◌+◌, ◌<◌, ◌≤◌, List, [], ◌∷◌, ◌++◌, map, length, take, drop, get_or, Option, Some, None, true, false, cond, refl, sym, ap, ◌∙◌, subst, arith, append_assoc, append-nil, add-zero}
-use Rattle.std.specs.Prelude.{All}
-use Rattle.std.specs.List.{slice_get, filter_map, cons_option, range_with_len, flat_map}
+use Rattle.map_texts.proofs.Common.{◌≡◌, ℕ, zero, suc, ◌+◌, ◌<◌, ◌≤◌, List, [], ◌∷◌, ◌++◌, map, length, take, drop, get_or, Option, Some, None, true, false, cond, refl, sym, ap, ◌∙◌, subst, arith, append_assoc, append-nil, add-zero, All, slice_get, filter_map, cons_option, range_with_len, flat_map, Appends, Appends-trans, take_more, take_all, take_at, take-append-drop, All-nil, All-cons, All-head, All-tail, All-weaker, All-get_or, MapDef, KeyFits, IsRow, key_order, is_key, IsKeyValue, FitsRow, KeyValues, ToReport, report_part, map_line, map_pieces, maps_pieces, key_value_by_index, in_report_order, MapState, IsMap, map_at, content_in, ordered_in, rows_of, contents_of, FitsRow-IsMap, FitListing, lines_of}
 use Rattle.std.specs.Option.{option_map}
-use Rattle.std.specs.Io.KnownBytes.{Appends}
 use Rattle.std.specs.FinMap.Entries.{find}
-use Rattle.std.proofs.KnownBytes.{Appends-trans}
 use Rattle.std.proofs.lemmas.Grind.{flat_map-append}
-use Rattle.std.proofs.lemmas.List.{take_more, take_all, take_at, take-append-drop}
-use Rattle.std.proofs.lemmas.List.Elements.{All-nil, All-cons, All-head, All-tail, All-weaker, All-get_or}
 use Rattle.std.proofs.lemmas.List.FromFn.{length-range_with_len}
 use Rattle.std.proofs.lemmas.Option.{slice_get_within, get_or_from_slice_get}
 use Rattle.byteorder.specs.Endian.{little_bytes}
@@ -17,18 +11,9 @@ use Rattle.exact_io.specs.Transfers.{AppendsBeginning}
 use Rattle.exact_io.proofs.TransferLaws.{AppendsBeginning-first, AppendsBeginning-second}
 use Rattle.isa_model.specs.declared.map_defs.MapType.{MapType}
 use Rattle.isa_model.specs.declared.map_defs.MapType.TheVariants.{Hash, Array}
-use Rattle.isa_model.specs.declared.map_defs.MapDef.{MapDef}
 use Rattle.isa_model.specs.Code.Limits.{max_value_size}
-use Rattle.isa_model.specs.Code.MapRows.{KeyFits, IsRow}
-use Rattle.isa_model.specs.Machine.MapContents.{key_order, is_key}
-use Rattle.isa_model.specs.Machine.MachineStates.{IsKeyValue, FitsRow}
-use Rattle.isa_model.specs.Machine.States.{KeyValues}
-use Rattle.isa_model.specs.Reporting.Reports.{ToReport, report_part, map_line, map_pieces, maps_pieces, key_value_by_index, in_report_order}
-use Rattle.maps.specs.Maps.{MapState, IsMap, map_at, content_in, ordered_in, rows_of, contents_of}
 use Rattle.maps.proofs.KeySizes.{KeyFits-most}
-use Rattle.maps.proofs.MapLaws.{FitsRow-IsMap}
 use Rattle.maps.specs.ReportOrder.{with_key_of}
-use Rattle.map_texts.specs.Listings.{FitListing, lines_of}
 
 -- ---- parts of a text that are written one after another
 

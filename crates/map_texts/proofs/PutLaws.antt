@@ -1,17 +1,6 @@
 -- What a line's update does to the maps, by the test that fails, or none.
-use Rattle.std.proofs.Common.{◌≡◌, ◌≢◌, ℕ, zero, suc, ◌<◌, ◌≤◌, List, [], ◌∷◌, length, Option, Some, None, Bool, true, false, refl, sym, ap, ◌∙◌, arith}
-use Rattle.std.specs.Prelude.{nat_eq, slice_set, slice_index_or, if◌then◌else◌, ◌-◌, ◌^◌}
-use Rattle.std.specs.List.{slice_get}
-use Rattle.std.proofs.lemmas.List.{set-get_or}
-use Rattle.isa_model.specs.declared.map_defs.MapDef.{MapDef}
-use Rattle.isa_model.specs.Machine.MapContents.{update_answer, after_update}
-use Rattle.isa_model.specs.Machine.States.{KeyValues}
-use Rattle.maps.specs.Maps.{MapState, Updated, map_at, content_in, rows_of, contents_of}
+use Rattle.map_texts.proofs.Common.{◌≡◌, ◌≢◌, ℕ, zero, suc, ◌<◌, ◌≤◌, List, [], ◌∷◌, length, Option, Some, None, Bool, true, false, refl, sym, ap, ◌∙◌, arith, nat_eq, slice_set, slice_index_or, if◌then◌else◌, ◌-◌, ◌^◌, slice_get, set-get_or, MapDef, update_answer, after_update, KeyValues, MapState, Updated, map_at, content_in, rows_of, contents_of, contents_of-at, contents_of-set, rows_of-set, NoMap, KeySize, ValueSize, NoRoom, Update, row_meaning, sized_meaning, FilledMaps, accepted, refused, updated, after_meaning}
 use Rattle.maps.specs.Contents.{content as content_of}
-use Rattle.maps.proofs.MapLaws.{contents_of-at, contents_of-set, rows_of-set}
-use Rattle.map_texts.specs.declared.errors.MapTextErrorKind.TheVariants.{NoMap, KeySize, ValueSize, NoRoom}
-use Rattle.map_texts.specs.Lines.{Update, row_meaning, sized_meaning}
-use Rattle.map_texts.specs.Fillings.{FilledMaps, accepted, refused, updated, after_meaning}
 
 -- ---- rows by index
 

@@ -1,25 +1,15 @@
 -- The text of what maps hold fills new maps of the same rows with the same: keys and values that
 -- are put in one after another.
-use Rattle.std.proofs.Common.{◌≡◌, ◌≢◌, ℕ, zero, suc, ◌+◌, ◌<◌, ◌≤◌, ◌⊎◌, inl, inr, List, [], ◌∷◌, length, get_or, Option, Some, None, is_some, Bool, true, false, cond, refl, sym, ap, ◌∙◌, subst, arith}
-use Rattle.std.specs.Prelude.{T, All, Contains, nat_le, nat_eq}
-use Rattle.std.specs.List.{filter_map, cons_option, range_with_len}
+use Rattle.map_texts.proofs.Common.{◌≡◌, ◌≢◌, ℕ, zero, suc, ◌+◌, ◌<◌, ◌≤◌, ◌⊎◌, inl, inr, List, [], ◌∷◌, length, get_or, Option, Some, None, is_some, Bool, true, false, cond, refl, sym, ap, ◌∙◌, subst, arith, T, All, Contains, nat_le, nat_eq, filter_map, cons_option, range_with_len, length-map, get_or-map, take_all, All-nil, All-cons, All-head, All-tail, All-weaker, All-map, All-contains, MapDef, key_order, is_key, at_key, has_key, with_key, update_answer, update_answer_by, hash_update, array_update, AreBytes, FitsRow, IsKeyValue, KeysFit, keys_of, KeyValues, in_report_order, key_value_by_index, starting_key_values, IsRow, KeyFits}
 use Rattle.std.specs.Option.{option_map}
 use Rattle.std.specs.Ordering.{is_lt, is_eq}
 use Rattle.std.specs.declared.cmp.Ordering.{Ordering}
 use Rattle.std.specs.Cmp.Lexicographic.{nat_list_cmp_total}
 use Rattle.std.specs.FinMap.{slice_cmp-IsAntisymmetric, nat_cmp-IsAntisymmetric}
 use Rattle.std.specs.FinMap.Entries.{below_all, is_sorted, is_sorted-put, find-put, same_entries}
-use Rattle.std.proofs.lemmas.List.{length-map, get_or-map, take_all}
-use Rattle.std.proofs.lemmas.List.Elements.{All-nil, All-cons, All-head, All-tail, All-weaker, All-map, All-contains}
 use Rattle.byteorder.specs.Endian.{little_bytes, little_number}
 use Rattle.isa_model.specs.declared.map_defs.MapType.{MapType}
 use Rattle.isa_model.specs.declared.map_defs.MapType.TheVariants.{Hash, Array}
-use Rattle.isa_model.specs.declared.map_defs.MapDef.{MapDef}
-use Rattle.isa_model.specs.Machine.MapContents.{key_order, is_key, at_key, has_key, with_key, update_answer, update_answer_by, hash_update, array_update}
-use Rattle.isa_model.specs.Machine.MachineStates.{AreBytes, FitsRow, IsKeyValue, KeysFit, keys_of}
-use Rattle.isa_model.specs.Machine.States.{KeyValues}
-use Rattle.isa_model.specs.Reporting.Reports.{in_report_order, key_value_by_index, starting_key_values}
-use Rattle.isa_model.specs.Code.MapRows.{IsRow, KeyFits}
 use Rattle.isa_model.proofs.PutKeys.{Contains-has_key, has_key-after_with_key, length-with_key, is_key-itself}
 use Rattle.isa_model.proofs.ContentLaws.{is_sorted-IsStrictlySortedBy}
 use Rattle.isa_model.proofs.ValueLaws.{slice_index_fits}

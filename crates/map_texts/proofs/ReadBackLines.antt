@@ -1,20 +1,8 @@
 -- The line of a key and its value is read as the update that gives the key the value.
-use Rattle.std.proofs.Common.{◌≡◌, ◌≢◌, ℕ, zero, suc, ◌+◌, ◌-◌, ◌*◌, ◌/◌, ◌%◌, ◌^◌, ◌<◌, ◌≤◌, List, [], ◌∷◌, ◌++◌, length, take, drop, Some, None, Bool, true, false, refl, sym, ap, ◌∙◌, subst, arith, length-append, append_assoc}
-use Rattle.std.specs.Prelude.{nat_lt, nat_eq, not, slice_index, decimal, codes, All}
-use Rattle.std.specs.List.{prefix_len, slice_get}
+use Rattle.map_texts.proofs.Common.{◌≡◌, ◌≢◌, ℕ, zero, suc, ◌+◌, ◌-◌, ◌*◌, ◌/◌, ◌%◌, ◌^◌, ◌<◌, ◌≤◌, List, [], ◌∷◌, ◌++◌, length, take, drop, Some, None, Bool, true, false, refl, sym, ap, ◌∙◌, subst, arith, length-append, append_assoc, nat_lt, nat_eq, not, slice_index, decimal, codes, All, prefix_len, slice_get, take_at, drop_at, drop-drop, All-nil, All-cons, All-head, All-tail, All-append, All-weaker, encode_with, encode_lower, lower_digits, hex_digit_value, MapDef, IsRow, AreBytes, IsKeyValue, map_line, is_digit, is_field_byte, field, after_field, number_from, field_number, field_bytes, line_size, longest_from, longest_line, index_field, key_field, value_field, key_column, line_meaning, Update, is_line_feed, NoFeed, HasNoFeed}
 use Rattle.std.specs.Result.{result_ok}
-use Rattle.std.proofs.lemmas.List.{take_at, drop_at, drop-drop}
-use Rattle.std.proofs.lemmas.List.Elements.{All-nil, All-cons, All-head, All-tail, All-append, All-weaker}
 use Rattle.std.proofs.lemmas.Fmt.{decimal_by_steps}
-use Rattle.hex.specs.Hex.{encode_with, encode_lower, lower_digits, hex_digit_value}
 use Rattle.hex.proofs.HexLemmas.{IsDigits-lower_digits, length-encode_with, decode_of-encode_lower}
-use Rattle.isa_model.specs.declared.map_defs.MapDef.{MapDef}
-use Rattle.isa_model.specs.Code.MapRows.{IsRow}
-use Rattle.isa_model.specs.Machine.MachineStates.{AreBytes, IsKeyValue}
-use Rattle.isa_model.specs.Reporting.Reports.{map_line}
-use Rattle.map_texts.specs.Lines.{is_digit, is_field_byte, field, after_field, number_from, field_number, field_bytes, line_size, longest_from, longest_line, index_field, key_field, value_field, key_column, line_meaning, Update}
-use Rattle.map_texts.specs.Fillings.{is_line_feed}
-use Rattle.map_texts.specs.Progress.{NoFeed, HasNoFeed}
 use Rattle.isa_model.proofs.ValueLaws.{slice_index_fits}
 use Rattle.isa_model.proofs.MapRowsLaws.{KeyFits-some}
 

@@ -1,24 +1,7 @@
 -- The text of what maps hold fills new maps of the same rows with the same.
-use Rattle.std.proofs.Common.{◌≡◌, ℕ, suc, ◌+◌, ◌^◌, ◌<◌, List, [], ◌∷◌, ◌++◌, length, Some, Bool, true, refl, sym, ap, ◌∙◌, arith, append_assoc, length-append}
-use Rattle.std.specs.Prelude.{All, nat_eq, slice_set, slice_index_or, if◌then◌else◌}
-use Rattle.std.specs.List.{flat_map, slice_get, slice_split}
+use Rattle.map_texts.proofs.Common.{◌≡◌, ℕ, suc, ◌+◌, ◌^◌, ◌<◌, List, [], ◌∷◌, ◌++◌, length, Some, Bool, true, refl, sym, ap, ◌∙◌, arith, append_assoc, length-append, All, nat_eq, slice_set, slice_index_or, if◌then◌else◌, flat_map, slice_get, slice_split, All-nil, All-head, All-tail, All-map, All-weaker, MapDef, IsRow, with_key, update_answer, FitRows, IsKeyValue, KeyValues, ByEnd, report_part, map_line, map_pieces, maps_pieces, in_report_order, starting_key_values, starting_contents, MapState, IsMap, rows_of, contents_of, FitRows-IsMap, length-rows_of, NoRoom, Update, key_column, FilledMaps, accepted, refused, after_meaning, after_line, after_lines, filled_by, is_line_feed, ReadsBack, lines_of, text_of, NoFeed}
 use Rattle.std.proofs.Math.Seq.{get_or-append_seam, set-append_seam}
 use Rattle.std.proofs.lemmas.Grind.{flat_map-append}
-use Rattle.std.proofs.lemmas.List.Elements.{All-nil, All-head, All-tail, All-map, All-weaker}
-use Rattle.isa_model.specs.declared.map_defs.MapDef.{MapDef}
-use Rattle.isa_model.specs.Code.MapRows.{IsRow}
-use Rattle.isa_model.specs.Machine.MapContents.{with_key, update_answer}
-use Rattle.isa_model.specs.Machine.MachineStates.{FitRows, IsKeyValue}
-use Rattle.isa_model.specs.Machine.States.{KeyValues}
-use Rattle.isa_model.specs.Reporting.Streams.{ByEnd}
-use Rattle.isa_model.specs.Reporting.Reports.{report_part, map_line, map_pieces, maps_pieces, in_report_order, starting_key_values, starting_contents}
-use Rattle.maps.specs.Maps.{MapState, IsMap, rows_of, contents_of}
-use Rattle.maps.proofs.MapLaws.{FitRows-IsMap, length-rows_of}
-use Rattle.map_texts.specs.declared.errors.MapTextErrorKind.TheVariants.{NoRoom}
-use Rattle.map_texts.specs.Lines.{Update, key_column}
-use Rattle.map_texts.specs.Fillings.{FilledMaps, accepted, refused, after_meaning, after_line, after_lines, filled_by, is_line_feed}
-use Rattle.map_texts.specs.Listings.{ReadsBack, lines_of, text_of}
-use Rattle.map_texts.specs.Progress.{NoFeed}
 use Rattle.map_texts.proofs.LineLaws.{passed_line}
 use Rattle.map_texts.proofs.Listing.{pieces_text}
 use Rattle.map_texts.proofs.ReadBack.{put_all, Answered, PutsBack-FitsRow}

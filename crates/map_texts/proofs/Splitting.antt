@@ -1,14 +1,6 @@
 -- What is left of a text after one line of it, and where a line's front decides what it says.
-use Rattle.std.proofs.Common.{◌≡◌, ℕ, ◌+◌, ◌⊎◌, inl, inr, List, [], ◌∷◌, ◌++◌, length, Some, true, false, refl, sym, ap, ◌∙◌, arith, append_assoc}
-use Rattle.std.specs.List.{slice_split}
-use Rattle.std.proofs.lemmas.List.Elements.{All-nil, All-cons, All-append}
+use Rattle.map_texts.proofs.Common.{◌≡◌, ℕ, ◌+◌, ◌⊎◌, inl, inr, List, [], ◌∷◌, ◌++◌, length, Some, true, false, refl, sym, ap, ◌∙◌, arith, append_assoc, slice_split, All-nil, All-cons, All-append, MapDef, KeyValues, InputEnding, ByEnd, ByError, MapTextError, FilledMaps, accepted, after_line, after_cut_line, after_last_line, after_lines, and_then, is_line_feed, left_of, GoesOnReading, StopsFilling, NoFeed, HasNoFeed}
 use Rattle.std.proofs.lemmas.List.Splits.{slice_split_at, slice_split_none, length-slice_split}
-use Rattle.isa_model.specs.declared.map_defs.MapDef.{MapDef}
-use Rattle.isa_model.specs.Machine.States.{KeyValues}
-use Rattle.isa_model.specs.Reporting.Streams.{InputEnding, ByEnd, ByError}
-use Rattle.map_texts.specs.declared.errors.MapTextError.{MapTextError}
-use Rattle.map_texts.specs.Fillings.{FilledMaps, accepted, after_line, after_cut_line, after_last_line, after_lines, and_then, is_line_feed}
-use Rattle.map_texts.specs.Progress.{left_of, GoesOnReading, StopsFilling, NoFeed, HasNoFeed}
 
 -- a text has at least one line
 some_line : (text : List ℕ)

@@ -1,16 +1,7 @@
 -- Lines that are taken from the front of bytes, and the part of a line that is kept.
-use Rattle.std.proofs.Common.{◌≡◌, ℕ, ◌+◌, ◌-◌, ◌<◌, ◌≤◌, min, List, [], ◌∷◌, ◌++◌, length, take, drop, get_or, slice_range, Some, None, true, false, refl, sym, ap, ◌∙◌, subst, arith}
-use Rattle.std.specs.Prelude.{nat_lt, nat_le, zero, suc}
+use Rattle.map_texts.proofs.Common.{◌≡◌, ℕ, ◌+◌, ◌-◌, ◌<◌, ◌≤◌, min, List, [], ◌∷◌, ◌++◌, length, take, drop, get_or, slice_range, Some, None, true, false, refl, sym, ap, ◌∙◌, subst, arith, nat_lt, nat_le, zero, suc, All-nil, All-more, All-take, MapDef, KeyValues, MapTextError, LongLine, is_passed, is_too_long, longest_line, most_line_size, accepted, after_line, is_line_feed, GoesOnReading, StopsFilling, NoFeed, HasNoFeed, AreTakenTo, IsPending, Keeps, KeepsBy}
 use Rattle.std.proofs.lemmas.List.{drop_more, get_or-drop, length-drop, length-append, length-take-le, take_all, drop-take}
 use Rattle.std.proofs.lemmas.List.Folds.{drop_split}
-use Rattle.std.proofs.lemmas.List.Elements.{All-nil, All-more, All-take}
-use Rattle.isa_model.specs.declared.map_defs.MapDef.{MapDef}
-use Rattle.isa_model.specs.Machine.States.{KeyValues}
-use Rattle.map_texts.specs.declared.errors.MapTextError.{MapTextError}
-use Rattle.map_texts.specs.declared.errors.MapTextErrorKind.TheVariants.{LongLine}
-use Rattle.map_texts.specs.Lines.{is_passed, is_too_long, longest_line, most_line_size}
-use Rattle.map_texts.specs.Fillings.{accepted, after_line, is_line_feed}
-use Rattle.map_texts.specs.Progress.{GoesOnReading, StopsFilling, NoFeed, HasNoFeed, AreTakenTo, IsPending, Keeps, KeepsBy}
 use Rattle.map_texts.proofs.LineLaws.{is_passed-append, is_passed-front, passed_line, passed_cut, long_line, long_cut, longest_line-six}
 use Rattle.map_texts.proofs.Splitting.{line_taken, line_refused, front_same, front_refused}
 

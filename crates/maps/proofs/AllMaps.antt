@@ -1,30 +1,10 @@
 -- The stores of all maps, and the maps that contracts see.
-use Rattle.std.proofs.Common.{◌≡◌, ℕ, ◌<◌, List, [], ◌∷◌, length, map, Option, Some, refl, sym, ap, subst, ◌∙◌, arith}
-use Rattle.std.proofs.Math.Seq.{map-set_same}
-use Rattle.std.proofs.lemmas.List.{map-set, get_or-map, get_or-set_same, length-map, length-set}
-use Rattle.std.proofs.lemmas.List.Elements.{All-set}
-use Rattle.std.specs.Prelude.{◌≤◌, slice_index_or, slice_set}
-use Rattle.std.specs.List.{slice_get}
-use Rattle.std.specs.Option.{option_map}
-use Rattle.isa_model.specs.declared.map_defs.MapType.TheVariants.{Array, Hash}
-use Rattle.isa_model.specs.declared.map_defs.MapDef.{MapDef}
-use Rattle.maps.specs.declared.either.EitherIndex.{EitherIndex}
+use Rattle.maps.proofs.Common.{◌≡◌, ℕ, ◌<◌, List, [], ◌∷◌, length, map, Option, Some, refl, sym, ap, subst, ◌∙◌, arith, ◌≤◌, slice_index_or, slice_set, map-set_same, map-set, get_or-map, get_or-set_same, length-map, length-set, All-set, slice_get, option_map, Array, Hash, MapDef, EitherIndex, KeyValues, AreBytes, IsKey, array_places, places_of, kind_of, room_of, either_in_range, either_apart, either_few, IsRow, MapState, IsMap, map_at, with_block, ordered_in, rows_of, listed_of, with_key_of, block_row, below-same, at_most-same, state_by, IsListed, IsLeastHashRoom, HaveRoom}
 use Rattle.maps.specs.declared.either.EitherIndex.TheVariants as either
 use Rattle.maps.specs.contracts.either.EitherIndexIndex.TheImpl as indexes
 use Rattle.maps.specs.declared.store.Store.{Store}
-use Rattle.isa_model.specs.Machine.States.{KeyValues}
-use Rattle.isa_model.specs.Machine.MachineStates.{AreBytes}
-use Rattle.map_indexes.specs.PlaceKeys.{IsKey}
-use Rattle.map_indexes.specs.ArrayPlaces.{array_places}
-use Rattle.maps.specs.Either.{places_of, kind_of, room_of, either_in_range, either_apart, either_few}
 use Rattle.maps.proofs.EitherLaws.{either_keys}
-use Rattle.isa_model.specs.Code.MapRows.{IsRow}
-use Rattle.maps.specs.Maps.{MapState, IsMap, map_at, with_block, ordered_in, rows_of}
-use Rattle.maps.specs.ReportOrder.{listed_of, with_key_of}
 use Rattle.maps.proofs.ReportOrderLaws.{listed-place, key_value-value, key_value-key}
-use Rattle.map_indexes.specs.BlockRows.{block_row}
-use Rattle.map_indexes.specs.BlockRowLaws.{below-same, at_most-same}
-use Rattle.maps.specs.StoreStates.{state_by, IsListed, IsLeastHashRoom, HaveRoom}
 
 abbrev pub EitherStore : Type 0
 EitherStore = Store EitherIndex indexes.ghosts

@@ -1,15 +1,7 @@
 -- Commands on a map, one after the other.
-use Rattle.std.proofs.Common.{◌≡◌, ℕ, suc, ◌+◌, ◌<◌, List, [], ◌∷◌, ◌++◌, length, take, map, refl, sym, ap, subst, ◌∙◌, arith}
-use Rattle.std.proofs.lemmas.List.{map-append}
-use Rattle.std.proofs.Math.Seq.{take-suc}
-use Rattle.std.specs.Prelude.{slice_index_or}
-use Rattle.isa_model.specs.declared.map_defs.MapDef.{MapDef}
-use Rattle.isa_model.specs.Machine.States.{KeyValues}
+use Rattle.maps.proofs.Common.{◌≡◌, ℕ, suc, ◌+◌, ◌<◌, List, [], ◌∷◌, ◌++◌, length, take, map, refl, sym, ap, subst, ◌∙◌, arith, slice_index_or, map-append, take-suc, MapDef, KeyValues, Places, content, Said, said, reply_to, content_after, replies_of, content_left}
 use Rattle.maps.specs.declared.commands.MapCommand.{MapCommand}
 use Rattle.maps.specs.declared.commands.Reply.{Reply}
-use Rattle.map_indexes.specs.PlaceKeys.{Places}
-use Rattle.maps.specs.Contents.{content}
-use Rattle.maps.specs.Commands.{Said, said, reply_to, content_after, replies_of, content_left}
 
 -- one command more has its reply by what the others left
 pub replies_of-snoc : (row : MapDef) (content : KeyValues) (cs : List MapCommand) (c : MapCommand)

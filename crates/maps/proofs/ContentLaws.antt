@@ -1,19 +1,8 @@
 -- Laws of a map's content after a value is written, a key is added, or a key is removed.
-use Rattle.std.proofs.Common.{◌≡◌, ℕ, ◌*◌, ◌<◌, List, length, Option, Some, None, Bool, true, false, cond, refl, sym, ap, subst, ◌∙◌}
-use Rattle.std.specs.Prelude.{is_some, not, T}
-use Rattle.std.specs.Option.{option_map}
+use Rattle.maps.proofs.Common.{◌≡◌, ℕ, ◌*◌, ◌<◌, List, length, Option, Some, None, Bool, true, false, cond, refl, sym, ap, subst, ◌∙◌, is_some, not, T, option_map, nat_list_cmp_total, KeyValues, key_order, is_key, at_key, has_key, with_key, without_key, block_row, with_block_row, block_row-written, block_row-other, Places, TakesPlace, is_key-itself, is_key-equal, content}
 use Rattle.std.specs.Cmp.{eq_by_cmp_equiv}
-use Rattle.std.specs.Cmp.Lexicographic.{nat_list_cmp_total}
 use Rattle.std.specs.FinMap.{get, insert, remove, len, entries, entries_sorted, get-entries, len-entries, get-insert, get-remove, slice_cmp-IsAntisymmetric, nat_cmp-IsAntisymmetric}
 use Rattle.std.specs.FinMap.Entries.{find, is_sorted, find-put, find-where_key, is_sorted-put, is_sorted-where_key, same_entries}
-use Rattle.isa_model.specs.Machine.States.{KeyValues}
-use Rattle.isa_model.specs.Machine.MapContents.{key_order, is_key, at_key, has_key, with_key, without_key}
-use Rattle.map_indexes.specs.BlockRows.{block_row, with_block_row}
-use Rattle.map_indexes.specs.BlockRowLaws.{block_row-written, block_row-other}
-use Rattle.map_indexes.specs.PlaceKeys.{Places, TakesPlace}
-use Rattle.map_indexes.proofs.PlaceKeysLaws.{is_key-itself}
-use Rattle.map_indexes.specs.PlaceKeyLaws.{is_key-equal}
-use Rattle.maps.specs.Contents.{content}
 use Rattle.maps.specs.ContentLaws.{find-changed, is_sorted-changed, length-changed}
 
 -- two contents in order that have the same at each key are equal

@@ -1,11 +1,7 @@
 -- The keys of an index of either map type are keys of its size.
-use Rattle.std.specs.Prelude.{◌≡◌, ℕ, List, Some}
-use Rattle.std.specs.FinMap.{get}
-use Rattle.maps.specs.declared.either.EitherIndex.{EitherIndex}
+use Rattle.maps.proofs.Common.{◌≡◌, ℕ, List, Some, get, EitherIndex, IsKey, key_size_of, places_of}
 use Rattle.maps.specs.declared.either.EitherIndex.TheVariants as either
 use Rattle.map_indexes.proofs.KeyBytes.{key_found, index_found}
-use Rattle.map_indexes.specs.PlaceKeys.{IsKey}
-use Rattle.maps.specs.Either.{key_size_of, places_of}
 
 pub either_keys : (s : EitherIndex) (k : List ℕ) (p : ℕ) → get (places_of s) k ≡ Some p
     → IsKey (key_size_of s) k

@@ -1,24 +1,12 @@
 -- A key's place among the places of all other keys, in the order of the keys.
-use Rattle.std.proofs.Common.{◌≡◌, ℕ, zero, suc, ◌+◌, ◌<◌, ◌≤◌, List, [], ◌∷◌, ◌++◌, Some, None, Bool, true, false, cond, map, take, drop, length, refl, sym, ap, subst, ◌∙◌, arith, inl, inr}
-use Rattle.std.specs.Prelude.{◌≢◌, T, slice_index_or}
-use Rattle.std.specs.List.{insert}
-use Rattle.std.specs.Ordering.{is_lt, ordering_reverse}
+use Rattle.maps.proofs.Common.{◌≡◌, ℕ, zero, suc, ◌+◌, ◌<◌, ◌≤◌, List, [], ◌∷◌, ◌++◌, Some, None, Bool, true, false, cond, map, take, drop, length, refl, sym, ap, subst, ◌∙◌, arith, inl, inr, ◌≢◌, T, slice_index_or, insert, is_lt, ordering_reverse, nat_list_cmp_total, below_all, by_order, put, below_or_above, length-map, slice_get-get_or, key_order, is_key, Places, PlaceKeys, key_in, places, got, is_key-equal, is_key-itself}
 use Rattle.std.specs.declared.cmp.Ordering.{Ordering}
 use Rattle.std.specs.declared.cmp.Ordering.TheVariants.{Less, Equal, Greater}
-use Rattle.std.specs.Cmp.Lexicographic.{nat_list_cmp_total}
 use Rattle.std.specs.FinMap.{entries, entries_sorted, entries-insert, get, get-insert, get-remove, insert as with_pair, is_sorted, remove, same_map, values, slice_cmp-IsAntisymmetric, nat_cmp-IsAntisymmetric}
-use Rattle.std.specs.FinMap.Entries.{below_all, by_order, put}
 use Rattle.std.proofs.Math.Dec.{eqb}
 use Rattle.std.proofs.Math.ListN.{get_or-map}
 use Rattle.std.proofs.lemmas.Bool.{eqb-true, eqb-false}
-use Rattle.map_indexes.specs.BlockRowLaws.{below_or_above}
-use Rattle.std.proofs.lemmas.List.{length-map}
-use Rattle.std.proofs.lemmas.Option.{slice_get-get_or}
-use Rattle.isa_model.specs.Machine.MapContents.{key_order, is_key}
 use Rattle.isa_model.proofs.TestLaws.{both_parts, less_is, is_less}
-use Rattle.map_indexes.specs.PlaceKeys.{Places, PlaceKeys, key_in, places}
-use Rattle.map_indexes.specs.PlaceKeyLaws.{got, is_key-equal}
-use Rattle.map_indexes.proofs.PlaceKeysLaws.{is_key-itself}
 use Rattle.maps.proofs.ReportOrderLaws.{above, get_at}
 
 abbrev Keyed : Type 0

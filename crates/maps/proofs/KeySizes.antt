@@ -1,10 +1,6 @@
 -- How long the keys of maps are.
-use Rattle.std.specs.Prelude.{◌≡◌, ℕ, ◌≤◌}
-use Rattle.std.proofs.Common.{arith}
+use Rattle.maps.proofs.Common.{◌≡◌, ℕ, ◌≤◌, arith, MapType, Hash, Array, KeyFits}
 use Rattle.isa_model.specs.Code.Limits.{max_key_size}
-use Rattle.isa_model.specs.declared.map_defs.MapType.{MapType}
-use Rattle.isa_model.specs.declared.map_defs.MapType.TheVariants.{Hash, Array}
-use Rattle.isa_model.specs.Code.MapRows.{KeyFits}
 
 -- no key has more than `max_key_size` bytes
 pub KeyFits-most : (kind : MapType) (n : ℕ) → KeyFits kind n → n ≤ max_key_size

@@ -1,5 +1,6 @@
 pub mod AllMaps
 pub mod CommandLaws
+mod Common
 pub mod ContentLaws
 pub mod EitherLaws
 pub mod InsertLaws

@@ -1,34 +1,15 @@
 -- The contents of maps fit their rows; maps start with the contents that programs start with; and a
 -- change of one map leaves the contents of the others.
-use Rattle.std.specs.Prelude.{◌≡◌, ℕ, zero, suc, ◌+◌, ◌-◌, ◌*◌, ◌^◌, ◌<◌, ◌≤◌, List, [], ◌∷◌, ◌++◌, length, map, fold, take, replicate, slice_index_or, slice_set, All, Some, refl, is_some}
-use Rattle.std.specs.List.{range_with_len}
-use Rattle.std.specs.FinMap.{empty, entries, get, len-empty}
-use Rattle.std.proofs.Common.{sym, ap, ◌∙◌, arith}
-use Rattle.std.proofs.lemmas.List.{drop-replicate, take-replicate, map-set, length-map, get_or-map}
-use Rattle.std.proofs.lemmas.List.Elements.{All-head, All-tail, All-map, All-take, All-drop, All-from_get_or}
+use Rattle.maps.proofs.Common.{◌≡◌, ℕ, zero, suc, ◌+◌, ◌-◌, ◌*◌, ◌^◌, ◌<◌, ◌≤◌, List, [], ◌∷◌, ◌++◌, length, map, fold, take, replicate, slice_index_or, slice_set, All, Some, is_some, sym, ap, ◌∙◌, arith, range_with_len, empty, entries, get, len-empty, drop-replicate, take-replicate, map-set, length-map, get_or-map, All-head, All-tail, All-map, All-take, All-drop, All-from_get_or, slice_get-get_or, map-set_same, little_bytes, little_number, MapType, Hash, Array, MapDef, KeyValues, key_order, with_key, IsKeyValue, KeysFit, keys_of, FitsRow, FitRows, array_places, content, starting_places, MapState, IsMap, content_in, contents_of, rows_of, map_at, starting_map, block_row, row_end, length-block_row, Places}
+use Rattle.std.specs.Prelude.{refl}
 use Rattle.std.proofs.lemmas.List.Sums.{fold-append}
-use Rattle.std.proofs.lemmas.Option.{slice_get-get_or}
-use Rattle.std.proofs.Math.Seq.{map-set_same}
-use Rattle.byteorder.specs.Endian.{little_bytes, little_number}
 use Rattle.byteorder.specs.Numbers.{little_number-reads_back}
-use Rattle.isa_model.specs.declared.map_defs.MapType.{MapType}
-use Rattle.isa_model.specs.declared.map_defs.MapType.TheVariants.{Hash, Array}
-use Rattle.isa_model.specs.declared.map_defs.MapDef.{MapDef}
-use Rattle.isa_model.specs.Machine.States.{KeyValues}
-use Rattle.isa_model.specs.Machine.MapContents.{key_order, with_key}
-use Rattle.isa_model.specs.Machine.MachineStates.{IsKeyValue, KeysFit, keys_of, FitsRow, FitRows}
 use Rattle.isa_model.proofs.PutKeys.{IsStrictlySortedBy-is_sorted, Contains-has_key}
 use Rattle.isa_model.specs.Reporting.Reports.{starting_key_values, starting_contents}
-use Rattle.map_indexes.specs.ArrayPlaces.{array_places}
 use Rattle.map_indexes.specs.ArrayLaws.{got_index}
 use Rattle.map_indexes.proofs.ArrayLaws.{get_index}
-use Rattle.maps.specs.Contents.{content, starting_places}
 use Rattle.maps.proofs.ContentLaws.{sorted-content, length-content, has_key-content, content-insert}
-use Rattle.maps.specs.Maps.{MapState, IsMap, content_in, contents_of, rows_of, map_at, starting_map}
 use Rattle.maps.proofs.ReportOrderLaws.{get_at}
-use Rattle.map_indexes.specs.BlockRows.{block_row}
-use Rattle.map_indexes.specs.BlockRowLaws.{row_end, length-block_row}
-use Rattle.map_indexes.specs.PlaceKeys.{Places}
 
 -- ---- a map's content fits its row
 

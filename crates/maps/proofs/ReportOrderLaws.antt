@@ -1,36 +1,14 @@
 -- Laws of the keys and values of a map in the order of the report.
-use Rattle.std.proofs.Common.{◌≡◌, ℕ, zero, suc, ◌+◌, ◌^◌, ◌<◌, ◌≤◌, List, [], ◌∷◌, Option, Some, None, Bool, true, false, cond, map, refl, sym, ap, subst, ◌∙◌, arith, inl, inr}
+use Rattle.maps.proofs.Common.{◌≡◌, ℕ, zero, suc, ◌+◌, ◌^◌, ◌<◌, ◌≤◌, List, [], ◌∷◌, Option, Some, None, Bool, true, false, cond, map, refl, sym, ap, subst, ◌∙◌, arith, inl, inr, T, is_some, slice_get-map, slice_get-get_or, slice_get_past, nat_list_cmp_total, entries, entries_sorted, find, get, get-entries, is_sorted, values, below_all, slice_get, filter_map, cons_option, range_with_len, option_map, is_eq, is_lt, ordering_reverse, little_bytes, MapType, Hash, Array, key_order, is_key, KeyValues, EitherIndex, array_places, content, places_of, kind_of, room_of, either_in_range, block_row, Places, PlaceKeys, key_in, places, is_key-itself, got, listed_of, with_key_of}
 use Rattle.std.proofs.lemmas.Bool.{cases_lt}
 use Rattle.std.proofs.lemmas.List.FromFn.{get_or-range_with_len, length-range_with_len}
-use Rattle.std.proofs.lemmas.Option.{slice_get-map, slice_get-get_or, slice_get_past}
-use Rattle.std.specs.Prelude.{T, is_some}
-use Rattle.std.specs.Cmp.Lexicographic.{nat_list_cmp_total}
-use Rattle.std.specs.FinMap.{entries, entries_sorted, find, get, get-entries, is_sorted, values}
-use Rattle.std.specs.FinMap.Entries.{below_all}
-use Rattle.std.specs.List.{slice_get, filter_map, cons_option, range_with_len}
-use Rattle.std.specs.Option.{option_map}
-use Rattle.std.specs.Ordering.{is_eq, is_lt, ordering_reverse}
 use Rattle.std.specs.declared.cmp.Ordering.{Ordering}
 use Rattle.std.specs.declared.cmp.Ordering.TheVariants.{Less, Equal, Greater}
-use Rattle.byteorder.specs.Endian.{little_bytes}
-use Rattle.isa_model.specs.declared.map_defs.MapType.{MapType}
-use Rattle.isa_model.specs.declared.map_defs.MapType.TheVariants.{Hash, Array}
-use Rattle.isa_model.specs.Machine.MapContents.{key_order, is_key}
-use Rattle.isa_model.specs.Machine.States.{KeyValues}
 use Rattle.isa_model.specs.Reporting.Reports.{in_report_order, key_value_by_index}
 use Rattle.isa_model.proofs.TestLaws.{both_parts}
-use Rattle.maps.specs.declared.either.EitherIndex.{EitherIndex}
 use Rattle.maps.specs.declared.either.EitherIndex.TheVariants as either
 use Rattle.map_indexes.proofs.ArrayLaws.{get_index}
-use Rattle.map_indexes.specs.ArrayPlaces.{array_places}
 use Rattle.maps.proofs.ContentLaws.{at_key-content}
-use Rattle.maps.specs.Contents.{content}
-use Rattle.maps.specs.Either.{places_of, kind_of, room_of, either_in_range}
-use Rattle.map_indexes.specs.BlockRows.{block_row}
-use Rattle.map_indexes.specs.PlaceKeys.{Places, PlaceKeys, key_in, places}
-use Rattle.map_indexes.proofs.PlaceKeysLaws.{is_key-itself}
-use Rattle.map_indexes.specs.PlaceKeyLaws.{got}
-use Rattle.maps.specs.ReportOrder.{listed_of, with_key_of}
 
 all_some : {Y : Type 0} (h : ℕ → Option Y) (f : ℕ → Y) (a n : ℕ)
     → ((i : ℕ) → a ≤ i → i < a + n → h i ≡ Some (f i))

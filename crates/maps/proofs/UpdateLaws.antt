@@ -1,16 +1,6 @@
 -- The answers to updates and deletes of a map's content, and what the content is after each.
-use Rattle.std.proofs.Common.{◌≡◌, ℕ, ◌*◌, ◌<◌, List, length, Option, Some, None, Bool, true, false, refl, sym, ap, ◌∙◌, arith}
-use Rattle.std.specs.Prelude.{◌^◌, ◌-◌, ◌≢◌, ◌==◌, is_some, IsSome, IfSome, nat_lt, nat_le, if◌then◌else◌}
-use Rattle.std.specs.FinMap.{get, len}
-use Rattle.isa_model.specs.declared.map_defs.MapType.{MapType}
-use Rattle.isa_model.specs.declared.map_defs.MapType.TheVariants.{Hash, Array}
-use Rattle.isa_model.specs.declared.map_defs.MapDef.{MapDef}
-use Rattle.isa_model.specs.Machine.States.{KeyValues}
-use Rattle.isa_model.specs.Machine.MapContents.{with_key, without_key, enoent, e2big, exist, update_answer_by, delete_answer_by, update_answer, delete_answer, after_update, after_delete}
-use Rattle.map_indexes.specs.BlockRows.{with_block_row}
-use Rattle.maps.specs.Contents.{content}
+use Rattle.maps.proofs.Common.{◌≡◌, ℕ, ◌*◌, ◌<◌, List, length, Option, Some, None, Bool, true, false, refl, sym, ap, ◌∙◌, arith, ◌^◌, ◌-◌, ◌≢◌, ◌==◌, is_some, IsSome, IfSome, nat_lt, nat_le, if◌then◌else◌, get, len, MapType, Hash, Array, MapDef, KeyValues, with_key, without_key, enoent, e2big, exist, update_answer_by, delete_answer_by, update_answer, delete_answer, after_update, after_delete, with_block_row, content, Places, TakesPlace}
 use Rattle.maps.proofs.ContentLaws.{has_key-content, length-content, content-written, content-added, content-removed, get-taken}
-use Rattle.map_indexes.specs.PlaceKeys.{Places, TakesPlace}
 use Rattle.maps.specs.Changes.{WritesPair, Updates, Deletes}
 
 -- a test of a number for 0

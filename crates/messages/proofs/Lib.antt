@@ -1,3 +1,4 @@
+mod Common
 pub mod MessagesLaws
 pub mod ReasonLaws
 mod ShownNames

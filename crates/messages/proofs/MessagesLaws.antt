@@ -1,9 +1,6 @@
 -- Messages of which only a beginning was written.
-use Rattle.std.proofs.Common.{ℕ, List, Option, Some, None}
-use Rattle.exact_io.specs.Transfers.{AppendsBeginning}
-use Rattle.exact_io.proofs.TransferLaws.{AppendsBeginning-first}
+use Rattle.messages.proofs.Common.{ℕ, List, Option, Some, None, AppendsBeginning, AppendsBeginning-first, entry_position, insn_position, step_position}
 use Rattle.isa_model.specs.declared.instructions.Insn.{Insn}
-use Rattle.messages.specs.Messages.{entry_position, insn_position, step_position}
 
 -- writing the index of an entry failed, so its slot, if it is known, was not written
 pub step_failed : (old new : Option (List ℕ)) (index : ℕ) (position : Option (ℕ × Insn))

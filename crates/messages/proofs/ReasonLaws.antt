@@ -1,10 +1,8 @@
 -- The text about a refusal: the lines of a state, or of the instruction in refused control flow.
-use Rattle.std.proofs.Common.{◌≡◌, ℕ, Some, String, Result, Ok, Err}
-use Rattle.std.specs.Prelude.{IfOk, IfSome}
+use Rattle.messages.proofs.Common.{◌≡◌, ℕ, Some, String, Result, Ok, Err, IfOk, IfSome, string_bytes}
 use Rattle.std.specs.Result.{result_ok}
 use Rattle.std.specs.declared.alloc.Global.{Global}
 use Rattle.std.specs.declared.alloc.AllocError.{AllocError}
-use Rattle.std.specs.String.{string_bytes}
 use Rattle.isa_model.specs.declared.instructions.Insn.{Insn}
 use Rattle.isa_model.specs.Code.Instructions.{Program, fetch}
 use Rattle.control_flow.specs.declared.errors.FlowError.{FlowError}

@@ -1,11 +1,6 @@
 -- Laws of names that are written byte by byte, until a write fails.
-use Rattle.std.proofs.Common.{◌≡◌, ℕ, ◌<◌, List, [], ◌∷◌, ◌++◌, length, drop, Option, sym, ap, ap₂, ◌∙◌, subst, arith}
-use Rattle.std.specs.Prelude.{slice_index}
-use Rattle.std.specs.Io.KnownBytes.{Appends}
+use Rattle.messages.proofs.Common.{◌≡◌, ℕ, ◌<◌, List, [], ◌∷◌, ◌++◌, length, drop, Option, sym, ap, ap₂, ◌∙◌, subst, arith, slice_index, Appends, AppendsBeginning, AppendsBeginning-first, AppendsBeginning-second, shown_byte, shown_from}
 use Rattle.std.proofs.KnownBytes.{Appends-trans}
-use Rattle.exact_io.specs.Transfers.{AppendsBeginning}
-use Rattle.exact_io.proofs.TransferLaws.{AppendsBeginning-first, AppendsBeginning-second}
-use Rattle.messages.specs.Names.{shown_byte, shown_from}
 
 shown_next : (before byte next : ℕ) (rest after : List ℕ) → 0 < length rest
     → byte ≡ slice_index rest 0 → after ≡ drop 1 rest → next ≡ slice_index after 0

@@ -1,10 +1,6 @@
 -- Texts that were written one after another, until one failed.
-use Rattle.std.proofs.Common.{◌≡◌, ℕ, List, ◌++◌, Option, Result, Ok, Err, subst}
-use Rattle.std.specs.Prelude.{OnOk, OnErr}
-use Rattle.std.specs.Io.KnownBytes.{Appends}
+use Rattle.messages.proofs.Common.{◌≡◌, ℕ, List, ◌++◌, Option, Result, Ok, Err, subst, OnOk, OnErr, Appends, AppendsBeginning, AppendsBeginning-first, AppendsBeginning-second}
 use Rattle.std.proofs.KnownBytes.{Appends-trans}
-use Rattle.exact_io.specs.Transfers.{AppendsBeginning}
-use Rattle.exact_io.proofs.TransferLaws.{AppendsBeginning-first, AppendsBeginning-second}
 
 -- a fact that follows from one on an error, holds on an error
 pub on_err_too : {X E : Type 0} (P Q : Type 0) (r : Result X E) → (P → Q) → OnErr r P → OnErr r Q

@@ -1,16 +1,8 @@
 -- Entries are read from their spelling, whatever follows.
-use Rattle.std.specs.Prelude.{◌≡◌, ℕ, suc, ◌-◌, ◌^◌, ◌<◌, ◌≤◌, nat_lt, ◌==◌, ◌||◌, true, false, List, [], ◌∷◌, ◌++◌, length, drop, All, Some, Ok, refl}
-use Rattle.std.specs.List.{flat_map}
-use Rattle.std.proofs.Common.{ap, ◌∙◌, append_assoc, length-append, arith}
+use Rattle.proof_table.proofs.Common.{◌≡◌, ℕ, suc, ◌-◌, ◌^◌, ◌<◌, ◌≤◌, nat_lt, ◌==◌, ◌||◌, true, false, List, [], ◌∷◌, ◌++◌, length, drop, All, Some, Ok, ap, ◌∙◌, append_assoc, length-append, arith, flat_map, le-ltb, little_bytes, little_number, little_number-reads_back, Program, Entry, named_in, head_allowed, rest_in, entry_in, frame_bytes, named_bytes, entry_bytes, EntryFits}
+use Rattle.std.specs.Prelude.{refl}
 use Rattle.std.proofs.Math.Dec.{eqb-suc-zero}
-use Rattle.std.proofs.lemmas.Bool.{le-ltb}
-use Rattle.byteorder.specs.Endian.{little_bytes, little_number}
-use Rattle.byteorder.specs.Numbers.{little_number-reads_back}
-use Rattle.isa_model.specs.Code.Instructions.{Program}
 use Rattle.isa_model.specs.Code.Limits.{max_call_frames}
-use Rattle.table_entries.specs.Entries.{Entry, named_in, head_allowed, rest_in, entry_in}
-use Rattle.proof_table.specs.Spelling.{frame_bytes, named_bytes, entry_bytes}
-use Rattle.proof_table.specs.Fitting.{EntryFits}
 use Rattle.proof_table.proofs.KindLaws.{byte-reads, sized-reads}
 use Rattle.proof_table.proofs.FrameLaws.{frame_in-reads, callers_in-reads}
 

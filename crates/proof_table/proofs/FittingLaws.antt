@@ -1,21 +1,9 @@
 -- What fits into a table, and how it is spelled.
-use Rattle.std.specs.Prelude.{◌≡◌, ℕ, suc, ◌^◌, ◌<◌, ◌≤◌, ◌↔◌, IsTrue, Bool, true, false, List, [], ◌∷◌, ◌++◌, length, map, get_or, All, refl}
-use Rattle.std.specs.List.{flat_map}
-use Rattle.std.proofs.Common.{ap, sym, ◌∙◌, subst, arith}
-use Rattle.std.proofs.lemmas.List.{length-map, get_or-map}
-use Rattle.std.proofs.lemmas.List.Elements.{All-map}
-use Rattle.byteorder.specs.Endian.{little_bytes}
-use Rattle.isa_model.specs.Code.Instructions.{Program}
+use Rattle.proof_table.proofs.Common.{◌≡◌, ℕ, suc, ◌^◌, ◌<◌, ◌≤◌, ◌↔◌, IsTrue, Bool, true, false, List, [], ◌∷◌, ◌++◌, length, map, get_or, All, ap, sym, ◌∙◌, subst, arith, flat_map, length-map, get_or-map, All-map, little_bytes, Program, StackSlot, Written, Spilled, AbstractFrame, frame_slots, Entry, head_allowed, kind_bytes, stack_slot_bytes, frame_bytes, named_bytes, entry_bytes, KindFits, StackSlotFits, FrameFits, EntryFits, stack_slot_said, frame_said, entry_said}
+use Rattle.std.specs.Prelude.{refl}
 use Rattle.isa_model.specs.Code.Limits.{max_call_frames}
 use Rattle.reg_state.specs.declared.kinds.Kind.TheVariants.{Unset, Number, Context, Stack, Packet, PacketEnd, Map, MapValue, MapValueOrNull}
-use Rattle.stack_state.specs.declared.slots.StackSlot.{StackSlot}
-use Rattle.stack_state.specs.declared.slots.StackSlot.TheVariants.{Written, Spilled}
-use Rattle.stack_state.specs.declared.states.AbstractFrame.{AbstractFrame}
-use Rattle.stack_state.specs.Slots.{frame_slots}
 use Rattle.table_entries.specs.Frames.{frame_allowed}
-use Rattle.table_entries.specs.Entries.{Entry, head_allowed}
-use Rattle.proof_table.specs.Spelling.{kind_bytes, stack_slot_bytes, frame_bytes, named_bytes, entry_bytes}
-use Rattle.proof_table.specs.Fitting.{KindFits, StackSlotFits, FrameFits, EntryFits, stack_slot_said, frame_said, entry_said}
 
 -- ---- the tests
 

@@ -1,17 +1,8 @@
 -- Call frames are read from their spelling, whatever follows.
-use Rattle.std.specs.Prelude.{◌≡◌, ℕ, zero, suc, ◌+◌, ◌<◌, nat_lt, Bool, true, false, List, [], ◌∷◌, ◌++◌, length, get_or, Some, Ok, refl}
-use Rattle.std.specs.List.{flat_map}
-use Rattle.std.proofs.Common.{ap, ◌∙◌, subst, append_assoc, length-append, arith}
-use Rattle.std.proofs.lemmas.Bool.{le-ltb}
-use Rattle.byteorder.specs.Endian.{little_bytes, little_number}
-use Rattle.byteorder.specs.Numbers.{little_number-reads_back}
-use Rattle.stack_state.specs.declared.states.AbstractFrame.{AbstractFrame}
-use Rattle.stack_state.specs.Slots.{frame_slots}
-use Rattle.table_entries.specs.Reading.{Read, then_read, joined, many}
+use Rattle.proof_table.proofs.Common.{◌≡◌, ℕ, zero, suc, ◌+◌, ◌<◌, nat_lt, Bool, true, false, List, [], ◌∷◌, ◌++◌, length, get_or, Some, Ok, ap, ◌∙◌, subst, append_assoc, length-append, arith, flat_map, le-ltb, little_bytes, little_number, little_number-reads_back, AbstractFrame, frame_slots, Read, then_read, joined, many, kind_bytes, stack_slot_bytes, frame_bytes, KindFits, StackSlotFits, FrameFits}
+use Rattle.std.specs.Prelude.{refl}
 use Rattle.table_entries.specs.Kinds.{kind_in, stack_slot_in}
 use Rattle.table_entries.specs.Frames.{frame_in, callers_in}
-use Rattle.proof_table.specs.Spelling.{kind_bytes, stack_slot_bytes, frame_bytes}
-use Rattle.proof_table.specs.Fitting.{KindFits, StackSlotFits, FrameFits}
 use Rattle.proof_table.proofs.KindLaws.{kind_in-reads, stack_slot_in-reads}
 
 -- what is spelled one after the other is read one after the other, from the k-th on

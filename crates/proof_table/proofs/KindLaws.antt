@@ -1,27 +1,18 @@
 -- Kinds and stack slots are read from their spelling, whatever follows.
-use Rattle.std.specs.Prelude.{◌≡◌, ℕ, ◌^◌, ◌<◌, ◌≤◌, nat_lt, ℤ, pos, ◌≤ℤ◌, FitsSigned, ◌==◌, ◌&&◌, not, Bool, true, false, if◌then◌else◌, List, [], ◌∷◌, ◌++◌, length, drop, Option, Some, None, Ok, refl}
+use Rattle.proof_table.proofs.Common.{◌≡◌, ℕ, ◌^◌, ◌<◌, ◌≤◌, nat_lt, ℤ, pos, ◌≤ℤ◌, FitsSigned, ◌==◌, ◌&&◌, not, Bool, true, false, if◌then◌else◌, List, [], ◌∷◌, ◌++◌, length, drop, Option, Some, None, Ok, ap, ◌∙◌, append_assoc, length-append, arith, le-ltb, drop_at, little_bytes, little_number, little_number-reads_back, StackSlot, Written, Spilled, sized, signed_4, signed_8, bits_bytes, wide_bytes, low_bytes, scalar_bytes, stack_bytes, packet_bytes, value_bytes, null_bytes, kind_bytes, stack_slot_bytes, WideFits, LowFits, ScalarFits, StackFits, PacketFits, MapFits, ValueFits, NullFits, KindFits, StackSlotFits}
+use Rattle.std.specs.Prelude.{refl}
 use Rattle.std.specs.Option.{option_map}
 use Rattle.std.specs.Int.{w32, w64, cast_signed, cast_unsigned}
-use Rattle.std.proofs.Common.{ap, ◌∙◌, append_assoc, length-append, arith}
 use Rattle.std.proofs.Math.Facts.{Fits-of_z, Fits-lt-pow}
 use Rattle.std.proofs.lemmas.Int.{to_z-of_z}
-use Rattle.std.proofs.lemmas.Bool.{le-ltb}
-use Rattle.std.proofs.lemmas.List.{drop_at}
-use Rattle.byteorder.specs.Endian.{little_bytes, little_number}
-use Rattle.byteorder.specs.Numbers.{little_number-reads_back}
 use Rattle.known_bits.specs.declared.bits.Bits.{Bits}
 use Rattle.ranges.specs.declared.wide.Wide.{Wide}
 use Rattle.ranges.specs.declared.low.Low.{Low}
 use Rattle.reg_state.specs.declared.scalars.Scalar.{Scalar}
 use Rattle.reg_state.specs.declared.kinds.Kind.{Kind}
 use Rattle.reg_state.specs.declared.kinds.Kind.TheVariants.{Unset, Number, Context, Stack, Packet, PacketEnd, Map, MapValue, MapValueOrNull}
-use Rattle.stack_state.specs.declared.slots.StackSlot.{StackSlot}
-use Rattle.stack_state.specs.declared.slots.StackSlot.TheVariants.{Written, Spilled}
-use Rattle.table_entries.specs.Reading.{sized}
 use Rattle.table_entries.specs.Kinds.{signed_32, signed_64, bits_of, wide_of, low_of, range_of, scalar_of, bits_in, wide_in, low_in, scalar_in, limits_of, limits_in, has_no_part, lacks_identity, packet_of, packet_in, stack_in, map_in, value_of, value_in, null_in, fields_in, kind_in, spilled_in, stack_slot_in}
 use Rattle.table_entries.proofs.KindLaws.{bits_of-is, wide_of-is, low_of-is, limits_of-some}
-use Rattle.proof_table.specs.Spelling.{signed_4, signed_8, bits_bytes, wide_bytes, low_bytes, scalar_bytes, stack_bytes, packet_bytes, value_bytes, null_bytes, kind_bytes, stack_slot_bytes}
-use Rattle.proof_table.specs.Fitting.{WideFits, LowFits, ScalarFits, StackFits, PacketFits, MapFits, ValueFits, NullFits, KindFits, StackSlotFits}
 
 -- ---- numbers
 

@@ -1,3 +1,4 @@
+mod Common
 pub mod FittingLaws
 pub mod KindLaws
 pub mod FrameLaws

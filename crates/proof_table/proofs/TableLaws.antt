@@ -1,19 +1,9 @@
 -- Tables are read from their spelling.
-use Rattle.std.specs.Prelude.{◌≡◌, ℕ, zero, suc, ◌+◌, ◌≤◌, nat_lt, ◌==◌, false, List, [], ◌∷◌, ◌++◌, length, drop, map, All, Option, Some, None, Result, Ok, refl}
-use Rattle.std.specs.List.{flat_map}
-use Rattle.std.proofs.Common.{ap, sym, ◌∙◌, append_assoc, append-nil, length-append, arith}
-use Rattle.std.proofs.lemmas.Bool.{le-ltb}
-use Rattle.std.proofs.lemmas.List.Elements.{All-head, All-tail}
-use Rattle.byteorder.specs.Endian.{little_number}
-use Rattle.byteorder.specs.Numbers.{little_number-reads_back}
-use Rattle.isa_model.specs.Code.Instructions.{Program}
+use Rattle.proof_table.proofs.Common.{◌≡◌, ℕ, zero, suc, ◌+◌, ◌≤◌, nat_lt, ◌==◌, false, List, [], ◌∷◌, ◌++◌, length, drop, map, All, Option, Some, None, Result, Ok, ap, sym, ◌∙◌, append_assoc, append-nil, length-append, arith, flat_map, le-ltb, All-head, All-tail, little_number, little_number-reads_back, Program, Read, Entry, entry_bytes, head_bytes, table_bytes, EntryFits}
+use Rattle.std.specs.Prelude.{refl}
 use Rattle.table_entries.specs.declared.refusals.TableRefusal.{TableRefusal}
 use Rattle.isa_model.specs.declared.limits.TheConstants.{MAX_EXPLORED}
-use Rattle.table_entries.specs.Reading.{Read}
-use Rattle.table_entries.specs.Entries.{Entry}
 use Rattle.table_entries.specs.Tables.{before, then_entries, entries_in, to_the_end, count_in, with_count, first_none, all_of, unless, all_allowed, table_read}
-use Rattle.proof_table.specs.Spelling.{entry_bytes, head_bytes, table_bytes}
-use Rattle.proof_table.specs.Fitting.{EntryFits}
 use Rattle.proof_table.proofs.EntryLaws.{entry_in-reads}
 
 entries_in-reads : (p : Program) (es : List Entry) (n k : ℕ) (rest : List ℕ) → length es ≡ n

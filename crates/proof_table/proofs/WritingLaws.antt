@@ -1,33 +1,18 @@
 -- Tables and their entries that were written, whole or in part.
-use Rattle.std.specs.Prelude.{◌≡◌, ℕ, zero, suc, ◌+◌, ◌-◌, ◌^◌, ◌<◌, ◌≤◌, min, List, [], ◌∷◌, ◌++◌, length, take, replicate, slice_get, All, Option, Some, Ok, refl}
+use Rattle.proof_table.proofs.Common.{◌≡◌, ℕ, zero, suc, ◌+◌, ◌-◌, ◌^◌, ◌<◌, ◌≤◌, min, List, [], ◌∷◌, ◌++◌, length, take, replicate, slice_get, All, Option, Some, Ok, ap, sym, ◌∙◌, subst, append-nil, length-append, arith, flat_map, All-nil, All-cons, All-append, All-push, All-replicate, All-from_recursion, Appends, Program, AppendsBeginning, IsImage, Written, frame_slots, start, first_registers, HasNumber, OfStart, Entry, entry_bytes, head_bytes, table_bytes, KindFits, StackSlotFits, EntryFits, entry_said, IsForTable, IsTableSize, GainsTable, GainsTableOf, BeginsTable, GainsEntries, BeginsEntries, SpellsEntry, IsNumberedAs, OfFirst, entry_for, entries_for, table_length}
+use Rattle.std.specs.Prelude.{refl}
 use Rattle.std.specs.Option.{is_some}
-use Rattle.std.specs.List.{flat_map}
-use Rattle.std.proofs.Common.{ap, sym, ◌∙◌, subst, append-nil, length-append, arith}
 use Rattle.std.proofs.lemmas.List.{length-replicate, map-append, take_all}
 use Rattle.std.proofs.lemmas.Option.{slice_get_within, get_or_from_slice_get}
 use Rattle.std.proofs.Math.Seq.{take-suc}
 use Rattle.std.proofs.lemmas.Grind.{flat_map-append}
-use Rattle.std.proofs.lemmas.List.Elements.{All-nil, All-cons, All-append, All-push, All-replicate, All-from_recursion}
-use Rattle.std.specs.Io.KnownBytes.{Appends}
 use Rattle.std.proofs.KnownBytes.{Appends-nil, Appends-trans}
-use Rattle.isa_model.specs.Code.Instructions.{Program}
-use Rattle.exact_io.specs.Transfers.{AppendsBeginning}
 use Rattle.exact_io.proofs.TransferLaws.{AppendsBeginning-first, AppendsBeginning-second}
-use Rattle.image.specs.Images.{IsImage}
 use Rattle.image.proofs.ImageLaws.{fetch-zero}
-use Rattle.stack_state.specs.declared.slots.StackSlot.TheVariants.{Written}
 use Rattle.stack_state.specs.declared.states.State.{State}
-use Rattle.stack_state.specs.Slots.{frame_slots}
-use Rattle.stack_state.specs.Starts.{start, first_registers}
-use Rattle.walks.specs.Counts.{HasNumber}
 use Rattle.listeners.specs.declared.listing.ExploredInsn.{ExploredInsn}
-use Rattle.listeners.specs.Listed.{OfStart}
 use Rattle.isa_model.specs.declared.limits.TheConstants.{MAX_EXPLORED}
-use Rattle.table_entries.specs.Entries.{Entry}
 use Rattle.table_entries.specs.Tables.{table_read}
-use Rattle.proof_table.specs.Spelling.{entry_bytes, head_bytes, table_bytes}
-use Rattle.proof_table.specs.Fitting.{KindFits, StackSlotFits, EntryFits, entry_said}
-use Rattle.proof_table.specs.Writing.{IsForTable, IsTableSize, GainsTable, GainsTableOf, BeginsTable, GainsEntries, BeginsEntries, SpellsEntry, IsNumberedAs, OfFirst, entry_for, entries_for, table_length}
 use Rattle.proof_table.proofs.FittingLaws.{entry_bytes-said}
 use Rattle.proof_table.proofs.TableLaws.{table_read-table_bytes}
 

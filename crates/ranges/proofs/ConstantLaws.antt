@@ -1,21 +1,7 @@
 -- An operation on two constants: the limits of its result, which is one too.
-use Rattle.std.proofs.Common.{ℕ, ℤ, ◌≡◌, ◌≤◌, ◌<◌, ◌*◌, ◌%◌, ◌^◌, ap, refl, sym, subst, subst₂, ◌∙◌, arith, w64}
-use Rattle.std.specs.Prelude.{◌*ℤ◌, ◌≤ℤ◌, pos}
-use Rattle.std.specs.Int.{w32, cast_signed}
-use Rattle.std.proofs.Math.Nat.{mod-eq_of_lt}
-use Rattle.isa_model.specs.declared.sizes.Width.{Width}
-use Rattle.isa_model.specs.declared.sizes.Width.TheVariants.{Low32, Full64}
-use Rattle.isa_model.specs.declared.instructions.AluOp.{AluOp}
-use Rattle.isa_model.specs.declared.instructions.AluOp.TheVariants.{Lsh}
-use Rattle.isa_model.specs.Code.Sizes.{width_bits}
-use Rattle.isa_model.specs.Code.Numbers.{alu, result_of, shift}
-use Rattle.isa_model.proofs.NumberLaws.{alu_below}
-use Rattle.isa_model.specs.Code.NumberLaws.{low_same}
-use Rattle.ranges.specs.Keeps.{KeepsUnsigned, KeepsSigned}
+use Rattle.ranges.proofs.Common.{ℕ, ℤ, ◌≡◌, ◌≤◌, ◌<◌, ◌*◌, ◌%◌, ◌^◌, ap, refl, sym, subst, subst₂, ◌∙◌, arith, w64, ◌*ℤ◌, ◌≤ℤ◌, pos, w32, cast_signed, mod-eq_of_lt, Width, Low32, Full64, AluOp, Lsh, width_bits, alu, result_of, shift, alu_below, low_same, KeepsUnsigned, KeepsSigned, Has, IsConstant, ReadsLow, Range}
 use Rattle.ranges.specs.Wides as W
 use Rattle.ranges.specs.Lows as L
-use Rattle.ranges.specs.Ranges.{Has, IsConstant, ReadsLow}
-use Rattle.ranges.specs.declared.range.Range.{Range}
 use Rattle.ranges.proofs.Limits.{shl_mono}
 use Rattle.ranges.proofs.KeepsLaws.{keeps_member, keeps_signed_member}
 use Rattle.ranges.proofs.LowResults.{low_result_of}

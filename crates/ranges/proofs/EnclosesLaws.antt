@@ -1,12 +1,7 @@
 -- What is within limits is within wider ones.
-use Rattle.std.proofs.Common.{ℕ, ◌%◌, ◌^◌, arith}
-use Rattle.std.proofs.lemmas.Int.{ints}
+use Rattle.ranges.proofs.Common.{ℕ, ◌%◌, ◌^◌, arith, ints, Has, IsConstant, Encloses, Wide, Low, Range}
 use Rattle.ranges.specs.Wides as W
 use Rattle.ranges.specs.Lows as L
-use Rattle.ranges.specs.Ranges.{Has, IsConstant, Encloses}
-use Rattle.ranges.specs.declared.wide.Wide.{Wide}
-use Rattle.ranges.specs.declared.low.Low.{Low}
-use Rattle.ranges.specs.declared.range.Range.{Range}
 
 -- what is within limits is within wider ones
 pub enclosed_wide : (a b : Wide) (x : ℕ) → W.Encloses a b → W.Has b x → W.Has a x

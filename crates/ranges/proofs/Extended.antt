@@ -1,17 +1,5 @@
 -- Low halves of sign extensions.
-use Rattle.std.proofs.Common.{◌≡◌, ℕ, ℤ, pos, negsuc, ◌+◌, ◌-◌, ◌%◌, ◌^◌, ◌<◌, ◌≤◌, inl, inr, refl, ap, ◌∙◌, arith}
-use Rattle.std.specs.Prelude.{◌≤ℤ◌, FitsSigned}
-use Rattle.std.specs.Int.{w8, w16, w32, cast_signed}
-use Rattle.std.proofs.lemmas.Int.{ints}
-use Rattle.std.proofs.lemmas.Nat.{mod_below}
-use Rattle.isa_model.specs.declared.sizes.Width.TheVariants.{Low32}
-use Rattle.isa_model.specs.declared.sizes.Extension.{Extension}
-use Rattle.isa_model.specs.declared.sizes.Extension.TheVariants.{Low8, Low16, Full8, Full16, Full32}
-use Rattle.isa_model.specs.Code.Numbers.{sign_extended}
-use Rattle.isa_model.specs.Code.Sizes.{width_bits, extension_bits, extension_width}
-use Rattle.isa_model.proofs.ExtensionLaws.{sign_extended_cases}
-use Rattle.std.proofs.Math.Facts.{sfits_to_z}
-use Rattle.ranges.specs.Keeps.{extension_signed}
+use Rattle.ranges.proofs.Common.{◌≡◌, ℕ, ℤ, pos, negsuc, ◌+◌, ◌-◌, ◌%◌, ◌^◌, ◌<◌, ◌≤◌, inl, inr, refl, ap, ◌∙◌, arith, ◌≤ℤ◌, FitsSigned, w8, w16, w32, cast_signed, ints, mod_below, Low32, Extension, Low8, Low16, Full8, Full16, Full32, sign_extended, width_bits, extension_bits, extension_width, sign_extended_cases, sfits_to_z, extension_signed}
 use Rattle.ranges.proofs.Limits.{fits_8, fits_16}
 use Rattle.ranges.proofs.LowLaws.{low_signed_equation}
 

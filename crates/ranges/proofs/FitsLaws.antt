@@ -1,8 +1,6 @@
 -- What is between two numbers of a signed type is a number of the type.
-use Rattle.std.proofs.Common.{ℤ, pos, negsuc, ◌≤◌, arith}
-use Rattle.std.specs.Prelude.{◌≤ℤ◌, FitsSigned}
+use Rattle.ranges.proofs.Common.{ℤ, pos, negsuc, ◌≤◌, arith, ◌≤ℤ◌, FitsSigned, ints}
 use Rattle.std.specs.Int.{Width as IntWidth}
-use Rattle.std.proofs.lemmas.Int.{ints}
 
 -- a number between two numbers of the type is one of the type
 pub fits_within : (w : IntWidth) (l g z : ℤ) → FitsSigned w l → FitsSigned w g → l ≤ℤ z → z ≤ℤ g

@@ -1,20 +1,5 @@
 -- The limits that an operation's result keeps have the results on two numbers between them.
-use Rattle.std.proofs.Common.{◌≡◌, ℕ, ℤ, ◌+◌, ◌-◌, ◌*◌, ◌%◌, ◌^◌, ◌<◌, ◌≤◌, pos, negsuc, zero, suc, refl, sym, ap, ◌∙◌, subst, arith, w64}
-use Rattle.std.specs.Prelude.{◌+ℤ◌, ◌-ℤ◌, ◌≤ℤ◌, FitsSigned, int_div, int_rem, unsigned_abs}
-use Rattle.std.specs.Int.{w32, cast_signed, int_shr}
-use Rattle.std.proofs.lemmas.Int.{ints, to_z-of_z}
-use Rattle.std.proofs.lemmas.Nat.{mul-le, and_le_l, and_le_r}
-use Rattle.std.proofs.Math.Nat.{mod-eq_of_lt, div-le_self}
-use Rattle.std.proofs.Math.Facts.{sfits_to_z}
-use lib.Signed.{mag_shr}
-use Rattle.isa_model.specs.declared.sizes.Width.{Width}
-use Rattle.isa_model.specs.declared.sizes.Width.TheVariants.{Low32, Full64}
-use Rattle.isa_model.specs.declared.instructions.AluOp.{AluOp}
-use Rattle.isa_model.specs.declared.instructions.AluOp.TheVariants.{Add, Sub, Mul, Div, SignedDiv, Or, And, Lsh, Rsh, Mod, SignedMod, Xor, Mov, Arsh}
-use Rattle.isa_model.specs.Code.Sizes.{width_bits}
-use Rattle.isa_model.specs.Code.Numbers.{result_of, shift, signed, unsigned}
-use Rattle.ranges.specs.Keeps.{KeepsUnsigned, KeepsSigned, KeepsSignedQuotient, KeepsSignedRemainder, signed_of}
-use Rattle.isa_model.proofs.NumberLaws.{div_mono}
+use Rattle.ranges.proofs.Common.{◌≡◌, ℕ, ℤ, ◌+◌, ◌-◌, ◌*◌, ◌%◌, ◌^◌, ◌<◌, ◌≤◌, pos, negsuc, zero, suc, refl, sym, ap, ◌∙◌, subst, arith, w64, ◌+ℤ◌, ◌-ℤ◌, ◌≤ℤ◌, FitsSigned, int_div, int_rem, unsigned_abs, w32, cast_signed, int_shr, ints, to_z-of_z, mul-le, and_le_l, and_le_r, mod-eq_of_lt, div-le_self, sfits_to_z, mag_shr, Width, Low32, Full64, AluOp, Add, Sub, Mul, Div, SignedDiv, Or, And, Lsh, Rsh, Mod, SignedMod, Xor, Mov, Arsh, width_bits, result_of, shift, signed, unsigned, KeepsUnsigned, KeepsSigned, KeepsSignedQuotient, KeepsSignedRemainder, signed_of, div_mono}
 use Rattle.ranges.proofs.Limits.{sum_from, sum_to, difference_from, difference_to, difference_low, shl_mono, zero_or_div, self_or_mod, mod_not_by_zero, div_not_by_zero, shr_mono, shr_fits, cast_fits}
 use Rattle.ranges.proofs.LowLaws.{low_signed_equation}
 use Rattle.ranges.proofs.QuotientLaws.{quotient_up, quotient_down, quotient_fits, quotient_fits_down, remainder_fits, remainder_within, remainder_near, remainder_by_zero, quotient_is, remainder_is, plain_quotient, plain_remainder}

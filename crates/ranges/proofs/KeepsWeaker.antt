@@ -1,18 +1,9 @@
 -- The limits that an operation's result keeps: a relation that they have may be replaced by a
 -- weaker one.
-use Rattle.std.specs.Prelude.{ℕ, zero, suc, ℤ, pos, negsuc, unsigned_abs}
-use Rattle.std.proofs.Common.{arith}
-use Rattle.std.proofs.lemmas.Int.{ints}
+use Rattle.ranges.proofs.Common.{ℕ, zero, suc, ℤ, pos, negsuc, unsigned_abs, arith, ints, Width, Low32, Full64, AluOp, Add, Sub, Mul, Div, SignedDiv, Or, And, Lsh, Rsh, Mod, SignedMod, Xor, Mov, Arsh, Low, Wide, KeepsUnsigned, KeepsSigned, KeepsSignedQuotient, KeepsSignedRemainder, signed_of}
 use Rattle.std.specs.Int.{Width as IntWidth, cast_signed}
-use Rattle.isa_model.specs.declared.sizes.Width.{Width}
-use Rattle.isa_model.specs.declared.sizes.Width.TheVariants.{Low32, Full64}
-use Rattle.isa_model.specs.declared.instructions.AluOp.{AluOp}
-use Rattle.isa_model.specs.declared.instructions.AluOp.TheVariants.{Add, Sub, Mul, Div, SignedDiv, Or, And, Lsh, Rsh, Mod, SignedMod, Xor, Mov, Arsh}
-use Rattle.ranges.specs.declared.low.Low.{Low}
-use Rattle.ranges.specs.declared.wide.Wide.{Wide}
 use Rattle.ranges.specs.Wides as W
 use Rattle.ranges.specs.Lows.{IsBetween, IsSignedBetween, Encloses, KeepsLimits, KeepsSignedLimits}
-use Rattle.ranges.specs.Keeps.{KeepsUnsigned, KeepsSigned, KeepsSignedQuotient, KeepsSignedRemainder, signed_of}
 
 -- the unsigned limits
 pub keeps_weaker : (op : AluOp) (w : Width) (al ag bl bg : ℕ) (P Q : ℕ → ℕ → Type 0)

@@ -1,23 +1,7 @@
 -- Limits of sums, differences, products, quotients, remainders, shifts and sign extensions.
-use Rattle.std.proofs.Common.{◌≡◌, ℕ, ℤ, pos, negsuc, zero, suc, ◌+◌, ◌-◌, ◌*◌, ◌/◌, ◌%◌, ◌^◌, ◌<◌, ◌≤◌, w64, refl, inl, inr, ap, ◌∙◌, arith, Bool, true, false, cond}
-use Rattle.std.specs.Prelude.{◌+ℤ◌, ◌-ℤ◌, ◌≤ℤ◌, FitsSigned, nat_eq}
+use Rattle.ranges.proofs.Common.{◌≡◌, ℕ, ℤ, pos, negsuc, zero, suc, ◌+◌, ◌-◌, ◌*◌, ◌/◌, ◌%◌, ◌^◌, ◌<◌, ◌≤◌, w64, refl, inl, inr, ap, ◌∙◌, arith, Bool, true, false, cond, ◌+ℤ◌, ◌-ℤ◌, ◌≤ℤ◌, FitsSigned, nat_eq, shr_z, mag_shr, le_z, sfits_to_z, ints, Low32, Full64, Extension, Low8, Low16, Full8, Full16, Full32, Arsh, width_bits, extension_bits, extension_width, result_of, sign_extended, signed_equation, sign_extended_cases, sign_extended_fits, sign_extended-small, cases_lt, lt-ltb, ne_eqb, le-div, pow_pos, mul-le, mod_below, div-mul-le_self, mod-eq_of_lt, div-le_self, mod-le, div-zero, add-mod_right, extension_signed}
 use mir.Val.{hbits}
 use Rattle.std.specs.Int.{Width as IntWidth, w8, w16, w32, cast_signed, cast_unsigned, int_shr}
-use lib.Signed.{shr_z, mag_shr, le_z}
-use Rattle.std.proofs.Math.Facts.{sfits_to_z}
-use Rattle.std.proofs.lemmas.Int.{ints}
-use Rattle.isa_model.specs.declared.sizes.Width.TheVariants.{Low32, Full64}
-use Rattle.isa_model.specs.declared.sizes.Extension.{Extension}
-use Rattle.isa_model.specs.declared.sizes.Extension.TheVariants.{Low8, Low16, Full8, Full16, Full32}
-use Rattle.isa_model.specs.declared.instructions.AluOp.TheVariants.{Arsh}
-use Rattle.isa_model.specs.Code.Sizes.{width_bits, extension_bits, extension_width}
-use Rattle.isa_model.specs.Code.Numbers.{result_of, sign_extended}
-use Rattle.isa_model.specs.Code.NumberLaws.{signed_equation}
-use Rattle.isa_model.proofs.ExtensionLaws.{sign_extended_cases, sign_extended_fits, sign_extended-small}
-use Rattle.std.proofs.lemmas.Bool.{cases_lt, lt-ltb, ne_eqb}
-use Rattle.std.proofs.lemmas.Nat.{le-div, pow_pos, mul-le, mod_below}
-use Rattle.std.proofs.Math.Nat.{div-mul-le_self, mod-eq_of_lt, div-le_self, mod-le, div-zero, add-mod_right}
-use Rattle.ranges.specs.Keeps.{extension_signed}
 
 -- ---- sums and differences that fit
 

@@ -1,14 +1,8 @@
 -- Laws of low halves: their signed readings, limits that are reached, and which halves the numbers
 -- between two limits have.
-use Rattle.std.proofs.Common.{◌≡◌, ℕ, ℤ, ◌+◌, ◌-◌, ◌*◌, ◌/◌, ◌%◌, ◌^◌, ◌<◌, ◌≤◌, ◌∙◌, inl, inr, ap, sym, subst, arith}
-use Rattle.std.specs.Prelude.{◌⊎◌, ◌↔◌, ◌≤ℤ◌, FitsSigned}
-use Rattle.std.specs.Int.{w32, cast_signed, cast_unsigned}
+use Rattle.ranges.proofs.Common.{◌≡◌, ℕ, ℤ, ◌+◌, ◌-◌, ◌*◌, ◌/◌, ◌%◌, ◌^◌, ◌<◌, ◌≤◌, ◌∙◌, inl, inr, ap, sym, subst, arith, ◌⊎◌, ◌↔◌, ◌≤ℤ◌, FitsSigned, w32, cast_signed, cast_unsigned, ints, of_z-to_z, cases_lt, lt-ltb, le-ltb, IsHalfBetween, Low}
 use borrow.Author.Differences.{up, down}
-use Rattle.std.proofs.lemmas.Int.{ints, of_z-to_z}
-use Rattle.std.proofs.lemmas.Bool.{cases_lt, lt-ltb, le-ltb}
-use Rattle.ranges.specs.Joint.{IsHalfBetween}
 use Rattle.ranges.specs.Lows.{Has, IsOfEither, IsTight, AreReached}
-use Rattle.ranges.specs.declared.low.Low.{Low}
 use Rattle.ranges.proofs.Limits.{fits_32}
 
 -- one linear equation between a low half and its signed reading: the quotient is the sign bit

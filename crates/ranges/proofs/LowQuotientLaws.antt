@@ -1,17 +1,7 @@
 -- Signed quotients and remainders of low halves, by way of halves extended by their sign.
-use Rattle.std.proofs.Common.{◌≡◌, ℕ, ℤ, pos, negsuc, zero, suc, ◌/◌, ◌%◌, ◌^◌, ◌<◌, ◌≤◌, refl, sym, ◌∙◌, arith, w64}
-use Rattle.std.specs.Prelude.{neg_ℤ, ◌≤ℤ◌, FitsSigned, int_div, int_rem, unsigned_abs}
-use Rattle.std.specs.Int.{w32, cast_signed, cast_unsigned, int_min, int_max}
-use Rattle.std.proofs.lemmas.Int.{ints, clamps}
-use Rattle.std.proofs.Math.Nat.{div-le_self, mod-le}
-use Rattle.isa_model.specs.declared.sizes.Width.TheVariants.{Low32}
-use Rattle.isa_model.specs.declared.instructions.AluOp.TheVariants.{SignedDiv, SignedMod}
-use Rattle.isa_model.specs.Code.Numbers.{result_of}
-use Rattle.ranges.specs.Keeps.{KeepsSignedQuotient, KeepsSignedRemainder}
+use Rattle.ranges.proofs.Common.{◌≡◌, ℕ, ℤ, pos, negsuc, zero, suc, ◌/◌, ◌%◌, ◌^◌, ◌<◌, ◌≤◌, refl, sym, ◌∙◌, arith, w64, neg_ℤ, ◌≤ℤ◌, FitsSigned, int_div, int_rem, unsigned_abs, w32, cast_signed, cast_unsigned, int_min, int_max, ints, clamps, div-le_self, mod-le, Low32, SignedDiv, SignedMod, result_of, KeepsSignedQuotient, KeepsSignedRemainder, Wide, Low}
 use Rattle.ranges.specs.Wides as W
 use Rattle.ranges.specs.Lows as L
-use Rattle.ranges.specs.declared.wide.Wide.{Wide}
-use Rattle.ranges.specs.declared.low.Low.{Low}
 use Rattle.ranges.proofs.Limits.{fits_32}
 use Rattle.ranges.proofs.LowResults.{signed_kept, widened}
 use Rattle.ranges.proofs.QuotientLaws.{quotient_is, remainder_is, quotient_fits, quotient_fits_down, negative_of}

@@ -1,23 +1,8 @@
 -- Low halves of results: the operation at 32 bits on low halves, and by way of halves extended by
 -- their sign.
-use Rattle.std.proofs.Common.{◌≡◌, ℕ, ℤ, ◌*◌, ◌%◌, ◌^◌, ◌<◌, sym, ◌∙◌, arith, w64}
-use Rattle.std.specs.Prelude.{FitsSigned}
-use Rattle.std.specs.Int.{w32, cast_signed, cast_unsigned}
-use Rattle.std.proofs.lemmas.Int.{ints}
-use Rattle.std.proofs.lemmas.Nat.{and_mod, or_mod, xor_mod, mul-mod, mul-mod_first}
-use Rattle.std.proofs.Math.Nat.{mod-mod}
-use Rattle.isa_model.specs.declared.sizes.Width.{Width}
-use Rattle.isa_model.specs.declared.sizes.Width.TheVariants.{Low32, Full64}
-use Rattle.isa_model.specs.declared.instructions.AluOp.{AluOp}
-use Rattle.isa_model.specs.declared.instructions.AluOp.TheVariants.{Add, Sub, Mul, Div, SignedDiv, Or, And, Lsh, Rsh, Mod, SignedMod, Xor, Mov, Arsh}
-use Rattle.isa_model.specs.Code.Numbers.{alu, result_of}
-use Rattle.isa_model.proofs.NumberLaws.{alu_below, low_wrapped}
-use Rattle.isa_model.specs.Code.NumberLaws.{low_same}
+use Rattle.ranges.proofs.Common.{◌≡◌, ℕ, ℤ, ◌*◌, ◌%◌, ◌^◌, ◌<◌, sym, ◌∙◌, arith, w64, FitsSigned, w32, cast_signed, cast_unsigned, ints, and_mod, or_mod, xor_mod, mul-mod, mul-mod_first, mod-mod, Width, Low32, Full64, AluOp, Add, Sub, Mul, Div, SignedDiv, Or, And, Lsh, Rsh, Mod, SignedMod, Xor, Mov, Arsh, alu, result_of, alu_below, low_wrapped, low_same, ReadsLow, Wide, Low}
 use Rattle.ranges.specs.Wides as W
 use Rattle.ranges.specs.Lows as L
-use Rattle.ranges.specs.Ranges.{ReadsLow}
-use Rattle.ranges.specs.declared.wide.Wide.{Wide}
-use Rattle.ranges.specs.declared.low.Low.{Low}
 use Rattle.ranges.proofs.LowLaws.{low_signed_equation, fits_between}
 
 both : {A B : Type 0} (f : A → A → B) {a b u v : A} → a ≡ b → u ≡ v → f a u ≡ f b v

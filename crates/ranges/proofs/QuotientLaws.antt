@@ -1,21 +1,8 @@
 -- Signed quotients and remainders: their limits, and that they are those of unsigned numbers where
 -- no number has a sign.
-use Rattle.std.proofs.Common.{◌≡◌, ℕ, ℤ, pos, negsuc, zero, suc, ◌+◌, ◌/◌, ◌%◌, ◌^◌, ◌<◌, ◌≤◌, w64, refl, sym, ap, ◌∙◌, arith}
-use Rattle.std.specs.Prelude.{neg_ℤ, ◌-ℤ◌, ◌≤ℤ◌, FitsSigned, int_div, int_rem, unsigned_abs}
+use Rattle.ranges.proofs.Common.{◌≡◌, ℕ, ℤ, pos, negsuc, zero, suc, ◌+◌, ◌/◌, ◌%◌, ◌^◌, ◌<◌, ◌≤◌, w64, refl, sym, ap, ◌∙◌, arith, neg_ℤ, ◌-ℤ◌, ◌≤ℤ◌, FitsSigned, int_div, int_rem, unsigned_abs, ints, clamps, of_z-to_z, quot_fits, rem_below, ne_eqb, div-le_self, mod-le, div-zero, mod-zero, mag_rem, Width, Low32, Full64, AluOp, SignedDiv, SignedMod, width_bits, alu, result_of, quotient, remainder, signed, unsigned, alu_below, low_same}
 use Rattle.std.specs.Int.{Width as IntWidth, w32, cast_unsigned, int_min, int_max}
-use Rattle.std.proofs.lemmas.Int.{ints, clamps, of_z-to_z, quot_fits, rem_below}
-use Rattle.std.proofs.lemmas.Bool.{ne_eqb}
-use Rattle.std.proofs.Math.Nat.{div-le_self, mod-le, div-zero, mod-zero}
 use mir.Val.{hbits}
-use lib.Signed.{mag_rem}
-use Rattle.isa_model.specs.declared.sizes.Width.{Width}
-use Rattle.isa_model.specs.declared.sizes.Width.TheVariants.{Low32, Full64}
-use Rattle.isa_model.specs.declared.instructions.AluOp.{AluOp}
-use Rattle.isa_model.specs.declared.instructions.AluOp.TheVariants.{SignedDiv, SignedMod}
-use Rattle.isa_model.specs.Code.Sizes.{width_bits}
-use Rattle.isa_model.specs.Code.Numbers.{alu, result_of, quotient, remainder, signed, unsigned}
-use Rattle.isa_model.proofs.NumberLaws.{alu_below}
-use Rattle.isa_model.specs.Code.NumberLaws.{low_same}
 use Rattle.ranges.proofs.Limits.{div_le}
 
 -- ---- quotients

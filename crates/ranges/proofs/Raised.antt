@@ -1,16 +1,5 @@
 -- Low halves moved up, and shifted with their sign.
-use Rattle.std.proofs.Common.{◌≡◌, ℕ, ℤ, pos, ◌+◌, ◌-◌, ◌*◌, ◌%◌, ◌^◌, ◌<◌, ◌≤◌, sym, ap, ◌∙◌, arith, w64}
-use Rattle.std.specs.Prelude.{◌*ℤ◌, ◌≤ℤ◌, FitsSigned}
-use Rattle.std.specs.Int.{w32, cast_signed, cast_unsigned, int_shr}
-use lib.Signed.{mag_shr}
-use Rattle.std.proofs.Math.Facts.{sfits_to_z}
-use Rattle.std.proofs.Math.Nat.{mul_assoc}
-use Rattle.std.proofs.lemmas.Int.{ints}
-use Rattle.std.proofs.lemmas.Nat.{pow-add, mul-mod_first}
-use Rattle.isa_model.specs.declared.sizes.Width.TheVariants.{Full64}
-use Rattle.isa_model.specs.declared.instructions.AluOp.TheVariants.{Lsh}
-use Rattle.isa_model.specs.Code.Numbers.{alu, shift}
-use Rattle.isa_model.specs.Code.NumberLaws.{signed_equation, low_same}
+use Rattle.ranges.proofs.Common.{◌≡◌, ℕ, ℤ, pos, ◌+◌, ◌-◌, ◌*◌, ◌%◌, ◌^◌, ◌<◌, ◌≤◌, sym, ap, ◌∙◌, arith, w64, ◌*ℤ◌, ◌≤ℤ◌, FitsSigned, w32, cast_signed, cast_unsigned, int_shr, mag_shr, sfits_to_z, mul_assoc, ints, pow-add, mul-mod_first, Full64, Lsh, alu, shift, signed_equation, low_same}
 use Rattle.ranges.proofs.LowLaws.{low_signed_equation}
 
 -- a shift to the left by 32 or more depends on the low half only

@@ -1,17 +1,8 @@
 -- Laws of ranges: wider limits, low halves of their numbers, and tight limits.
-use Rattle.std.proofs.Common.{◌≡◌, ◌<◌, ◌≤◌, ◌%◌, ◌^◌, ◌∙◌, ℕ, subst, sym, refl, ap, inl, inr, arith, w64}
-use Rattle.std.specs.Prelude.{ℤ, ◌-◌, ◌⊎◌, ◌↔◌, ◌≤ℤ◌, FitsSigned}
-use Rattle.std.specs.Int.{w32, cast_signed, cast_unsigned}
-use Rattle.std.proofs.lemmas.Int.{ints, of_z-to_z, to_z-of_z}
-use Rattle.std.proofs.lemmas.Bool.{cases_lt}
-use Rattle.isa_model.specs.Code.NumberLaws.{signed_equation}
-use Rattle.ranges.specs.Joint.{IsHalfBetween}
+use Rattle.ranges.proofs.Common.{◌≡◌, ◌<◌, ◌≤◌, ◌%◌, ◌^◌, ◌∙◌, ℕ, subst, sym, refl, ap, inl, inr, arith, w64, ℤ, ◌-◌, ◌⊎◌, ◌↔◌, ◌≤ℤ◌, FitsSigned, w32, cast_signed, cast_unsigned, ints, of_z-to_z, to_z-of_z, cases_lt, signed_equation, IsHalfBetween, Wide, Low, Range}
 use Rattle.ranges.specs.Wides as W
 use Rattle.ranges.specs.Lows as L
 use Rattle.ranges.specs.Ranges.{Has, HasLow, IsConstant, IsTight, Encloses}
-use Rattle.ranges.specs.declared.wide.Wide.{Wide}
-use Rattle.ranges.specs.declared.low.Low.{Low}
-use Rattle.ranges.specs.declared.range.Range.{Range}
 use Rattle.ranges.proofs.EnclosesLaws.{enclosed_has}
 use Rattle.ranges.proofs.Limits.{signed_below_64}
 use Rattle.ranges.proofs.LowLaws.{reached_weaker, either_reached}

@@ -1,9 +1,6 @@
 -- Limits with the same numbers are the same, whatever proofs they hold.
-use Rattle.std.specs.Prelude.{◌≡◌, ℕ, ◌≤◌, ℤ, ◌≤ℤ◌}
-use Rattle.std.proofs.Common.{ap, ap₂, subst₂}
+use Rattle.ranges.proofs.Common.{◌≡◌, ℕ, ◌≤◌, ℤ, ◌≤ℤ◌, ap, ap₂, subst₂, Wide, Low}
 use Rattle.std.proofs.Props.{props}
-use Rattle.ranges.specs.declared.wide.Wide.{Wide}
-use Rattle.ranges.specs.declared.low.Low.{Low}
 
 -- two proofs are one
 pub one_order : (n m : ℕ) (p q : n ≤ m) → p ≡ q

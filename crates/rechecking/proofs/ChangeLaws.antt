@@ -1,19 +1,11 @@
 -- What a change of kinds leaves as it is.
-use Rattle.std.specs.Prelude.{◌≡◌, ℕ, suc, ◌+◌, ◌≤◌, ◌==◌, nat_le, ◌||◌, not, Bool, true, false, if◌then◌else◌, List, [], ◌∷◌, length, map, max, slice_get, Some, refl}
-use Rattle.std.proofs.Common.{inl, inr, ap, subst, arith}
-use Rattle.std.proofs.lemmas.Bool.{cases_eq}
+use Rattle.rechecking.proofs.Common.{◌≡◌, ℕ, suc, ◌+◌, ◌≤◌, ◌==◌, nat_le, ◌||◌, not, Bool, true, false, if◌then◌else◌, List, [], ◌∷◌, length, map, max, slice_get, Some, inl, inr, ap, subst, arith, cases_eq, Kind, Packet, MapValue, MapValueOrNull, StackSlot, AbstractFrame, with_spilled, with_kinds, proved_kind, tested_value, tested_kind, forgotten_register, forgotten_frame, Proves, Tests, Forgets, is_kind_kept, is_slot_kept, FirstHave, AreSlotsUnchanged, IsFrameUnchanged}
+use Rattle.std.specs.Prelude.{refl}
 use Rattle.std.proofs.lemmas.Bool.Decides.{nat_tests}
 use Rattle.reg_state.specs.declared.scalars.Scalar.{Scalar}
-use Rattle.reg_state.specs.declared.kinds.Kind.{Kind}
-use Rattle.reg_state.specs.declared.kinds.Kind.TheVariants.{Packet, MapValue, MapValueOrNull}
-use Rattle.stack_state.specs.declared.slots.StackSlot.{StackSlot}
 use Rattle.stack_state.specs.declared.slots.StackSlot.TheVariants.{Written, Spilled}
-use Rattle.stack_state.specs.declared.states.AbstractFrame.{AbstractFrame}
 use Rattle.stack_state.specs.Slots.{kind_in, forgotten_kind, forgotten_slot, forgotten}
-use Rattle.stack_state.specs.Effects.{with_spilled, with_kinds, proved_kind, tested_value, tested_kind, forgotten_register, forgotten_frame}
 use Rattle.rechecking.specs.declared.changes.KindChange.{KindChange}
-use Rattle.rechecking.specs.declared.changes.KindChange.TheVariants.{Proves, Tests, Forgets}
-use Rattle.rechecking.specs.Changes.{is_kind_kept, is_slot_kept, FirstHave, AreSlotsUnchanged, IsFrameUnchanged}
 
 -- ---- the first elements
 

@@ -1,33 +1,21 @@
 -- What follows from the tests of an entry and of the start.
-use Rattle.std.specs.Prelude.{◌≡◌, ℕ, ◌+◌, ◌≤◌, ◌<◌, List, [], ◌∷◌, Contains, Bool, true, false, IsTrue, Option, Some, None, IsSome, Ok, Err, refl}
-use Rattle.std.proofs.Common.{inl, inr, arith, subst, rules}
-use Rattle.std.proofs.lemmas.Bool.{cases_lt}
+use Rattle.rechecking.proofs.Common.{◌≡◌, ℕ, ◌+◌, ◌≤◌, ◌<◌, List, [], ◌∷◌, Contains, Bool, true, false, IsTrue, Option, Some, None, IsSome, Ok, Err, inl, inr, arith, subst, rules, cases_lt, Program, fetch, step, After-weaker, State, Means, Covers, Refusal, EntryHead, Entry, entry_of, list_of, EntryAt, EntersSmaller, IsClosedEntry, MeansStarts, HasEntry, Covering, CoversClearly, Enters, EntersClearly, FollowsBy, StartsClearly, HasStart, IsRefusedAt, AllFineBefore}
+use Rattle.std.specs.Prelude.{refl}
 use Rattle.isa_model.specs.declared.instructions.Insn.{Insn}
-use Rattle.isa_model.specs.Code.Instructions.{Program, fetch}
 use Rattle.isa_model.specs.Machine.States as Machine
-use Rattle.isa_model.specs.Machine.Steps.{step}
 use Rattle.isa_model.specs.Machine.MachineStates.{IsProgram}
-use Rattle.isa_model.proofs.EndsLaws.{After-weaker}
 use Rattle.isa_model.specs.Running.Runs.{start_state}
-use Rattle.stack_state.specs.declared.states.State.{State}
-use Rattle.stack_state.specs.Meaning.{Means, Covers}
 use Rattle.stack_state.specs.Starts.{start}
 use Rattle.stack_state.proofs.StartsLaws.{Means-start}
 use Rattle.transfer.specs.declared.Ways.{Ways}
 use Rattle.transfer.specs.declared.Ways.TheVariants as ways
 use Rattle.state_cover.specs.FrameCover.{StateEncloses}
-use Rattle.transfer.specs.declared.refusals.Refusal.{Refusal}
 use Rattle.transfer.specs.Exact.{Steps}
 use Rattle.transfer.specs.Leading.{LeadsTo, InSome}
 use Rattle.isa_model.specs.declared.limits.TheConstants.{MAX_STEPS}
-use Rattle.table_entries.specs.declared.entries.EntryHead.{EntryHead}
 use Rattle.table_entries.specs.declared.entries.NamedEntries.{NamedEntries}
 use Rattle.table_entries.specs.declared.entries.NamedEntries.TheVariants as named
-use Rattle.table_entries.specs.Entries.{Entry, entry_of, list_of}
-use Rattle.rechecking.specs.Tables.{EntryAt, EntersSmaller, IsClosedEntry, MeansStarts}
 use Rattle.rechecking.specs.declared.errors.TableError.TheVariants.{Step, Successor}
-use Rattle.rechecking.specs.KnownEntries.{HasEntry}
-use Rattle.rechecking.specs.Checking.{Covering, CoversClearly, Enters, EntersClearly, FollowsBy, StartsClearly, HasStart, IsRefusedAt, AllFineBefore}
 
 goes_into : (p : Program) (t : EntryAt) (e : Entry) (index : ℕ) (a : State) (s : Machine.State)
     → Contains e.successors index → Enters t e.number index a

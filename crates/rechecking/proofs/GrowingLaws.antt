@@ -1,20 +1,8 @@
 -- What is known of entries while more of their table are placed.
-use Rattle.std.specs.Prelude.{◌≡◌, ℕ, ◌<◌, ◌≤◌, Some}
-use Rattle.std.proofs.Common.{sym, ◌∙◌, arith}
-use Rattle.isa_model.specs.Code.Instructions.{Program}
-use Rattle.isa_model.specs.Machine.Steps.{step}
-use Rattle.isa_model.proofs.EndsLaws.{After-weaker}
-use Rattle.stack_state.specs.declared.states.State.{State}
-use Rattle.table_entries.specs.declared.entries.EntryHead.{EntryHead}
-use Rattle.table_entries.specs.Entries.{Entry, entry_of}
-use Rattle.table_entries.specs.Tables.{entry_at, count_of}
+use Rattle.rechecking.proofs.Common.{◌≡◌, ℕ, ◌<◌, ◌≤◌, Some, sym, ◌∙◌, arith, Program, step, After-weaker, State, EntryHead, Entry, entry_of, entry_at, count_of, entry_at-before, entry_at-stays, EntryAt, EntersSmaller, IsClosedEntry, HasEntry, IsKnownEntry, Enters, HasStart, AllFineBefore}
 use Rattle.table_entries.specs.Growing.{Grown, Grows}
-use Rattle.table_entries.proofs.GrowingLaws.{entry_at-before, entry_at-stays}
 use Rattle.rechecking.specs.declared.entries.Known.{Known}
 use Rattle.rechecking.specs.declared.entries.Known.TheVariants as known
-use Rattle.rechecking.specs.Tables.{EntryAt, EntersSmaller, IsClosedEntry}
-use Rattle.rechecking.specs.KnownEntries.{HasEntry, IsKnownEntry}
-use Rattle.rechecking.specs.Checking.{Enters, HasStart, AllFineBefore}
 
 -- each entry of one table is in the other, with the same index
 abbrev Stays : EntryAt → EntryAt → Type 0

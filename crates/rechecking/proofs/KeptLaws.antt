@@ -1,10 +1,9 @@
 -- Parts of a state that stores, atomic instructions, calls of helpers and changes of kinds leave as
 -- they are.
-use Rattle.std.specs.Prelude.{◌≡◌, ℕ, zero, suc, ◌<◌, ◌==◌, ◌||◌, if◌then◌else◌, Bool, true, false, ℤ, List, [], ◌∷◌, length, map, slice_get, slice_set, Option, Some, None, Result, Ok, Err, refl}
+use Rattle.rechecking.proofs.Common.{◌≡◌, ℕ, zero, suc, ◌<◌, ◌==◌, ◌||◌, if◌then◌else◌, Bool, true, false, ℤ, List, [], ◌∷◌, length, map, slice_get, slice_set, Option, Some, None, Result, Ok, Err, inl, sym, ap, ◌∙◌, subst, length-set, arith, slice_get-map, Kind, Number, Stack, Map, MapValue, MapValueOrNull, StackSlot, AbstractFrame, State, abstract_frame_at, with_slots, with_frame_slots, with_kinds, map_frames, map_kinds, forgotten_frame, Refusal, Forgets, is_kind_kept, AreSlotsUnchanged, IsFrameUnchanged, LeavesParts}
+use Rattle.std.specs.Prelude.{refl}
 use Rattle.std.specs.Option.{option_map}
-use Rattle.std.proofs.Common.{inl, sym, ap, ◌∙◌, subst, length-set, arith}
 use Rattle.std.proofs.lemmas.List.{length-map}
-use Rattle.std.proofs.lemmas.Option.{slice_get-map}
 use Rattle.arrayvec.specs.ArrayVec.{with_item}
 use Rattle.isa_model.specs.declared.sizes.Size.{Size}
 use Rattle.isa_model.specs.declared.sizes.Size.TheVariants.{U64}
@@ -16,17 +15,9 @@ use Rattle.isa_model.specs.declared.map_defs.MapDef.{MapDef}
 use Rattle.isa_model.specs.declared.map_defs.MapType.{MapType}
 use Rattle.isa_model.specs.declared.map_defs.MapType.TheVariants.{Hash, Array}
 use Rattle.reg_state.specs.declared.scalars.Scalar.{Scalar}
-use Rattle.reg_state.specs.declared.kinds.Kind.{Kind}
 use Rattle.reg_state.specs.declared.kinds.Kind.TheVariants as kind
-use Rattle.reg_state.specs.declared.kinds.Kind.TheVariants.{Number, Stack, Map, MapValue, MapValueOrNull}
-use Rattle.stack_state.specs.declared.slots.StackSlot.{StackSlot}
-use Rattle.stack_state.specs.declared.states.AbstractFrame.{AbstractFrame}
-use Rattle.stack_state.specs.declared.states.State.{State}
-use Rattle.stack_state.specs.Meaning.{abstract_frame_at}
 use Rattle.stack_state.specs.Places.{kind_of}
 use Rattle.stack_state.specs.HelperAnswers.{with_answer}
-use Rattle.stack_state.specs.Effects.{with_slots, with_frame_slots, with_kinds, map_frames, map_kinds, forgotten_frame}
-use Rattle.transfer.specs.declared.refusals.Refusal.{Refusal}
 use Rattle.transfer.specs.declared.helpers.CalledMap.{CalledMap}
 use Rattle.transfer.specs.Refusing.{is_untested}
 use Rattle.transfer.specs.Accesses.{StoresKind}
@@ -35,9 +26,7 @@ use Rattle.transfer.specs.Atomics.{with_old, SwapsAt, Swaps, ComparesIn}
 use Rattle.transfer.specs.HelperCalls.{map_with_row, called_map, points_to_bytes, key_arguments, update_arguments, KeyIsKnown, ValueIsKnown, AnswersNumber, AnswersValue, without_values, LeavesIf, StepsHelper}
 use Rattle.transfer.proofs.HelperArgumentLaws.{judged_map}
 use Rattle.rechecking.specs.declared.changes.KindChange.{KindChange}
-use Rattle.rechecking.specs.declared.changes.KindChange.TheVariants.{Forgets}
 use Rattle.rechecking.specs.declared.untouched.UntouchedParts.{UntouchedParts}
-use Rattle.rechecking.specs.Changes.{is_kind_kept, AreSlotsUnchanged, IsFrameUnchanged, LeavesParts}
 use Rattle.rechecking.specs.Untouched.{none_kept, outer_kept, kept_by_write, KeptByDelete, KeptByHelper, KeepsOuterFrames, KeepsParts}
 use Rattle.rechecking.proofs.ChangeLaws.{frame_kept, slots_kept, forgotten_frame_kept, forgotten_slots_kept}
 

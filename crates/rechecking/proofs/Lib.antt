@@ -1,3 +1,4 @@
+mod Common
 pub mod TableLaws
 pub mod CheckingLaws
 pub mod GrowingLaws

@@ -1,15 +1,9 @@
 -- What a table that was read shows, and why it is refused, by the entries that its bytes are.
-use Rattle.std.specs.Prelude.{◌≡◌, ℕ, ◌<◌, List, slice_get, Some, Ok, ◌⊎◌}
-use Rattle.std.proofs.Common.{subst}
-use Rattle.isa_model.specs.Code.Instructions.{Program}
+use Rattle.rechecking.proofs.Common.{◌≡◌, ℕ, ◌<◌, List, slice_get, Some, Ok, ◌⊎◌, subst, Program, Entry, TableView, KeepsEntries, entry_at, table_read, EntryAt, IsClosedEntry, HasStart, IsFirstRefused}
 use Rattle.control_flow.specs.Flows.{IsFlow}
 use Rattle.table_entries.specs.declared.refusals.TableRefusal.TheVariants as refusal
-use Rattle.table_entries.specs.Entries.{Entry}
-use Rattle.table_entries.specs.Tables.{TableView, KeepsEntries, entry_at, table_read}
 use Rattle.rechecking.specs.declared.errors.TableError.{TableError}
 use Rattle.rechecking.specs.declared.errors.TableError.TheVariants.{Flow, Bytes, Start, Step, Successor}
-use Rattle.rechecking.specs.Tables.{EntryAt, IsClosedEntry}
-use Rattle.rechecking.specs.Checking.{HasStart, IsFirstRefused}
 use Rattle.rechecking.specs.Refusing.{ShowsBound, TableIsRefused}
 
 -- the entries by their indexes are those of the bytes

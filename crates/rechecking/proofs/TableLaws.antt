@@ -1,15 +1,8 @@
 -- Every run of a program with a closed table exits within the number of the table's first entry.
-use Rattle.std.specs.Prelude.{◌≡◌, ℕ, zero, suc, ◌≤◌, Some}
-use Rattle.std.proofs.Common.{arith}
-use Rattle.isa_model.specs.Code.Instructions.{Program}
-use Rattle.isa_model.specs.Machine.Steps.{step}
+use Rattle.rechecking.proofs.Common.{◌≡◌, ℕ, zero, suc, ◌≤◌, Some, arith, Program, step, After-weaker, Within, Entry, EntryAt, EntersSmaller, IsClosedEntry, IsClosed}
 use Rattle.isa_model.specs.Running.Runs.{start_state}
-use Rattle.isa_model.proofs.EndsLaws.{After-weaker}
 use Rattle.isa_model.specs.Running.Ends.{Ends}
 use Rattle.isa_model.specs.Running.Outcomes.{StartsEnd}
-use Rattle.stack_state.specs.Meaning.{Within}
-use Rattle.table_entries.specs.Entries.{Entry}
-use Rattle.rechecking.specs.Tables.{EntryAt, EntersSmaller, IsClosedEntry, IsClosed}
 
 -- each member of an entry's state exits within the entry's number
 pub Within-entry : (p : Program) (t : EntryAt)

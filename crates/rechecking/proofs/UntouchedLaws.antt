@@ -1,8 +1,7 @@
 -- The parts of a state that a step leaves as they are, and the bytes that spell them.
-use Rattle.std.specs.Prelude.{◌≡◌, ℕ, zero, suc, ◌+◌, ◌-◌, ◌<◌, ◌⊎◌, if◌then◌else◌, Bool, true, false, ℤ, List, [], ◌∷◌, ◌++◌, length, map, take, slice_get, Option, Some, None, Result, Ok, refl}
+use Rattle.rechecking.proofs.Common.{◌≡◌, ℕ, zero, suc, ◌+◌, ◌-◌, ◌<◌, ◌⊎◌, if◌then◌else◌, Bool, true, false, ℤ, List, [], ◌∷◌, ◌++◌, length, map, take, slice_get, Option, Some, None, Result, Ok, inl, inr, sym, ap, ◌∙◌, subst, arith, slice_get-map, slice_get_within, Program, writes, is_frame_pointer, destination, AbstractFrame, State, with_kinds, map_kinds, proved_kind, tested_kind, Refusal, Proves, Tests, LeavesParts}
+use Rattle.std.specs.Prelude.{refl}
 use Rattle.std.specs.Borrow.{Bor}
-use Rattle.std.proofs.Common.{inl, inr, sym, ap, ◌∙◌, subst, arith}
-use Rattle.std.proofs.lemmas.Option.{slice_get-map, slice_get_within}
 use Rattle.isa_model.specs.declared.registers.Reg.TheVariants.{R0}
 use Rattle.isa_model.specs.declared.instructions.Cond.{Cond}
 use Rattle.isa_model.specs.declared.instructions.Insn.{Insn}
@@ -10,13 +9,8 @@ use Rattle.isa_model.specs.declared.instructions.Insn.TheVariants.{StoreConstant
 use Rattle.isa_model.specs.declared.versions.Version.{Version}
 use Rattle.isa_model.specs.Code.Helpers.{helper_numbered}
 use Rattle.isa_model.specs.Code.Sizes.{width_size}
-use Rattle.isa_model.specs.Code.Instructions.{Program, writes, is_frame_pointer}
-use Rattle.isa_model.specs.Machine.Steps.{destination}
-use Rattle.stack_state.specs.declared.states.AbstractFrame.{AbstractFrame}
-use Rattle.stack_state.specs.declared.states.State.{State}
 use Rattle.stack_state.specs.Places.{kind_of, go_to}
 use Rattle.stack_state.specs.Calls.{caller_of, entered, without_frame, ended}
-use Rattle.stack_state.specs.Effects.{with_kinds, map_kinds, proved_kind, tested_kind}
 use Rattle.branch_refine.specs.declared.comparing.Compared.{Compared}
 use Rattle.branch_refine.specs.declared.comparing.Compared.TheVariants.{Numbers, Packet, OrNull, Live, Undefined}
 use Rattle.branch_refine.specs.Comparing.{compared_by, same}
@@ -24,7 +18,6 @@ use Rattle.branch_refine.specs.Refining.{LearnsOf, Refines}
 use Rattle.branch_refine.proofs.RefiningLaws.{numbers-compared_by}
 use Rattle.transfer.specs.declared.Ways.{Ways}
 use Rattle.transfer.specs.declared.Ways.TheVariants as ways
-use Rattle.transfer.specs.declared.refusals.Refusal.{Refusal}
 use Rattle.transfer.specs.declared.refusals.Refusal.TheVariants.{UnsetRegister, ReadOnlyRegister}
 use Rattle.transfer.specs.Refusing.{reads_unset}
 use Rattle.transfer.specs.HelperCalls.{CallsHelper}
@@ -36,9 +29,7 @@ use Rattle.table_entries.specs.declared.known_bytes.KnownBytes.{KnownBytes}
 use Rattle.table_entries.specs.KnownBytes.{SpellsFrame, SpellFrames, SpellSlots, AreSpelled}
 use Rattle.table_entries.proofs.Below.{frame_in-stays}
 use Rattle.table_entries.proofs.KnownBytesLaws.{taken_get}
-use Rattle.rechecking.specs.declared.changes.KindChange.TheVariants.{Proves, Tests}
 use Rattle.rechecking.specs.declared.untouched.UntouchedParts.{UntouchedParts}
-use Rattle.rechecking.specs.Changes.{LeavesParts}
 use Rattle.rechecking.specs.Untouched.{outer_kept, kept_by_write, KeptByTest, KeptBy, kept_after, KeepsOuterFrames, KeepsParts}
 use Rattle.rechecking.proofs.ChangeLaws.{proved_kind-kept, tested_kind-kept}
 use Rattle.rechecking.proofs.KeptLaws.{nothing_kept, all_kept, same_kept, mapped_some, kinds_kept, store_kept, numbers_kept, compare_kept, helper_kept}

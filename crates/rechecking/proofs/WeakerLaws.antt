@@ -1,29 +1,15 @@
 -- A state without some of what is known of its innermost call frame covers it.
-use Rattle.std.specs.Prelude.{◌≡◌, ℕ, ◌<◌, ◌⊎◌, List, [], ◌∷◌, ◌++◌, length, map, Option, Some, None, IfSome}
-use Rattle.std.proofs.Common.{inl, inr, sym, ap, ◌∙◌, subst, arith}
-use Rattle.std.proofs.lemmas.Bool.{cases_eq}
+use Rattle.rechecking.proofs.Common.{◌≡◌, ℕ, ◌<◌, ◌⊎◌, List, [], ◌∷◌, ◌++◌, length, map, Option, Some, None, IfSome, inl, inr, sym, ap, ◌∙◌, subst, arith, cases_eq, Program, Kind, Unset, StackSlot, AbstractFrame, State, frames_of, abstract_frame_at, depth, kind_at, Means, Covers, EntryHead, Entry, entry_of, EntryAt, HasEntry, Enters}
 use Rattle.std.proofs.lemmas.Nat.Bits.{bit_at-zero}
 use Rattle.std.proofs.lemmas.List.{map_push}
 use Rattle.isa_model.specs.declared.values.Value.{Value}
 use Rattle.isa_model.specs.declared.values.Cell.{Cell}
-use Rattle.isa_model.specs.Code.Instructions.{Program}
-use Rattle.reg_state.specs.declared.kinds.Kind.{Kind}
-use Rattle.reg_state.specs.declared.kinds.Kind.TheVariants.{Unset}
 use Rattle.reg_state.specs.Kinds.{Assigned, Allows}
-use Rattle.stack_state.specs.declared.slots.StackSlot.{StackSlot}
 use Rattle.stack_state.specs.declared.slots.StackSlot.TheVariants.{Written}
 use Rattle.stack_state.specs.Slots.{slot_at}
 use Rattle.stack_state.specs.StackMeaning.{SlotMeans}
-use Rattle.stack_state.specs.declared.states.AbstractFrame.{AbstractFrame}
-use Rattle.stack_state.specs.declared.states.State.{State}
-use Rattle.stack_state.specs.Meaning.{frames_of, abstract_frame_at, depth, kind_at, Means, Covers}
 use Rattle.stack_state.proofs.MeaningLaws.{abstract_frame_at-caller, abstract_frame_at-innermost, FrameKeeps, MeansBy-change}
-use Rattle.table_entries.specs.declared.entries.EntryHead.{EntryHead}
-use Rattle.table_entries.specs.Entries.{Entry, entry_of}
 use Rattle.table_entries.specs.Forgetting.{IsWeakerFrame}
-use Rattle.rechecking.specs.Tables.{EntryAt}
-use Rattle.rechecking.specs.KnownEntries.{HasEntry}
-use Rattle.rechecking.specs.Checking.{Enters}
 
 kind_allows : (e : Assigned) (before after : Kind) (v : Value)
     → (after ≡ before) ⊎ (after ≡ Unset) → Allows e before v → Allows e after v

@@ -1,15 +1,10 @@
 -- Laws of constants and of limits that no code cites; specs/Constants has those that code does.
-use Rattle.std.proofs.Common.{ℕ, ◌≡◌, inl, inr, arith}
-use Rattle.std.proofs.lemmas.Int.{ints}
+use Rattle.reg_state.proofs.Common.{ℕ, ◌≡◌, inl, inr, arith, ints, Low32, Full64, range_limits, no_limits, IsLimit, IsAlone, bits_constant_only}
 use Rattle.ranges.specs.declared.range.Range.{Range}
 use Rattle.ranges.specs.Ranges as R
 use Rattle.ranges.specs.Lows as L
-use Rattle.isa_model.specs.declared.sizes.Width.TheVariants.{Low32, Full64}
-use Rattle.reg_state.specs.Limits.{range_limits, no_limits}
-use Rattle.reg_state.specs.Going.{IsLimit, IsAlone}
 use Rattle.reg_state.specs.declared.scalars.Scalar.{Scalar}
 use Rattle.reg_state.specs.Scalars.{Has, IsNumber}
-use Rattle.reg_state.specs.Constants.{bits_constant_only}
 
 -- a Scalar that leaves one number has no other
 pub IsNumber-only : (s : Scalar) (n x : ℕ) → IsNumber s n → Has s x → x ≡ n

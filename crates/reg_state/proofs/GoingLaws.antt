@@ -1,13 +1,8 @@
 -- Laws of the definitions in specs/Going: what the outcome of a comparison says of a number, where
 -- one set of numbers is replaced by a larger one.
-use Rattle.std.proofs.Common.{ℕ, ◌^◌, ◌<◌, Bool, true, false, subst}
-use Rattle.isa_model.specs.declared.sizes.Width.TheVariants.{Full64}
+use Rattle.reg_state.proofs.Common.{ℕ, ◌^◌, ◌<◌, Bool, true, false, subst, Full64, low, low_same, Limits, MayGo}
 use Rattle.isa_model.specs.declared.instructions.Comparison.{Comparison}
 use Rattle.isa_model.specs.declared.instructions.Comparison.TheVariants.{Equal, NotEqual, Greater, GreaterEqual, Less, LessEqual, AnyBit, SignedGreater, SignedGreaterEqual, SignedLess, SignedLessEqual}
-use Rattle.isa_model.specs.Code.Numbers.{low}
-use Rattle.isa_model.specs.Code.NumberLaws.{low_same}
-use Rattle.reg_state.specs.Limits.{Limits}
-use Rattle.reg_state.specs.Going.{MayGo}
 
 may_weaker : (c : Comparison) (t : Bool) (P Q : ℕ → Type 0) (l own : Limits) (x : ℕ)
     → ((n : ℕ) → P n → Q n) → MayGo Full64 c t P l own x → MayGo Full64 c t Q l own x

@@ -1,12 +1,7 @@
 -- Laws of the definitions in specs/KindCover. `packet` and `null` rename identities as there.
-use Rattle.std.specs.Prelude.{ℕ, ℤ}
-use Rattle.std.proofs.Common.{arith}
-use Rattle.std.proofs.lemmas.Int.{ints}
+use Rattle.reg_state.proofs.Common.{ℕ, ℤ, arith, ints, Kind, Unset, Number, Context, Stack, Packet, PacketEnd, Map, MapValue, MapValueOrNull, KindCovers}
 use Rattle.isa_model.specs.declared.values.Value.{Value}
-use Rattle.reg_state.specs.declared.kinds.Kind.{Kind}
-use Rattle.reg_state.specs.declared.kinds.Kind.TheVariants.{Unset, Number, Context, Stack, Packet, PacketEnd, Map, MapValue, MapValueOrNull}
 use Rattle.reg_state.specs.Kinds.{Assigned, Allows, AllowsPacket, AllowsMapValue}
-use Rattle.reg_state.specs.KindCover.{KindCovers}
 
 -- the assignment in which each identity is read as the one that the renamings call it
 abbrev pub renamed : (ℕ → ℕ) → (ℕ → ℕ) → Assigned → Assigned

@@ -1,13 +1,9 @@
 -- Laws of kinds: which parts of an assignment they depend on, and which values they never allow.
-use Rattle.std.specs.Prelude.{◌≡◌, ◌≢◌, ℕ, ℤ, Option, Some, None, IfSome, if◌then◌else◌, nat_eq, slice_get}
-use Rattle.std.proofs.Common.{refl, sym, ◌∙◌, arith}
+use Rattle.reg_state.proofs.Common.{◌≡◌, ◌≢◌, ℕ, ℤ, Option, Some, None, IfSome, if◌then◌else◌, nat_eq, slice_get, refl, sym, ◌∙◌, arith, Kind, Unset, Number, Context, Stack, Packet, PacketEnd, Map, MapValue, MapValueOrNull, packet_identity_of, null_identity_of}
 use Rattle.std.proofs.lemmas.Bool.Decides.{nat_tests}
 use Rattle.isa_model.specs.declared.values.Value.{Value}
 use Rattle.isa_model.specs.declared.values.Value.TheVariants as value
-use Rattle.reg_state.specs.declared.kinds.Kind.{Kind}
-use Rattle.reg_state.specs.declared.kinds.Kind.TheVariants.{Unset, Number, Context, Stack, Packet, PacketEnd, Map, MapValue, MapValueOrNull}
 use Rattle.reg_state.specs.Kinds.{Assigned, Allows, AllowsOrNull, HasLiveValue}
-use Rattle.reg_state.specs.KindCover.{packet_identity_of, null_identity_of}
 use Rattle.reg_state.proofs.Numbers.{if_some}
 
 -- the call frame into which a kind points

@@ -1,3 +1,4 @@
+mod Common
 pub mod Numbers
 pub mod GoingLaws
 pub mod ConstantsLaws

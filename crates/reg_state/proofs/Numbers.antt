@@ -1,6 +1,5 @@
 -- What an optional number is known to be.
-use Rattle.std.proofs.Common.{ℕ, ◌≡◌, Option, Some, None, refl}
-use Rattle.std.specs.Prelude.{IfSome}
+use Rattle.std.proofs.Common.{ℕ, ◌≡◌, Option, Some, None, refl, IfSome}
 
 pub if_some : (o : Option ℕ) (P : ℕ → Type 0) → ((n : ℕ) → o ≡ Some n → P n) → IfSome o P
 if_some None P h = tt

@@ -1,17 +1,10 @@
 -- Laws of the definitions in specs/Relations.
-use Rattle.std.proofs.Common.{◌≡◌, ℕ, ℤ, ◌^◌, ◌<◌, ◌<ℤ◌, ◌≤ℤ◌, Bool, true, false, refl, sym, ap, ◌∙◌, arith, bit_and}
-use Rattle.std.specs.Prelude.{int_lt, int_le, if◌then◌else◌}
-use Rattle.std.specs.Int.{w32, w64, cast_signed, cast_unsigned}
-use Rattle.std.proofs.lemmas.Int.{ints}
-use Rattle.std.proofs.lemmas.Bool.{ltb-true, ltb-false, leb-true, leb-false, eqb-true, eqb-false, not-true, not-false}
+use Rattle.reg_state.proofs.Common.{◌≡◌, ℕ, ℤ, ◌^◌, ◌<◌, ◌<ℤ◌, ◌≤ℤ◌, Bool, true, false, refl, sym, ap, ◌∙◌, arith, bit_and, int_lt, int_le, if◌then◌else◌, w32, w64, cast_signed, cast_unsigned, ints, ltb-true, ltb-false, leb-true, leb-false, eqb-true, eqb-false, not-true, not-false, Low32, Full64, low, signed, alu, sign_extended, compares, holds, low_same}
 use Rattle.isa_model.specs.declared.sizes.Width.{Width}
-use Rattle.isa_model.specs.declared.sizes.Width.TheVariants.{Low32, Full64}
 use Rattle.isa_model.specs.declared.sizes.Extension.TheVariants.{Full32}
 use Rattle.isa_model.specs.declared.instructions.AluOp.TheVariants.{Mov}
 use Rattle.isa_model.specs.declared.instructions.Comparison.{Comparison}
 use Rattle.isa_model.specs.declared.instructions.Comparison.TheVariants.{Equal, NotEqual, Greater, GreaterEqual, Less, LessEqual, AnyBit, SignedGreater, SignedGreaterEqual, SignedLess, SignedLessEqual}
-use Rattle.isa_model.specs.Code.Numbers.{low, signed, alu, sign_extended, compares, holds}
-use Rattle.isa_model.specs.Code.NumberLaws.{low_same}
 use Rattle.isa_model.proofs.NumberLaws.{low_below}
 use Rattle.isa_model.proofs.ExtensionLaws.{sign_extended-small, sign_extended_fits}
 use Rattle.reg_state.specs.Relations.{ComparesTo, low_half, low_half_limit, reads_signed}

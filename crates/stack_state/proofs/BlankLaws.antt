@@ -1,9 +1,5 @@
 -- Stack slots before one, of which nothing is known.
-use Rattle.std.proofs.Common.{◌≡◌, ◌≤◌, ◌<◌, ◌+◌, ◌++◌, ◌∷◌, [], ℕ, List, length, take, drop, map, replicate, set, get_or, ap, sym, arith, ◌∙◌}
-use Rattle.std.proofs.lemmas.List.{replicate_more, append_assoc, set-append_right, drop-set, drop-set-add, ext_get_or, get_or-replicate, get_or-take, get_or-set_other, get_or-map, length-map, length-replicate, length-take-le, take-append-drop}
-use Rattle.stack_state.specs.declared.slots.StackSlot.{StackSlot}
-use Rattle.stack_state.specs.declared.slots.StackSlot.TheVariants.{Written}
-use Rattle.stack_state.specs.Slots.{AreBlankBefore}
+use Rattle.stack_state.proofs.Common.{◌≡◌, ◌≤◌, ◌<◌, ◌+◌, ◌++◌, ◌∷◌, [], ℕ, List, length, take, drop, map, replicate, set, get_or, ap, sym, arith, ◌∙◌, replicate_more, append_assoc, set-append_right, drop-set, drop-set-add, ext_get_or, get_or-replicate, get_or-take, get_or-set_other, get_or-map, length-map, length-replicate, length-take-le, take-append-drop, StackSlot, Written, AreBlankBefore}
 
 -- they are all the same
 pub blank_taken : (n : ℕ) (xs : List StackSlot) → n ≤ length xs → AreBlankBefore n xs

@@ -1,29 +1,8 @@
 -- A call, which pushes a call frame, keeps the meaning of an abstract state.
-use Rattle.std.specs.Prelude.{◌≡◌, ℕ, zero, suc, ◌+◌, ◌-◌, ◌<◌, List, [], ◌∷◌, ◌++◌, map, length, slice_get, slice_index_or, Option, Some, None, refl}
-use Rattle.std.proofs.Common.{sym, ap, ◌∙◌, subst, inl, inr, arith}
-use Rattle.std.proofs.lemmas.Bool.{cases_lt}
-use Rattle.std.proofs.lemmas.List.{length-append, length-replicate, map-append, get_or_append_left, get_or-append_right}
-use Rattle.isa_model.specs.Code.Limits.{stack_size}
-use Rattle.isa_model.specs.declared.values.Value.{Value}
-use Rattle.isa_model.specs.declared.values.Cell.{Cell}
-use Rattle.isa_model.specs.declared.values.Cell.TheVariants.{Unwritten}
-use Rattle.isa_model.specs.declared.values.CallFrame.{CallFrame}
-use Rattle.isa_model.specs.Code.Instructions.{Program}
-use Rattle.isa_model.specs.Machine.States.{value_at, new_call_frame, call_frame_at}
+use Rattle.stack_state.proofs.Common.{◌≡◌, ℕ, zero, suc, ◌+◌, ◌-◌, ◌<◌, List, [], ◌∷◌, ◌++◌, map, length, slice_get, slice_index_or, Option, Some, None, sym, ap, ◌∙◌, subst, inl, inr, arith, refl, cases_lt, length-append, length-replicate, map-append, get_or_append_left, get_or-append_right, stack_size, Value, Cell, Unwritten, CallFrame, Program, value_at, new_call_frame, call_frame_at, saved_registers, regs_within, enter, innermost, IsState, Kind, Unset, Number, Context, Stack, Packet, PacketEnd, Map, MapValue, MapValueOrNull, Assigned, Allows, AllowsOrNull, StackSlot, Written, Spilled, State, frames_of, no_frame, abstract_frame_at, kind_at, kinds_of, stack_slots_of, depth, registers_of, MeansBy, SlotMeans, StackMeans, kept_kinds, argument_kinds, unset_slots, caller_of, callee_of, entered, with_new_frame}
 use Rattle.isa_model.specs.Machine.States as Machine
-use Rattle.isa_model.specs.Machine.Calls.{saved_registers, regs_within, enter, innermost}
-use Rattle.isa_model.specs.Machine.MachineStates.{IsState}
-use Rattle.reg_state.specs.declared.kinds.Kind.{Kind}
-use Rattle.reg_state.specs.declared.kinds.Kind.TheVariants.{Unset, Number, Context, Stack, Packet, PacketEnd, Map, MapValue, MapValueOrNull}
-use Rattle.reg_state.specs.Kinds.{Assigned, Allows, AllowsOrNull}
-use Rattle.stack_state.specs.declared.slots.StackSlot.{StackSlot}
-use Rattle.stack_state.specs.declared.slots.StackSlot.TheVariants.{Written, Spilled}
-use Rattle.stack_state.specs.declared.states.State.{State}
-use Rattle.stack_state.specs.Meaning.{frames_of, no_frame, abstract_frame_at, kind_at, kinds_of, stack_slots_of, depth, registers_of, MeansBy}
 use Rattle.stack_state.proofs.MeaningLaws.{abstract_frame_at-caller, abstract_frame_at-innermost, depth_is_length}
-use Rattle.stack_state.specs.StackMeaning.{SlotMeans, StackMeans}
 use Rattle.stack_state.proofs.StackLaws.{StackMeans-change, SlotMeans-spilled, StackMeans-new}
-use Rattle.stack_state.specs.Calls.{kept_kinds, argument_kinds, unset_slots, caller_of, callee_of, entered, with_new_frame}
 
 -- ---- one frame more in the assignment
 

@@ -1,35 +1,10 @@
 -- Cells of a slot: bytes that are marked, and values that were stored.
-use Rattle.std.specs.Prelude.{◌≡◌, ◌≢◌, ℕ, zero, suc, ◌+◌, ◌-◌, ◌*◌, ◌/◌, ◌%◌, ◌^◌, ◌<◌, ◌≤◌, ℤ, pos, negsuc, true, false, List, [], ◌∷◌, map, take, drop, length, slice_index_or, Option, Some, None, Ok, ◌⊎◌, bit_or, refl}
-use Rattle.std.specs.Int.{bit_at, byte_at, bytes_low_first}
-use Rattle.std.specs.List.{list_any, list_all}
-use Rattle.std.proofs.Common.{sym, ap, ◌∙◌, subst, inl, inr, arith}
-use Rattle.std.proofs.lemmas.Bool.{cases_lt}
-use Rattle.std.proofs.lemmas.Bool.Decides.{nat_tests}
-use Rattle.std.proofs.lemmas.Nat.{from_le_bytes-to_le_bytes_8, pow-add}
-use Rattle.std.proofs.Math.Nat.{div-div-eq-div-mul, div-le_self, mod-eq_of_lt, pow-succ'}
-use Rattle.std.proofs.lemmas.Nat.Bits.{bit_at_or, bit_at-lt, bit_at_mask_above, bit_at_mask_below}
-use Rattle.std.proofs.lemmas.List.{length-map}
-use Rattle.isa_model.specs.declared.sizes.Size.{Size}
-use Rattle.isa_model.specs.declared.sizes.Size.TheVariants.{U8, U16, U32, U64}
+use Rattle.stack_state.proofs.Common.{◌≡◌, ◌≢◌, ℕ, zero, suc, ◌+◌, ◌-◌, ◌*◌, ◌/◌, ◌%◌, ◌^◌, ◌<◌, ◌≤◌, ℤ, pos, negsuc, true, false, List, [], ◌∷◌, map, take, drop, length, slice_index_or, Option, Some, None, Ok, ◌⊎◌, bit_or, sym, ap, ◌∙◌, subst, inl, inr, arith, refl, bit_at, byte_at, bytes_low_first, list_any, list_all, cases_lt, nat_tests, from_le_bytes-to_le_bytes_8, pow-add, div-div-eq-div-mul, div-le_self, mod-eq_of_lt, pow-succ', bit_at_or, bit_at-lt, bit_at_mask_above, bit_at_mask_below, length-map, Size, U8, U16, U32, U64, Value, Num, Ptr, Cell, Unwritten, Byte, Piece, size_bytes, bytes_of, number_from, is_unwritten, is_byte, number_of, number_in, pieces, value_in, same_region, same_int, EachByte, Kind, Unset, Number, Context, Stack, Packet, PacketEnd, Map, MapValue, MapValueOrNull, Assigned, Allows, AllowsOrNull, StackSlot, Written, Spilled, marks_of, mask_of, part_of, chunk_of, cells_with, stored_cells, Marked, SlotMeans}
 use Rattle.isa_model.specs.declared.values.Region.{Region}
 use Rattle.isa_model.specs.declared.values.Region.TheVariants as region
-use Rattle.isa_model.specs.declared.values.Value.{Value}
-use Rattle.isa_model.specs.declared.values.Value.TheVariants.{Num, Ptr}
 use Rattle.isa_model.specs.declared.values.Value.TheVariants as value
-use Rattle.isa_model.specs.declared.values.Cell.{Cell}
-use Rattle.isa_model.specs.declared.values.Cell.TheVariants.{Unwritten, Byte, Piece}
-use Rattle.isa_model.specs.Code.Sizes.{size_bytes}
-use Rattle.isa_model.specs.Code.Numbers.{bytes_of, number_from}
-use Rattle.isa_model.specs.Machine.Memory.{is_unwritten, is_byte, number_of, number_in, pieces, value_in, same_region, same_int}
+use Rattle.isa_model.proofs.LittleEndianLaws.{bytes_low_first-suc}
 use Rattle.isa_model.proofs.ByteCells.{map-byte_in-Byte, value_in-Byte, take-drop-Byte}
-use Rattle.isa_model.specs.Code.EachByte.{EachByte}
-use Rattle.reg_state.specs.declared.kinds.Kind.{Kind}
-use Rattle.reg_state.specs.declared.kinds.Kind.TheVariants.{Unset, Number, Context, Stack, Packet, PacketEnd, Map, MapValue, MapValueOrNull}
-use Rattle.reg_state.specs.Kinds.{Assigned, Allows, AllowsOrNull}
-use Rattle.stack_state.specs.declared.slots.StackSlot.{StackSlot}
-use Rattle.stack_state.specs.declared.slots.StackSlot.TheVariants.{Written, Spilled}
-use Rattle.stack_state.specs.Slots.{marks_of, mask_of}
-use Rattle.stack_state.specs.StackMeaning.{part_of, chunk_of, cells_with, stored_cells, Marked, SlotMeans}
 use Rattle.stack_state.proofs.SpelledBytes.{number_from-fits}
 use Rattle.stack_state.proofs.SpliceLaws.{chunk_kept, chunk_written}
 
@@ -147,15 +122,6 @@ pub number_of-stored_cells : (n : ℕ) → n < 2 ^ 64 → number_of (stored_cell
 number_of-stored_cells n h =
     ap number_from (map-byte_in-Byte (bytes_of U64 n)) ∙ from_le_bytes-to_le_bytes_8 n h
 
--- the bytes of a number from the next one on are those of the rest
-bytes_next : (i k n : ℕ) → bytes_low_first (suc i) k n ≡ bytes_low_first i k (n / 256)
-bytes_next i zero n = refl
-bytes_next zero (suc k) n = ap (λ bytes. n / 256 % 256 ∷ bytes) (bytes_next 1 k n)
-bytes_next (suc i) (suc k) n =
-    let rest : n / 256 ^ suc (suc i) ≡ n / 256 / 256 ^ suc i =
-    ap (λ m. n / m) (pow-succ' 256 (suc i)) ∙ sym (div-div-eq-div-mul n 256 (256 ^ suc i)) in
-    rw (rest, bytes_next (suc (suc i)) k n) refl
-
 bytes_from : (i m n : ℕ) → i ≤ m
     → drop i (bytes_low_first 0 m n) ≡ bytes_low_first 0 (m - i) (n / 2 ^ (8 * i))
 bytes_from zero m n inside =
@@ -165,7 +131,7 @@ bytes_from (suc i) zero n inside = absurd (omega arith)
 bytes_from (suc i) (suc m) n inside =
     let power : 256 * 2 ^ (8 * i) ≡ 2 ^ (8 * suc i) = sym (pow-add 2 8 (8 * i))
     ∙ ap (λ e. 2 ^ e) (let e : 8 + 8 * i ≡ 8 * suc i = omega arith in e) in
-    ap (drop i) (bytes_next 0 m n) ∙ bytes_from i m (n / 256) (omega arith)
+    ap (drop i) (bytes_low_first-suc 0 m n) ∙ bytes_from i m (n / 256) (omega arith)
     ∙ ap (λ q. bytes_low_first 0 (m - i) q)
     (div-div-eq-div-mul n 256 (2 ^ (8 * i)) ∙ ap (λ p. n / p) power)
     ∙ ap (λ k. bytes_low_first 0 k (n / 2 ^ (8 * suc i)))

@@ -1,38 +1,13 @@
 -- Effects on slots of any live call frame keep the meaning of an abstract state.
-use Rattle.std.specs.Prelude.{◌≡◌, ◌≢◌, ℕ, suc, ◌+◌, ◌-◌, ◌*◌, ◌<◌, ◌==◌, ℤ, List, [], ◌∷◌, map, length, slice_set, slice_index_or, All, Some, Result, Ok, true, false, if◌then◌else◌, refl}
-use Rattle.std.proofs.Common.{sym, ap, ◌∙◌, subst, inl, inr, arith}
-use Rattle.std.proofs.lemmas.Bool.{cases_eq}
-use Rattle.std.proofs.lemmas.Bool.Decides.{nat_tests}
+use Rattle.stack_state.proofs.Common.{◌≡◌, ◌≢◌, ℕ, suc, ◌+◌, ◌-◌, ◌*◌, ◌<◌, ◌==◌, ℤ, List, [], ◌∷◌, map, length, slice_set, slice_index_or, All, Some, Result, Ok, true, false, if◌then◌else◌, sym, ap, ◌∙◌, subst, inl, inr, arith, refl, cases_eq, nat_tests, Size, U64, Value, Num, Ptr, Cell, CallFrame, size_bytes, Program, value_at, frame_pointer, new_call_frame, call_frame_at, load, load_number, store, innermost, IsState, IsCell, IsCallFrame, Scalar, Kind, Has, Assigned, Allows, StackSlot, AbstractFrame, State, frames_of, no_frame, abstract_frame_at, kind_at, kinds_of, stack_slots_of, depth, registers_of, MeansBy, StackMeans, StoresBytes, Spills, LoadsNumber, LoadsSlot, with_slots, with_frame, with_frame_slots}
 use Rattle.std.proofs.lemmas.List.{length-set, get_or-set_same, get_or-set_other, set-append_left}
 use Rattle.std.proofs.Math.Seq.{map-set_same, set-append_seam}
-use Rattle.isa_model.specs.declared.sizes.Size.{Size}
-use Rattle.isa_model.specs.declared.sizes.Size.TheVariants.{U64}
 use Rattle.isa_model.specs.declared.values.Region.TheVariants as region
-use Rattle.isa_model.specs.declared.values.Value.{Value}
-use Rattle.isa_model.specs.declared.values.Value.TheVariants.{Num, Ptr}
 use Rattle.isa_model.specs.declared.values.Value.TheVariants as value
-use Rattle.isa_model.specs.declared.values.Cell.{Cell}
-use Rattle.isa_model.specs.declared.values.CallFrame.{CallFrame}
 use Rattle.isa_model.specs.declared.ends.TrapReason.{TrapReason}
-use Rattle.isa_model.specs.Code.Sizes.{size_bytes}
-use Rattle.isa_model.specs.Code.Instructions.{Program}
-use Rattle.isa_model.specs.Machine.States.{value_at, frame_pointer, new_call_frame, call_frame_at}
 use Rattle.isa_model.specs.Machine.States as Machine
-use Rattle.isa_model.specs.Machine.Memory.{load, load_number, store}
-use Rattle.isa_model.specs.Machine.Calls.{innermost}
-use Rattle.isa_model.specs.Machine.MachineStates.{IsState, IsCell, IsCallFrame}
-use Rattle.reg_state.specs.declared.scalars.Scalar.{Scalar}
-use Rattle.reg_state.specs.declared.kinds.Kind.{Kind}
-use Rattle.reg_state.specs.Scalars.{Has}
-use Rattle.reg_state.specs.Kinds.{Assigned, Allows}
-use Rattle.stack_state.specs.declared.slots.StackSlot.{StackSlot}
-use Rattle.stack_state.specs.declared.states.AbstractFrame.{AbstractFrame}
-use Rattle.stack_state.specs.declared.states.State.{State}
-use Rattle.stack_state.specs.Meaning.{frames_of, no_frame, abstract_frame_at, kind_at, kinds_of, stack_slots_of, depth, registers_of, MeansBy}
 use Rattle.stack_state.proofs.MeaningLaws.{length-frames_of, abstract_frame_at-innermost, depth_is_length}
-use Rattle.stack_state.specs.StackMeaning.{StackMeans, StoresBytes, Spills, LoadsNumber, LoadsSlot}
 use Rattle.stack_state.proofs.FrameLaws.{IsHere, with_cells, loads_here, fills_here, stores_here, spills_here}
-use Rattle.stack_state.specs.Effects.{with_slots, with_frame, with_frame_slots}
 
 -- ---- another frame at an index
 
@@ -224,7 +199,8 @@ MeansBy-spills p e a s new serial j k z by kind v inside here set allowed spills
 
 -- ---- a read of the jth frame
 
-cells_fit : (p : Program) (e : Assigned) (a : State) (s : Machine.State) (j : ℕ) → j < depth a
+-- the cells of the jth frame are those of a state
+pub cells_fit : (p : Program) (e : Assigned) (a : State) (s : Machine.State) (j : ℕ) → j < depth a
     → MeansBy p e a s → All (IsCell (length p.maps) s.next_serial) (call_frame_at s.frames j).cells
 cells_fit p e a s j inside m =
     let count = depth_is_length p e a s m in

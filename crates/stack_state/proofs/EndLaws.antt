@@ -1,30 +1,11 @@
 -- An exit forgets what points into the call frame that ends, and so keeps the meaning of every
 -- abstract state.
-use Rattle.std.specs.Prelude.{◌≡◌, ℕ, suc, ◌<◌, ◌==◌, List, [], ◌∷◌, ◌++◌, map, length, Bool, true, false, if◌then◌else◌, refl}
-use Rattle.std.proofs.Common.{sym, ap, ◌∙◌, subst, arith}
-use Rattle.std.proofs.lemmas.List.{length-map, map-append}
+use Rattle.stack_state.proofs.Common.{◌≡◌, ℕ, suc, ◌<◌, ◌==◌, List, [], ◌∷◌, ◌++◌, map, length, Bool, true, false, if◌then◌else◌, sym, ap, ◌∙◌, subst, arith, refl, length-map, map-append, Value, Cell, Program, leave, IsState, Kind, Unset, Stack, Assigned, Allows, StackSlot, Written, Spilled, AbstractFrame, State, frames_of, abstract_frame_at, kind_at, depth, MeansBy, slot_at, SlotMeans, with_spilled, with_kinds, map_kinds, without_last, without_frame, ended}
 use Rattle.std.proofs.Math.ListN.{get_or-map as get_or-map_default}
-use Rattle.isa_model.specs.declared.values.Value.{Value}
-use Rattle.isa_model.specs.declared.values.Cell.{Cell}
-use Rattle.isa_model.specs.Code.Instructions.{Program}
 use Rattle.isa_model.specs.Machine.States as Machine
-use Rattle.isa_model.specs.Machine.Calls.{leave}
-use Rattle.isa_model.specs.Machine.MachineStates.{IsState}
-use Rattle.reg_state.specs.declared.kinds.Kind.{Kind}
-use Rattle.reg_state.specs.declared.kinds.Kind.TheVariants.{Unset, Stack}
-use Rattle.reg_state.specs.Kinds.{Assigned, Allows}
-use Rattle.stack_state.specs.declared.slots.StackSlot.{StackSlot}
-use Rattle.stack_state.specs.declared.slots.StackSlot.TheVariants.{Written, Spilled}
-use Rattle.stack_state.specs.declared.states.AbstractFrame.{AbstractFrame}
-use Rattle.stack_state.specs.declared.states.State.{State}
-use Rattle.stack_state.specs.Meaning.{frames_of, abstract_frame_at, kind_at, depth, MeansBy}
 use Rattle.stack_state.proofs.MeaningLaws.{depth_is_length, FrameKeeps}
-use Rattle.stack_state.specs.Slots.{slot_at}
-use Rattle.stack_state.specs.StackMeaning.{SlotMeans}
 use Rattle.stack_state.proofs.StackLaws.{SlotMeans-spilled}
-use Rattle.stack_state.specs.Effects.{with_spilled, with_kinds, map_kinds}
 use Rattle.stack_state.proofs.KindEffects.{abstract_frame_at-map, same_returns, MeansBy-map_kinds}
-use Rattle.stack_state.specs.Calls.{without_last, without_frame, ended}
 use Rattle.stack_state.proofs.ExitLaws.{Allows-without_frame, returns-left, MeansBy-leave}
 
 -- ---- what is forgotten allows all

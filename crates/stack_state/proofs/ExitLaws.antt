@@ -1,30 +1,11 @@
 -- An exit, which pops a call frame, keeps the meaning of an abstract state, if nothing points into
 -- the frame.
-use Rattle.std.specs.Prelude.{◌≡◌, ◌≢◌, ℕ, zero, suc, ◌+◌, ◌-◌, ◌<◌, ◌==◌, List, [], ◌∷◌, ◌++◌, map, take, length, slice_get, slice_index_or, Option, Some, None, Bool, true, false, if◌then◌else◌, refl}
-use Rattle.std.proofs.Common.{sym, ap, ◌∙◌, subst, inl, inr, arith}
-use Rattle.std.proofs.lemmas.Bool.{cases_lt}
-use Rattle.std.proofs.lemmas.Bool.Decides.{nat_tests}
-use Rattle.std.proofs.lemmas.Option.{slice_get_within}
-use Rattle.std.proofs.lemmas.List.{length-map, length-take-le, map-append, take-map, take_all, take-append-le, get_or-take}
+use Rattle.stack_state.proofs.Common.{◌≡◌, ◌≢◌, ℕ, zero, suc, ◌+◌, ◌-◌, ◌<◌, ◌==◌, List, [], ◌∷◌, ◌++◌, map, take, length, slice_get, slice_index_or, Option, Some, None, Bool, true, false, if◌then◌else◌, sym, ap, ◌∙◌, subst, inl, inr, arith, refl, cases_lt, nat_tests, slice_get_within, length-map, length-take-le, map-append, take-map, take_all, take-append-le, get_or-take, Value, CallFrame, Program, value_at, new_call_frame, call_frame_at, regs_after, leave, callers, innermost, IsState, Kind, Unset, Number, Context, Stack, Packet, PacketEnd, Map, MapValue, MapValueOrNull, Assigned, Allows, AllowsOrNull, AbstractFrame, State, frames_of, no_frame, abstract_frame_at, kind_at, kinds_of, stack_slots_of, depth, registers_of, MeansBy, StackMeans, left_kinds, resumed_of, left, without_last, without_frame}
 use Rattle.std.proofs.Math.Seq.{take-suc}
 use Rattle.std.proofs.Math.ListN.{get_or-map as get_or-map_default}
-use Rattle.isa_model.specs.declared.values.Value.{Value}
-use Rattle.isa_model.specs.declared.values.CallFrame.{CallFrame}
-use Rattle.isa_model.specs.Code.Instructions.{Program}
-use Rattle.isa_model.specs.Machine.States.{value_at, new_call_frame, call_frame_at}
 use Rattle.isa_model.specs.Machine.States as Machine
-use Rattle.isa_model.specs.Machine.Calls.{regs_after, leave, callers, innermost}
-use Rattle.isa_model.specs.Machine.MachineStates.{IsState}
-use Rattle.reg_state.specs.declared.kinds.Kind.{Kind}
-use Rattle.reg_state.specs.declared.kinds.Kind.TheVariants.{Unset, Number, Context, Stack, Packet, PacketEnd, Map, MapValue, MapValueOrNull}
-use Rattle.reg_state.specs.Kinds.{Assigned, Allows, AllowsOrNull}
-use Rattle.stack_state.specs.declared.states.AbstractFrame.{AbstractFrame}
-use Rattle.stack_state.specs.declared.states.State.{State}
-use Rattle.stack_state.specs.Meaning.{frames_of, no_frame, abstract_frame_at, kind_at, kinds_of, stack_slots_of, depth, registers_of, MeansBy}
 use Rattle.stack_state.proofs.MeaningLaws.{length-frames_of, abstract_frame_at-caller, abstract_frame_at-innermost, depth_is_length, FrameKeeps}
-use Rattle.stack_state.specs.StackMeaning.{StackMeans}
 use Rattle.stack_state.proofs.StackLaws.{StackMeans-change}
-use Rattle.stack_state.specs.Calls.{left_kinds, resumed_of, left, without_last, without_frame}
 
 -- ---- what does not point into the last frame
 

@@ -1,10 +1,7 @@
 -- Values about which no fact says anything.
-use Rattle.std.specs.Prelude.{◌≡◌, true, refl}
-use Rattle.reg_state.specs.declared.kinds.Kind.{Kind}
-use Rattle.reg_state.specs.declared.kinds.Kind.TheVariants.{Packet, MapValueOrNull, Stack}
+use Rattle.stack_state.proofs.Common.{◌≡◌, true, refl, Kind, Packet, MapValueOrNull, Stack, learned, is_plain}
 use Rattle.stack_state.specs.declared.facts.Fact.{Fact}
 use Rattle.stack_state.specs.declared.facts.Fact.TheVariants.{Proved, Tested, Ended}
-use Rattle.stack_state.specs.Facts.{learned, is_plain}
 
 pub learned-plain : (fact : Fact) (k : Kind) → is_plain k ≡ true → learned fact k ≡ k
 learned-plain (Proved i n) (Packet fixed identity least greatest proved) h = absurd (cc)

@@ -1,22 +1,5 @@
 -- Fills, which read back whole what a slot holds; and what is left when a map is forgotten.
-use Rattle.std.specs.Prelude.{◌≡◌, ◌≢◌, ℕ, ◌*◌, ◌^◌, ◌<◌, ◌==◌, Bool, true, false, if◌then◌else◌, ℤ, List, length, Option, Some, None, refl}
-use Rattle.std.proofs.Common.{sym, ap, ◌∙◌, subst, arith}
-use Rattle.std.proofs.lemmas.Bool.Decides.{nat_tests}
-use Rattle.std.proofs.lemmas.Nat.Bits.{bit_at_ones}
-use Rattle.isa_model.specs.Code.Limits.{stack_size}
-use Rattle.isa_model.specs.declared.sizes.Size.TheVariants.{U64}
-use Rattle.isa_model.specs.declared.values.Value.{Value}
-use Rattle.isa_model.specs.declared.values.Value.TheVariants.{Num}
-use Rattle.isa_model.specs.declared.values.Cell.{Cell}
-use Rattle.isa_model.specs.Machine.States.{Content}
-use Rattle.isa_model.specs.Machine.Memory.{number_of, value_in}
-use Rattle.reg_state.specs.declared.kinds.Kind.{Kind}
-use Rattle.reg_state.specs.declared.kinds.Kind.TheVariants.{Unset, Number, Context, Stack, Packet, PacketEnd, Map, MapValue, MapValueOrNull}
-use Rattle.reg_state.specs.Kinds.{Assigned, Allows, AllowsOrNull}
-use Rattle.stack_state.specs.declared.slots.StackSlot.{StackSlot}
-use Rattle.stack_state.specs.declared.slots.StackSlot.TheVariants.{Written, Spilled}
-use Rattle.stack_state.specs.Slots.{slot_at, IsAnyNumber, IsWrittenFill, IsFill, spilled_kind, forgotten_slot, forgotten, frame_slots}
-use Rattle.stack_state.specs.StackMeaning.{chunk_of, Marked, SlotMeans, LoadsSlot, KeepsOtherMaps, with_maps, ForgetsMap}
+use Rattle.stack_state.proofs.Common.{◌≡◌, ◌≢◌, ℕ, ◌*◌, ◌^◌, ◌<◌, ◌==◌, Bool, true, false, if◌then◌else◌, ℤ, List, length, Option, Some, None, sym, ap, ◌∙◌, subst, arith, refl, nat_tests, bit_at_ones, stack_size, U64, Value, Num, Cell, Content, number_of, value_in, Kind, Unset, Number, Context, Stack, Packet, PacketEnd, Map, MapValue, MapValueOrNull, Assigned, Allows, AllowsOrNull, StackSlot, Written, Spilled, slot_at, IsAnyNumber, IsWrittenFill, IsFill, spilled_kind, forgotten_slot, forgotten, frame_slots, chunk_of, Marked, SlotMeans, LoadsSlot, KeepsOtherMaps, with_maps, ForgetsMap}
 use Rattle.stack_state.proofs.SpliceLaws.{length-chunk}
 use Rattle.stack_state.proofs.CellLaws.{all_bytes, value_in-bytes, no_marks, value_stored}
 use Rattle.stack_state.proofs.StackLaws.{StackMeans-map, part_below}
@@ -85,7 +68,8 @@ fills slots k loaded within is = fills_slot slots k (slot_at slots k) loaded wit
 
 -- ---- forgotten
 
-null_kept : (e : Assigned) (maps : List Content) (m n : ℕ) (o : Option ℕ) (v : Value) → n ≢ m
+-- a null result of another map stays one
+pub null_kept : (e : Assigned) (maps : List Content) (m n : ℕ) (o : Option ℕ) (v : Value) → n ≢ m
     → KeepsOtherMaps m e.maps maps → AllowsOrNull e n o v → AllowsOrNull (with_maps e maps) n o v
 null_kept e maps m n None v other keeps h = h
 null_kept e maps m n (Some serial) v other keeps h = (h.0, keeps n serial other h.1)

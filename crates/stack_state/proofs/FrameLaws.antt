@@ -1,29 +1,9 @@
 -- Loads and stores of the meaning at a live call frame: the cells of its slots.
-use Rattle.std.specs.Prelude.{◌≡◌, ◌≢◌, ℕ, ◌+◌, ◌*◌, ◌≤◌, ℤ, pos, ◌+ℤ◌, nat_le, true, List, map, length, slice_set, All, Some, Result, Ok, refl}
-use Rattle.std.proofs.Common.{sym, ◌∙◌, subst}
-use Rattle.std.proofs.lemmas.Bool.{le-leb}
-use Rattle.std.proofs.lemmas.List.{length-map}
-use Rattle.isa_model.specs.Code.Limits.{stack_size}
-use Rattle.isa_model.specs.declared.sizes.Size.{Size}
-use Rattle.isa_model.specs.declared.sizes.Size.TheVariants.{U64}
+use Rattle.stack_state.proofs.Common.{◌≡◌, ◌≢◌, ℕ, ◌+◌, ◌*◌, ◌≤◌, ℤ, pos, ◌+ℤ◌, nat_le, true, List, map, length, slice_set, All, Some, Result, Ok, sym, ◌∙◌, subst, refl, le-leb, length-map, stack_size, Size, U64, Value, Num, Ptr, Cell, Byte, size_bytes, bytes_of, call_frame_index, index_from, index_at, read, write, number_in, value_in, load, load_number, store, IsCell, Scalar, Kind, Has, Assigned, Allows, StackSlot, part_of, cells_with, stored_cells, StackMeans, StoresBytes, Spills, LoadsNumber, LoadsSlot}
 use Rattle.isa_model.specs.declared.values.Region.TheVariants as region
-use Rattle.isa_model.specs.declared.values.Value.{Value}
-use Rattle.isa_model.specs.declared.values.Value.TheVariants.{Num, Ptr}
 use Rattle.isa_model.specs.declared.values.Value.TheVariants as value
-use Rattle.isa_model.specs.declared.values.Cell.{Cell}
-use Rattle.isa_model.specs.declared.values.Cell.TheVariants.{Byte}
 use Rattle.isa_model.specs.declared.ends.TrapReason.{TrapReason}
-use Rattle.isa_model.specs.Code.Sizes.{size_bytes}
-use Rattle.isa_model.specs.Code.Numbers.{bytes_of}
 use Rattle.isa_model.specs.Machine.States.{State, call_frame_at}
-use Rattle.isa_model.specs.Machine.Memory.{call_frame_index, index_from, index_at, read, write, number_in, value_in, load, load_number, store}
-use Rattle.isa_model.specs.Machine.MachineStates.{IsCell}
-use Rattle.reg_state.specs.declared.scalars.Scalar.{Scalar}
-use Rattle.reg_state.specs.declared.kinds.Kind.{Kind}
-use Rattle.reg_state.specs.Scalars.{Has}
-use Rattle.reg_state.specs.Kinds.{Assigned, Allows}
-use Rattle.stack_state.specs.declared.slots.StackSlot.{StackSlot}
-use Rattle.stack_state.specs.StackMeaning.{part_of, cells_with, stored_cells, StackMeans, StoresBytes, Spills, LoadsNumber, LoadsSlot}
 use Rattle.stack_state.proofs.CellLaws.{length-bytes_of}
 
 -- a pointer into the frame of this serial, which is the jth, moved by an instruction's offset: n

@@ -1,25 +1,8 @@
 -- Places in call frames: each is within one stack slot, and a frame pointer of a member leads to
 -- the cells there.
-use Rattle.std.specs.Prelude.{◌≡◌, ◌≢◌, ℕ, ◌+◌, ◌-◌, ◌*◌, ◌/◌, ◌%◌, ◌<◌, ◌≤◌, ◌==◌, ℤ, ◌+ℤ◌, nat_lt, true, List, [], ◌++◌, map, length, slice_get, slice_index_or, Some, refl}
-use Rattle.std.specs.List.{flat_map, position_or_len}
-use Rattle.std.proofs.Common.{sym, ap, ◌∙◌, arith}
-use Rattle.std.proofs.lemmas.Bool.Decides.{nat_tests}
-use Rattle.std.proofs.lemmas.Option.{slice_get_within, get_or_from_slice_get}
-use Rattle.std.proofs.lemmas.List.{length-map, length-append, get_or-map, get_or-append_right}
+use Rattle.stack_state.proofs.Common.{◌≡◌, ◌≢◌, ℕ, ◌+◌, ◌-◌, ◌*◌, ◌/◌, ◌%◌, ◌<◌, ◌≤◌, ◌==◌, ℤ, ◌+ℤ◌, nat_lt, true, List, [], ◌++◌, map, length, slice_get, slice_index_or, Some, sym, ap, ◌∙◌, arith, refl, flat_map, position_or_len, nat_tests, slice_get_within, get_or_from_slice_get, length-map, length-append, get_or-map, get_or-append_right, stack_size, Size, U8, U16, U32, U64, CallFrame, size_bytes, Program, new_call_frame, call_frame_at, call_frame_index, index_from, IsState, IsCallFrame, value_serials, Assigned, State, MeansBy}
 use Rattle.std.proofs.lemmas.List.Sums.{position_or_len_is}
-use Rattle.isa_model.specs.Code.Limits.{stack_size}
-use Rattle.isa_model.specs.declared.sizes.Size.{Size}
-use Rattle.isa_model.specs.declared.sizes.Size.TheVariants.{U8, U16, U32, U64}
-use Rattle.isa_model.specs.declared.values.CallFrame.{CallFrame}
-use Rattle.isa_model.specs.Code.Sizes.{size_bytes}
-use Rattle.isa_model.specs.Code.Instructions.{Program}
-use Rattle.isa_model.specs.Machine.States.{new_call_frame, call_frame_at}
 use Rattle.isa_model.specs.Machine.States as Machine
-use Rattle.isa_model.specs.Machine.Memory.{call_frame_index, index_from}
-use Rattle.isa_model.specs.Machine.MachineStates.{IsState, IsCallFrame, value_serials}
-use Rattle.reg_state.specs.Kinds.{Assigned}
-use Rattle.stack_state.specs.declared.states.State.{State}
-use Rattle.stack_state.specs.Meaning.{MeansBy}
 use Rattle.stack_state.proofs.FrameLaws.{IsHere}
 use Rattle.stack_state.specs.FramePlaces.{IsPlace}
 

@@ -1,36 +1,18 @@
 -- What helpers do keeps the meaning of an abstract state: keys looked up, put and removed, and an
 -- answer in r0.
-use Rattle.std.specs.Prelude.{◌≡◌, ℕ, zero, suc, ◌+◌, ◌<◌, ◌==◌, Bool, true, false, if◌then◌else◌, nat_eq, List, [], ◌∷◌, ◌++◌, map, drop, length, replicate, slice_get, slice_set, slice_index_or, Contains, Option, Some, None, refl}
-use Rattle.std.proofs.Common.{inl, inr, sym, ap, ◌∙◌, subst, arith}
-use Rattle.std.proofs.lemmas.Bool.{cases_eq, cases_lt}
-use Rattle.std.proofs.lemmas.Bool.Decides.{nat_tests}
-use Rattle.std.proofs.lemmas.List.{map-append, get_or-drop, get_or_past, get_or-set_same, get_or-set_other}
-use Rattle.std.proofs.lemmas.List.Elements.{All-contains_itself, Contains-append_left, Contains-append_right, Contains-append_cases}
+use Rattle.stack_state.proofs.Common.{◌≡◌, ℕ, zero, suc, ◌+◌, ◌<◌, ◌==◌, Bool, true, false, if◌then◌else◌, nat_eq, List, [], ◌∷◌, ◌++◌, map, drop, length, replicate, slice_get, slice_set, slice_index_or, Contains, Option, Some, None, inl, inr, sym, ap, ◌∙◌, subst, arith, refl, cases_eq, cases_lt, nat_tests, map-append, get_or-drop, get_or_past, get_or-set_same, get_or-set_other, All-contains_itself, Contains-append_left, Contains-append_right, Contains-append_cases, Value, Program, Stored, Content, value_at, call_frame_at, content_of, key_values_of, IsState, value_serials, Kind, MapValueOrNull, Assigned, Allows, AllowsOrNull, HasLiveValue, State, frames_of, abstract_frame_at, kind_at, stack_slots_of, depth, registers_of, MeansBy, IsFreshNull, StackMeans, KeepsOtherMaps, with_maps, forgotten_in, left_kinds, resumed_of}
 use Rattle.isa_model.specs.declared.map_defs.MapDef.{MapDef}
-use Rattle.isa_model.specs.declared.values.Value.{Value}
 use Rattle.isa_model.specs.declared.values.Value.TheVariants as value
-use Rattle.isa_model.specs.Code.Instructions.{Program}
-use Rattle.isa_model.specs.Machine.States.{Stored, Content, value_at, call_frame_at, content_of, key_values_of}
 use Rattle.isa_model.specs.Machine.States as Machine
 use Rattle.isa_model.specs.Machine.MapContents.{at_key, with_key, without_key, update_answer, delete_answer}
 use Rattle.isa_model.specs.Machine.MapHelpers.{Helped, serial_given, serial_after, put_bytes, remove_key, pointer_or_zero, map_update_elem, map_delete_elem}
 use Rattle.isa_model.specs.Machine.HelperCalls.{answered}
-use Rattle.isa_model.specs.Machine.MachineStates.{IsState, value_serials}
 use Rattle.isa_model.proofs.HelperLaws.{content_fits}
 use Rattle.isa_model.proofs.SerialLaws.{HasOneMore}
 use Rattle.isa_model.proofs.ContentLaws.{is_sorted-key_values_of, at_key-value_serials, value_serials-with_key, HasOneMore-with_key}
-use Rattle.reg_state.specs.declared.kinds.Kind.{Kind}
-use Rattle.reg_state.specs.declared.kinds.Kind.TheVariants.{MapValueOrNull}
-use Rattle.reg_state.specs.Kinds.{Assigned, Allows, AllowsOrNull, HasLiveValue}
 use Rattle.reg_state.proofs.KindLaws.{with_map_value}
-use Rattle.stack_state.specs.declared.states.State.{State}
-use Rattle.stack_state.specs.Meaning.{frames_of, abstract_frame_at, kind_at, stack_slots_of, depth, registers_of, MeansBy}
 use Rattle.stack_state.proofs.MeaningLaws.{abstract_frame_at-caller, stack_at-last, MeansBy-fresh_null}
-use Rattle.stack_state.specs.Identities.{IsFreshNull}
-use Rattle.stack_state.specs.StackMeaning.{StackMeans, KeepsOtherMaps, with_maps}
-use Rattle.stack_state.specs.Effects.{forgotten_in}
 use Rattle.stack_state.proofs.KindEffects.{MeansBy-forgets}
-use Rattle.stack_state.specs.Calls.{left_kinds, resumed_of}
 use Rattle.stack_state.specs.HelperAnswers.{with_answer}
 use Rattle.stack_state.proofs.ValueEffects.{KeepsLive, MeansBy-given}
 

@@ -1,33 +1,11 @@
 -- Effects on kinds in every call frame keep the meaning of an abstract state.
-use Rattle.std.specs.Prelude.{◌≡◌, ◌≢◌, ℕ, ◌<◌, ◌==◌, ℤ, pos, ◌+ℤ◌, ◌≤ℤ◌, List, [], ◌∷◌, map, max, length, slice_index_or, Option, Some, None, Bool, true, false, if◌then◌else◌, refl}
-use Rattle.std.proofs.Common.{sym, ap, ◌∙◌, subst, inl, inr, arith}
-use Rattle.std.proofs.lemmas.Bool.{cases_eq}
-use Rattle.std.proofs.lemmas.Bool.Decides.{nat_tests}
+use Rattle.stack_state.proofs.Common.{◌≡◌, ◌≢◌, ℕ, ◌<◌, ◌==◌, ℤ, pos, ◌+ℤ◌, ◌≤ℤ◌, List, [], ◌∷◌, map, max, length, slice_index_or, Option, Some, None, Bool, true, false, if◌then◌else◌, sym, ap, ◌∙◌, subst, inl, inr, arith, refl, cases_eq, nat_tests, map-append, get_or-map, Value, Cell, Program, Content, IsState, Scalar, Kind, Unset, Packet, MapValue, MapValueOrNull, Has, Assigned, Allows, AllowsPacket, AllowsOrNull, StackSlot, Written, Spilled, AbstractFrame, State, frames_of, no_frame, abstract_frame_at, kind_at, depth, AssignmentFits, MeansBy, slot_at, kind_in, forgotten_slot, SlotMeans, KeepsOtherMaps, with_maps, map_frames, with_spilled, with_kinds, map_kinds, proved_kind, tested_value, tested_kind, forgotten_register, forgotten_frame, forgotten_in}
 use Rattle.std.proofs.lemmas.Int.{ints}
-use Rattle.std.proofs.lemmas.List.{map-append, get_or-map}
 use Rattle.std.proofs.Math.ListN.{get_or-map as get_or-map_default}
-use Rattle.isa_model.specs.declared.values.Value.{Value}
-use Rattle.isa_model.specs.declared.values.Cell.{Cell}
-use Rattle.isa_model.specs.Code.Instructions.{Program}
-use Rattle.isa_model.specs.Machine.States.{Content}
 use Rattle.isa_model.specs.Machine.States as Machine
-use Rattle.isa_model.specs.Machine.MachineStates.{IsState}
-use Rattle.reg_state.specs.declared.scalars.Scalar.{Scalar}
-use Rattle.reg_state.specs.declared.kinds.Kind.{Kind}
-use Rattle.reg_state.specs.declared.kinds.Kind.TheVariants.{Unset, Packet, MapValue, MapValueOrNull}
-use Rattle.reg_state.specs.Scalars.{Has}
-use Rattle.reg_state.specs.Kinds.{Assigned, Allows, AllowsPacket, AllowsOrNull}
-use Rattle.stack_state.specs.declared.slots.StackSlot.{StackSlot}
-use Rattle.stack_state.specs.declared.slots.StackSlot.TheVariants.{Written, Spilled}
-use Rattle.stack_state.specs.declared.states.AbstractFrame.{AbstractFrame}
-use Rattle.stack_state.specs.declared.states.State.{State}
-use Rattle.stack_state.specs.Meaning.{frames_of, no_frame, abstract_frame_at, kind_at, depth, AssignmentFits, MeansBy}
 use Rattle.stack_state.proofs.MeaningLaws.{length-frames_of, FrameKeeps, MeansBy-onto}
-use Rattle.stack_state.specs.Slots.{slot_at, kind_in, forgotten_slot}
-use Rattle.stack_state.specs.StackMeaning.{SlotMeans, KeepsOtherMaps, with_maps}
 use Rattle.stack_state.proofs.StackLaws.{SlotMeans-spilled}
-use Rattle.stack_state.proofs.FillLaws.{SlotMeans-forgotten}
-use Rattle.stack_state.specs.Effects.{map_frames, with_spilled, with_kinds, map_kinds, proved_kind, tested_value, tested_kind, forgotten_register, forgotten_frame, forgotten_in}
+use Rattle.stack_state.proofs.FillLaws.{SlotMeans-forgotten, null_kept}
 
 -- ---- every frame
 
@@ -126,6 +104,19 @@ MeansBy-proved p e a s i n inside m =
     (Allows-proved e i n
     (subst (λ l. (e.offset i +ℤ pos n) ≤ℤ pos l) (sym m.assigned.length_is) inside)) m
 
+-- no bytes are proved: a kind stays
+pub proved_kind-none : (i : ℕ) (k : Kind) → proved_kind i 0 k ≡ k
+proved_kind-none i (Packet fixed identity least greatest proved) =
+    elim (identity == i) as (λ b.
+    Packet fixed identity least greatest (if b then max proved 0 else proved)
+    ≡ Packet fixed identity least greatest proved) [
+      | true ↦
+          let more : max proved 0 ≡ proved = omega arith in
+          ap (Packet fixed identity least greatest) more
+      | false ↦ refl
+    ]
+proved_kind-none i k = refl
+
 -- whether values of the identity are null
 abbrev pub IsNull : Option ℕ → Bool → Type 0
 IsNull None null = null ≡ true
@@ -172,18 +163,13 @@ MeansBy-tested p e a s i null zeros known has m =
 
 -- ---- a map forgotten everywhere
 
-forgotten_null : (e : Assigned) (maps : List Content) (m n : ℕ) (o : Option ℕ) (v : Value) → n ≢ m
-    → KeepsOtherMaps m e.maps maps → AllowsOrNull e n o v → AllowsOrNull (with_maps e maps) n o v
-forgotten_null e maps m n None v other keeps h = h
-forgotten_null e maps m n (Some serial) v other keeps h = (h.0, keeps n serial other h.1)
-
 forgotten_or_null : (e : Assigned) (maps : List Content) (m n i : ℕ) (v : Value) (b : Bool)
     → (n == m) ≡ b → KeepsOtherMaps m e.maps maps → Allows e (MapValueOrNull n i) v
     → Allows (with_maps e maps) (kind_in (if b then Written 0 else Spilled (MapValueOrNull n i))) v
 forgotten_or_null e maps m n i v true is keeps h = tt
 forgotten_or_null e maps m n i v false is keeps h =
     let other : n ≢ m = grind (arith, nat_tests) in
-    forgotten_null e maps m n (e.map_value i) v other keeps h
+    null_kept e maps m n (e.map_value i) v other keeps h
 
 forgotten_map_value : (e : Assigned) (maps : List Content) (m n : ℕ) (l g : ℤ) (v : Value)
     (b : Bool)

@@ -1,6 +1,7 @@
 pub mod BlankLaws
 pub mod CallLaws
 pub mod CellLaws
+mod Common
 pub mod EffectLaws
 pub mod KindEffects
 pub mod EndLaws

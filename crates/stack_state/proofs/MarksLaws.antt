@@ -1,17 +1,9 @@
 -- Laws of the definitions in specs/Marks.
-use Rattle.std.specs.Prelude.{◌≡◌, ◌≢◌, ℕ, zero, suc, ◌+◌, ◌<◌, ◌≤◌, Bool, true, false, List, [], ◌∷◌, length, slice_set, replicate, Some, refl}
-use Rattle.std.proofs.Common.{inl, inr, sym, ap, ◌∙◌, subst, arith}
-use Rattle.std.proofs.lemmas.Bool.{cases_eq, cases_lt}
+use Rattle.stack_state.proofs.Common.{◌≡◌, ◌≢◌, ℕ, zero, suc, ◌+◌, ◌<◌, ◌≤◌, Bool, true, false, List, [], ◌∷◌, length, slice_set, replicate, Some, inl, inr, sym, ap, ◌∙◌, subst, arith, refl, cases_eq, cases_lt, Kind, Unset, State, frames_of, no_frame, abstract_frame_at, named_by, IsFresh, IsLeastFresh, AreFree, IsFreshAt, IsFreshIn, Marks, is_marked, marked}
 use Rattle.std.proofs.lemmas.List.{length-set, get_or_past, get_or-set_same, get_or-set_other}
-use Rattle.reg_state.specs.declared.kinds.Kind.{Kind}
-use Rattle.reg_state.specs.declared.kinds.Kind.TheVariants.{Unset}
 use Rattle.stack_state.specs.declared.identities.IdentitySort.{IdentitySort}
 use Rattle.stack_state.specs.declared.identities.IdentitySort.TheVariants.{Packets, Nulls}
-use Rattle.stack_state.specs.declared.states.State.{State}
-use Rattle.stack_state.specs.Meaning.{frames_of, no_frame, abstract_frame_at}
 use Rattle.stack_state.proofs.MeaningLaws.{length-frames_of, abstract_frame_at-caller, abstract_frame_at-innermost}
-use Rattle.stack_state.specs.Identities.{named_by, IsFresh, IsLeastFresh}
-use Rattle.stack_state.specs.Marks.{AreFree, IsFreshAt, IsFreshIn, Marks, is_marked, marked}
 
 -- nothing is marked yet
 pub marked-replicate : (n : ℕ) → marked (replicate n false) ≡ 0

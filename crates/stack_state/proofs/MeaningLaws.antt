@@ -1,37 +1,16 @@
 -- Effects on an abstract state keep its meaning: the machine state after the same effect is a
 -- member of the abstract state after it.
-use Rattle.std.specs.Prelude.{◌≡◌, ◌≢◌, ℕ, zero, suc, ◌+◌, ◌-◌, ◌<◌, ℤ, pos, List, [], ◌∷◌, ◌++◌, map, length, slice_get, slice_set, slice_index_or, Option, Some, refl}
-use Rattle.std.proofs.Common.{sym, ap, ◌∙◌, subst, arith}
-use Rattle.std.proofs.lemmas.Bool.Decides.{nat_tests}
-use Rattle.std.proofs.lemmas.List.{length-map, length-append, map-append, get_or_append_left, get_or-append_right, get_or-set_other, set-get_or}
-use Rattle.std.proofs.lemmas.Option.{slice_get-get_or}
+use Rattle.stack_state.proofs.Common.{◌≡◌, ◌≢◌, ℕ, zero, suc, ◌+◌, ◌-◌, ◌<◌, ℤ, pos, List, [], ◌∷◌, ◌++◌, map, length, slice_get, slice_set, slice_index_or, Option, Some, sym, ap, ◌∙◌, subst, arith, refl, nat_tests, length-map, length-append, map-append, get_or_append_left, get_or-append_right, get_or-set_other, set-get_or, slice_get-get_or, Value, Cell, CallFrame, Program, value_at, reg, set_reg, frame_pointer, new_call_frame, call_frame_at, innermost, IsState, IsValue, IsSlot, Kind, Stack, Assigned, Allows, StackSlot, Written, Spilled, AbstractFrame, State, frames_of, no_frame, abstract_frame_at, kind_at, kinds_of, stack_slots_of, depth, registers_of, AssignmentFits, MeansBy, IsFreshPacket, IsFreshNull, slot_at, kind_in, frame_slots, SlotMeans, StackMeans}
 use Rattle.std.proofs.Math.ListN.{get_or-map as get_or-map_default}
 use Rattle.isa_model.specs.declared.registers.Reg.{Reg}
 use Rattle.isa_model.specs.declared.registers.Reg.TheVariants.{R0, R1, R2, R3, R4, R5, R6, R7, R8, R9, R10}
-use Rattle.isa_model.specs.declared.values.Value.{Value}
-use Rattle.isa_model.specs.declared.values.Cell.{Cell}
-use Rattle.isa_model.specs.declared.values.CallFrame.{CallFrame}
 use Rattle.isa_model.specs.Code.Registers.{reg_number}
-use Rattle.isa_model.specs.Code.Instructions.{Program}
-use Rattle.isa_model.specs.Machine.States.{value_at, reg, set_reg, frame_pointer, new_call_frame, call_frame_at}
 use Rattle.isa_model.specs.Machine.States as Machine
-use Rattle.isa_model.specs.Machine.Calls.{innermost}
-use Rattle.isa_model.specs.Machine.MachineStates.{IsState, IsValue, IsSlot}
+use Rattle.isa_model.proofs.RegisterLaws.{reg_number-below}
 use Rattle.isa_model.proofs.StateLaws.{IsState-go_to, IsState-set_reg, reg_fits}
-use Rattle.reg_state.specs.declared.kinds.Kind.{Kind}
-use Rattle.reg_state.specs.declared.kinds.Kind.TheVariants.{Stack}
-use Rattle.reg_state.specs.Kinds.{Assigned, Allows}
 use Rattle.reg_state.proofs.KindLaws.{with_offset, with_map_value, Allows-fresh_offset, Allows-fresh_map_value}
 use Rattle.reg_state.specs.KindCover.{packet_identity_of, null_identity_of}
-use Rattle.stack_state.specs.declared.slots.StackSlot.{StackSlot}
-use Rattle.stack_state.specs.declared.slots.StackSlot.TheVariants.{Written, Spilled}
-use Rattle.stack_state.specs.declared.states.AbstractFrame.{AbstractFrame}
-use Rattle.stack_state.specs.declared.states.State.{State}
-use Rattle.stack_state.specs.Meaning.{frames_of, no_frame, abstract_frame_at, kind_at, kinds_of, stack_slots_of, depth, registers_of, AssignmentFits, MeansBy}
-use Rattle.stack_state.specs.Identities.{IsFreshPacket, IsFreshNull}
 use Rattle.stack_state.specs.Places.{kind_of, with_kind, with_register, go_to}
-use Rattle.stack_state.specs.Slots.{slot_at, kind_in, frame_slots}
-use Rattle.stack_state.specs.StackMeaning.{SlotMeans, StackMeans}
 use Rattle.stack_state.proofs.StackLaws.{StackMeans-change, SlotMeans-spilled}
 
 -- ---- call frames
@@ -169,10 +148,6 @@ reg_number-R10 : (r : Reg) → reg_number r ≡ 10 → r ≡ R10
 reg_number-R10 R10 h = refl
 reg_number-R10 r h = absurd (omega arith)
 
-reg_number-within : (r : Reg) → reg_number r < 11
-reg_number-within R10 = omega arith
-reg_number-within r = omega arith
-
 -- a register holds a new value, which its new kind allows
 pub MeansBy-set : (p : Program) (e : Assigned) (a : State) (s : Machine.State) (r : Reg) (k : Kind)
     (v : Value) → r ≢ R10
@@ -180,7 +155,7 @@ pub MeansBy-set : (p : Program) (e : Assigned) (a : State) (s : Machine.State) (
     → MeansBy p e (with_register a r k) (set_reg s r v)
 MeansBy-set p e a s r k v own new fits m =
     let eleven = m.is_state.registers in
-    let within = reg_number-within r in
+    let within = reg_number-below r in
     record {
       is_state = IsState-set_reg p s r v fits m.is_state;
       assigned = record {

@@ -1,34 +1,12 @@
 -- Bytes of a number stored into a live call frame: where the machine does not trap, its next state
 -- is a member of the state that is left.
-use Rattle.std.specs.Prelude.{◌≡◌, ℕ, ◌+◌, ◌<◌, ℤ, ◌+ℤ◌, nat_le, true, List, [], map, length, All, Ok}
-use Rattle.std.proofs.Common.{sym, ◌∙◌, subst, arith}
-use Rattle.std.proofs.lemmas.Bool.{le-leb}
-use Rattle.std.proofs.lemmas.List.{length-map}
-use Rattle.isa_model.specs.declared.sizes.Size.{Size}
+use Rattle.stack_state.proofs.Common.{◌≡◌, ℕ, ◌+◌, ◌<◌, ℤ, ◌+ℤ◌, nat_le, true, List, [], map, length, All, Ok, sym, ◌∙◌, subst, arith, le-leb, length-map, Size, Num, Ptr, Cell, Byte, size_bytes, bytes_of, Program, new_call_frame, call_frame_at, index_at, write, store, IsCell, IsCallFrame, Scalar, Has, Assigned, StackSlot, State, depth, stack_slots_of, MeansBy, cells_with, StackMeans, StoresNumber, with_frame_slots}
 use Rattle.isa_model.specs.declared.values.Region.TheVariants as region
-use Rattle.isa_model.specs.declared.values.Value.TheVariants.{Num, Ptr}
-use Rattle.isa_model.specs.declared.values.Cell.{Cell}
-use Rattle.isa_model.specs.declared.values.Cell.TheVariants.{Byte}
-use Rattle.isa_model.specs.Code.Sizes.{size_bytes}
-use Rattle.isa_model.specs.Code.Numbers.{bytes_of}
-use Rattle.isa_model.specs.Code.Instructions.{Program}
-use Rattle.isa_model.specs.Machine.States.{new_call_frame, call_frame_at}
 use Rattle.isa_model.specs.Machine.States as Machine
-use Rattle.isa_model.specs.Machine.Memory.{index_at, write, store}
-use Rattle.isa_model.specs.Machine.MachineStates.{IsCell, IsCallFrame}
-use Rattle.reg_state.specs.declared.scalars.Scalar.{Scalar}
-use Rattle.reg_state.specs.Scalars.{Has}
-use Rattle.reg_state.specs.Kinds.{Assigned}
-use Rattle.stack_state.specs.declared.slots.StackSlot.{StackSlot}
-use Rattle.stack_state.specs.declared.states.State.{State}
-use Rattle.stack_state.specs.Meaning.{depth, stack_slots_of, MeansBy}
-use Rattle.stack_state.specs.StackMeaning.{cells_with, StackMeans}
-use Rattle.stack_state.specs.NumberStores.{StoresNumber}
-use Rattle.stack_state.specs.Effects.{with_frame_slots}
 use Rattle.stack_state.proofs.MeaningLaws.{depth_is_length}
 use Rattle.stack_state.proofs.CellLaws.{length-bytes_of}
 use Rattle.stack_state.proofs.FrameLaws.{IsHere, with_cells, LeavesFrame}
-use Rattle.stack_state.proofs.EffectLaws.{IfLeft, MeansBy-cells}
+use Rattle.stack_state.proofs.EffectLaws.{IfLeft, MeansBy-cells, cells_fit}
 
 write_there : (s : Machine.State) (serial j at : ℕ) (z by : ℤ) (new : List Cell)
     → IsHere s serial j at (length new) z by
@@ -57,14 +35,6 @@ stores_number_here e s old new size serial j at n count next z by numbers h fit 
       stores e count next (call_frame_at s.frames j).cells n fit has m,
     )
 
-frame_cells_fit : (p : Program) (e : Assigned) (a : State) (s : Machine.State) (j : ℕ) → j < depth a
-    → MeansBy p e a s → All (IsCell (length p.maps) s.next_serial) (call_frame_at s.frames j).cells
-frame_cells_fit p e a s j inside m =
-    let depth_is = depth_is_length p e a s m in
-    let fits : IsCallFrame p s.next_serial (call_frame_at s.frames j) =
-    m.is_state.frames j (new_call_frame 0 0 []) (omega arith) in
-    fits.cells
-
 -- bytes of one of the numbers are stored
 pub MeansBy-stores_number : (p : Program) (e : Assigned) (a : State) (s : Machine.State)
     (new : List StackSlot) (size : Size) (serial j at n : ℕ) (z by : ℤ)
@@ -76,5 +46,5 @@ MeansBy-stores_number p e a s new size serial j at n z by numbers inside here ha
     let (cells, went, stack) =
     stores_number_here e s (stack_slots_of a j) new size serial j at n
     (length p.maps) s.next_serial z by numbers here
-    (frame_cells_fit p e a s j inside m) has (m.stacks j inside) stores in
+    (cells_fit p e a s j inside m) has (m.stacks j inside) stores in
     (with_cells s j cells, went, λ is. MeansBy-cells p e a s j new cells inside is stack m)

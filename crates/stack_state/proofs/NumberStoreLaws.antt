@@ -1,37 +1,10 @@
 -- A number whose bytes are stored into a slot of number bytes: what the slot's eight bytes spell
 -- after it.
-use Rattle.std.specs.Prelude.{◌≡◌, ℕ, suc, ◌+◌, ◌-◌, ◌*◌, ◌/◌, ◌%◌, ◌^◌, ◌<◌, ◌≤◌, true, List, [], ◌∷◌, map, length, slice_index_or, slice_set, All, bit_or, refl}
+use Rattle.stack_state.proofs.Common.{◌≡◌, ℕ, suc, ◌+◌, ◌-◌, ◌*◌, ◌/◌, ◌%◌, ◌^◌, ◌<◌, ◌≤◌, true, List, [], ◌∷◌, map, length, slice_index_or, slice_set, All, bit_or, slice_index, sym, ap, ◌∙◌, subst, inl, inr, arith, refl, cases_eq, cases_lt, le_bytes_8, bit_at_ones, length-map, get_or_past, All-take, All-drop, stack_size, Size, U8, U16, U32, U64, Num, Cell, Unwritten, Byte, Piece, size_bytes, bytes_of, number_from, EachByte, is_byte, byte_in, number_of, IsCell, bytes_in_fit, bytes_of_fit, slice_index_fits, number_of_fits, Scalar, Number, Has, Assigned, StackSlot, Written, Spilled, slot_at, marks_of, mask_of, frame_slots, chunk_of, cells_with, stored_cells, Marked, SlotMeans, AreWhole, marks_after, IsSplicedSlot, IsSlotStored, StoresNumber}
 use Rattle.std.specs.Int.{w64, to_le_bytes}
-use Rattle.std.proofs.Common.{slice_index, sym, ap, ◌∙◌, subst, inl, inr, arith}
-use Rattle.std.proofs.lemmas.Bool.{cases_eq, cases_lt}
-use Rattle.std.proofs.lemmas.Nat.{le_bytes_8}
-use Rattle.std.proofs.lemmas.Nat.Bits.{bit_at_ones}
-use Rattle.std.proofs.lemmas.List.{length-map, get_or_past}
-use Rattle.std.proofs.lemmas.List.Elements.{All-take, All-drop}
 use Rattle.std.proofs.Math.ListN.{get_or-map as get_or-map_default}
-use Rattle.isa_model.specs.Code.Limits.{stack_size}
-use Rattle.isa_model.specs.declared.sizes.Size.{Size}
-use Rattle.isa_model.specs.declared.sizes.Size.TheVariants.{U8, U16, U32, U64}
-use Rattle.isa_model.specs.declared.values.Value.TheVariants.{Num}
-use Rattle.isa_model.specs.declared.values.Cell.{Cell}
-use Rattle.isa_model.specs.declared.values.Cell.TheVariants.{Unwritten, Byte, Piece}
-use Rattle.isa_model.specs.Code.Sizes.{size_bytes}
-use Rattle.isa_model.specs.Code.Numbers.{bytes_of, number_from}
-use Rattle.isa_model.specs.Code.EachByte.{EachByte}
-use Rattle.isa_model.specs.Machine.Memory.{is_byte, byte_in, number_of}
-use Rattle.isa_model.specs.Machine.MachineStates.{IsCell}
 use Rattle.isa_model.proofs.ByteCells.{map-byte_in-Byte}
-use Rattle.isa_model.proofs.ValueLaws.{bytes_in_fit, bytes_of_fit, slice_index_fits, number_of_fits}
 use Rattle.known_bits.specs.Bits.{spliced}
-use Rattle.reg_state.specs.declared.scalars.Scalar.{Scalar}
-use Rattle.reg_state.specs.declared.kinds.Kind.TheVariants.{Number}
-use Rattle.reg_state.specs.Scalars.{Has}
-use Rattle.reg_state.specs.Kinds.{Assigned}
-use Rattle.stack_state.specs.declared.slots.StackSlot.{StackSlot}
-use Rattle.stack_state.specs.declared.slots.StackSlot.TheVariants.{Written, Spilled}
-use Rattle.stack_state.specs.Slots.{slot_at, marks_of, mask_of, frame_slots}
-use Rattle.stack_state.specs.StackMeaning.{chunk_of, cells_with, stored_cells, Marked, SlotMeans}
-use Rattle.stack_state.specs.NumberStores.{AreWhole, marks_after, IsSplicedSlot, IsSlotStored, StoresNumber}
 use Rattle.stack_state.proofs.SpelledBytes.{AreSpliced, spliced_number}
 use Rattle.stack_state.proofs.SpliceLaws.{chunk_kept, chunk_written, length-chunk, length-cells_with}
 use Rattle.stack_state.proofs.CellLaws.{length-bytes_of, marked_after, marked_slot, number_of-stored_cells, number_of-part}

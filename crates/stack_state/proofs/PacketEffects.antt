@@ -1,13 +1,7 @@
 -- What is written into the packet keeps the meaning of an abstract state, which knows no more of
 -- the packet than its length.
-use Rattle.std.specs.Prelude.{◌≡◌, ℕ, List, length, refl}
-use Rattle.std.proofs.Common.{sym, ◌∙◌}
-use Rattle.isa_model.specs.Code.Instructions.{Program}
+use Rattle.stack_state.proofs.Common.{◌≡◌, ℕ, List, length, sym, ◌∙◌, refl, Program, IsState, Assigned, State, MeansBy}
 use Rattle.isa_model.specs.Machine.States as Machine
-use Rattle.isa_model.specs.Machine.MachineStates.{IsState}
-use Rattle.reg_state.specs.Kinds.{Assigned}
-use Rattle.stack_state.specs.declared.states.State.{State}
-use Rattle.stack_state.specs.Meaning.{MeansBy}
 use Rattle.stack_state.proofs.MeaningLaws.{MeansBy-onto}
 
 -- the packet has other bytes, and the same number of them

@@ -1,16 +1,9 @@
 -- Laws of the places of an abstract state: what a register's kind is after one was set.
-use Rattle.std.specs.Prelude.{◌≡◌, ◌≢◌, ℕ, zero, suc, ◌⊎◌, List, [], ◌∷◌, slice_set, refl}
-use Rattle.std.proofs.Common.{sym, ap, ◌∙◌, subst, inl, inr}
-use Rattle.std.proofs.lemmas.Bool.{cases_eq}
-use Rattle.std.proofs.lemmas.List.{get_or-set_other}
+use Rattle.stack_state.proofs.Common.{◌≡◌, ◌≢◌, ℕ, zero, suc, ◌⊎◌, List, [], ◌∷◌, slice_set, sym, ap, ◌∙◌, subst, inl, inr, refl, cases_eq, get_or-set_other, Kind, Unset, State, kind_at, registers_of}
 use Rattle.isa_model.specs.declared.registers.Reg.{Reg}
 use Rattle.isa_model.specs.declared.registers.Reg.TheVariants.{R10}
 use Rattle.isa_model.specs.Code.Registers.{reg_number}
 use Rattle.isa_model.proofs.RegisterLaws.{same_number}
-use Rattle.reg_state.specs.declared.kinds.Kind.{Kind}
-use Rattle.reg_state.specs.declared.kinds.Kind.TheVariants.{Unset}
-use Rattle.stack_state.specs.declared.states.State.{State}
-use Rattle.stack_state.specs.Meaning.{kind_at, registers_of}
 use Rattle.stack_state.specs.Places.{kind_of, with_register}
 
 -- ---- registers, which differ by their numbers

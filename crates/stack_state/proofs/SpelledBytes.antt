@@ -1,12 +1,6 @@
 -- The number that bytes spell, in parts; and eight bytes, some of which are those of another
 -- number.
-use Rattle.std.specs.Prelude.{◌≡◌, ℕ, zero, suc, ◌+◌, ◌-◌, ◌*◌, ◌/◌, ◌%◌, ◌^◌, ◌<◌, ◌≤◌, List, length, refl}
-use Rattle.std.proofs.Common.{slice_index, sym, ap, ◌∙◌, arith}
-use Rattle.std.proofs.Math.Nat.{add-zero}
-use Rattle.std.proofs.lemmas.Nat.{pow-add, mul-add-lt, mod-mul-add, div-mul-add}
-use Rattle.std.proofs.lemmas.List.{get_or_past}
-use Rattle.isa_model.specs.Code.Numbers.{number_from}
-use Rattle.isa_model.specs.Code.EachByte.{EachByte}
+use Rattle.stack_state.proofs.Common.{◌≡◌, ℕ, zero, suc, ◌+◌, ◌-◌, ◌*◌, ◌/◌, ◌%◌, ◌^◌, ◌<◌, ◌≤◌, List, length, slice_index, sym, ap, ◌∙◌, arith, refl, add-zero, pow-add, mul-add-lt, mod-mul-add, div-mul-add, get_or_past, number_from, EachByte}
 use Rattle.known_bits.specs.Bits.{spliced}
 
 -- ---- the number of bytes, the lowest first

@@ -1,10 +1,6 @@
 -- A list after a write at an index: inside what was written, before it and after it; and its parts
 -- of eight.
-use Rattle.std.specs.Prelude.{◌≡◌, ℕ, ◌+◌, ◌-◌, ◌*◌, ◌/◌, ◌%◌, ◌<◌, ◌≤◌, List, ◌++◌, length, take, drop, slice_index_or, ◌⊎◌, refl}
-use Rattle.std.proofs.Common.{sym, ap, ◌∙◌, inl, inr, arith}
-use Rattle.std.proofs.lemmas.List.{length-drop, length-take-le, get_or-take, get_or-drop, get_or-append_right, get_or_append_left, same_lists, drop-take, drop-drop, take-take}
-use Rattle.isa_model.proofs.ValueLaws.{length-splice}
-use Rattle.stack_state.specs.StackMeaning.{part_of, chunk_of, cells_with}
+use Rattle.stack_state.proofs.Common.{◌≡◌, ℕ, ◌+◌, ◌-◌, ◌*◌, ◌/◌, ◌%◌, ◌<◌, ◌≤◌, List, ◌++◌, length, take, drop, slice_index_or, ◌⊎◌, sym, ap, ◌∙◌, inl, inr, arith, refl, length-drop, length-take-le, get_or-take, get_or-drop, get_or-append_right, get_or_append_left, same_lists, drop-take, drop-drop, take-take, length-splice, part_of, chunk_of, cells_with}
 
 pub length-cells_with : {X : Type 0} (xs ys : List X) (at : ℕ) → at + length ys ≤ length xs
     → length (cells_with xs at ys) ≡ length xs

@@ -1,33 +1,6 @@
 -- What the methods of `StackState` do to the cells that the slots mean.
-use Rattle.std.specs.Prelude.{◌≡◌, ◌≢◌, ℕ, ◌+◌, ◌*◌, ◌/◌, ◌%◌, ◌^◌, ◌<◌, ◌≤◌, true, List, map, drop, length, replicate, slice_set, slice_index_or, All, Option, Some, None, ◌⊎◌, bit_or}
-use Rattle.std.specs.Int.{bit_at}
-use Rattle.std.specs.List.{list_all}
-use Rattle.std.proofs.Common.{sym, ap, ◌∙◌, subst, inl, inr, arith}
-use Rattle.std.proofs.lemmas.Bool.{cases_eq, cases_lt}
-use Rattle.std.proofs.lemmas.List.{length-map, length-take, length-take-le, length-drop, get_or-take, get_or-drop, get_or-map, get_or-replicate, get_or-set_same, get_or-set_other}
-use Rattle.std.proofs.lemmas.List.Elements.{All-take, All-drop}
-use Rattle.isa_model.specs.Code.Limits.{stack_size}
-use Rattle.isa_model.specs.declared.sizes.Size.{Size}
-use Rattle.isa_model.specs.declared.sizes.Size.TheVariants.{U8, U16, U32, U64}
-use Rattle.isa_model.specs.declared.values.Value.{Value}
-use Rattle.isa_model.specs.declared.values.Value.TheVariants.{Num}
-use Rattle.isa_model.specs.declared.values.Cell.{Cell}
-use Rattle.isa_model.specs.declared.values.Cell.TheVariants.{Unwritten, Byte}
-use Rattle.isa_model.specs.Code.Sizes.{size_bytes}
-use Rattle.isa_model.specs.Code.Numbers.{bytes_of}
-use Rattle.isa_model.specs.Machine.Memory.{is_byte, byte_in, number_of}
-use Rattle.isa_model.specs.Machine.MachineStates.{IsCell}
-use Rattle.isa_model.proofs.ValueLaws.{bytes_in_fit, slice_index_fits}
-use Rattle.reg_state.specs.declared.scalars.Scalar.{Scalar}
-use Rattle.reg_state.specs.declared.kinds.Kind.{Kind}
-use Rattle.reg_state.specs.declared.kinds.Kind.TheVariants.{Unset, Number}
-use Rattle.reg_state.specs.Scalars.{Has}
+use Rattle.stack_state.proofs.Common.{◌≡◌, ◌≢◌, ℕ, ◌+◌, ◌*◌, ◌/◌, ◌%◌, ◌^◌, ◌<◌, ◌≤◌, true, List, map, drop, length, replicate, slice_set, slice_index_or, All, Option, Some, None, ◌⊎◌, bit_or, sym, ap, ◌∙◌, subst, inl, inr, arith, bit_at, list_all, cases_eq, cases_lt, length-map, length-take, length-take-le, length-drop, get_or-take, get_or-drop, get_or-map, get_or-replicate, get_or-set_same, get_or-set_other, All-take, All-drop, stack_size, Size, U8, U16, U32, U64, Value, Num, Cell, Unwritten, Byte, size_bytes, bytes_of, is_byte, byte_in, number_of, IsCell, bytes_in_fit, slice_index_fits, Scalar, Kind, Unset, Number, Has, Assigned, Allows, StackSlot, Written, Spilled, slot_at, marks_of, mask_of, AreMarked, after_store, AreNumbers, IsLoad, IsNumberSpill, IsSpill, frame_slots, part_of, chunk_of, cells_with, stored_cells, Marked, SlotMeans, StackMeans, StoresBytes, Spills, LoadsNumber, AreNumberBytes}
 use Rattle.reg_state.specs.Arithmetic.{IsPart}
-use Rattle.reg_state.specs.Kinds.{Assigned, Allows}
-use Rattle.stack_state.specs.declared.slots.StackSlot.{StackSlot}
-use Rattle.stack_state.specs.declared.slots.StackSlot.TheVariants.{Written, Spilled}
-use Rattle.stack_state.specs.Slots.{slot_at, marks_of, mask_of, AreMarked, after_store, AreNumbers, IsLoad, IsNumberSpill, IsSpill, frame_slots}
-use Rattle.stack_state.specs.StackMeaning.{part_of, chunk_of, cells_with, stored_cells, Marked, SlotMeans, StackMeans, StoresBytes, Spills, LoadsNumber, AreNumberBytes}
 use Rattle.stack_state.proofs.SpliceLaws.{length-cells_with, get_or-chunk, chunk_other, chunk_whole, part_of-chunk}
 use Rattle.stack_state.proofs.CellLaws.{all_bytes, number_in-bytes, length-bytes_of, number_from_below, no_marks, marked_after, marked_number, marked_slot, number_of-stored_cells, number_of-part, length-stored_cells}
 

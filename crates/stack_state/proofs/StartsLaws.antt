@@ -1,19 +1,8 @@
 -- Laws of the definitions in specs/Starts.
-use Rattle.std.specs.Prelude.{ℕ, zero, suc, ◌<◌, pos, List, [], ◌∷◌, None, refl, length, replicate}
-use Rattle.std.proofs.Common.{arith}
-use Rattle.std.proofs.lemmas.List.{length-replicate}
-use Rattle.isa_model.specs.Code.Limits.{stack_size}
-use Rattle.isa_model.specs.declared.values.Value.{Value}
-use Rattle.isa_model.specs.declared.values.Cell.TheVariants.{Unwritten}
+use Rattle.stack_state.proofs.Common.{ℕ, zero, suc, ◌<◌, pos, List, [], ◌∷◌, None, length, replicate, arith, refl, length-replicate, stack_size, Value, Unwritten, Program, KeyValues, value_at, new_call_frame, call_frame_at, IsProgram, IsGiven, Assigned, Allows, kind_at, stack_slots_of, MeansBy, Means, StackMeans}
 use Rattle.isa_model.specs.declared.frames.FrameHead.{FrameHead}
-use Rattle.isa_model.specs.Code.Instructions.{Program}
-use Rattle.isa_model.specs.Machine.States.{KeyValues, value_at, new_call_frame, call_frame_at}
 use Rattle.isa_model.specs.Running.Runs.{count_map_values, numbered_maps, start_regs, start_state}
-use Rattle.isa_model.specs.Machine.MachineStates.{IsProgram, IsGiven}
 use Rattle.isa_model.proofs.StepLaws.{start_is_state}
-use Rattle.reg_state.specs.Kinds.{Assigned, Allows}
-use Rattle.stack_state.specs.Meaning.{kind_at, stack_slots_of, MeansBy, Means}
-use Rattle.stack_state.specs.StackMeaning.{StackMeans}
 use Rattle.stack_state.proofs.StackLaws.{StackMeans-new}
 use Rattle.stack_state.specs.Starts.{first_registers, start}
 

@@ -1,22 +1,9 @@
 -- Map values that stay live keep the meaning of an abstract state, which knows nothing of their
 -- bytes.
-use Rattle.std.specs.Prelude.{◌≡◌, ℕ, List, Option, Some, None, IfSome, slice_get, refl}
-use Rattle.std.proofs.Common.{sym, subst}
-use Rattle.isa_model.specs.declared.values.Cell.{Cell}
-use Rattle.isa_model.specs.Code.Instructions.{Program}
-use Rattle.isa_model.specs.Machine.States.{Content}
+use Rattle.stack_state.proofs.Common.{◌≡◌, ℕ, List, Option, Some, None, IfSome, slice_get, sym, subst, refl, Cell, Program, Content, IsState, Kind, Assigned, HasLiveValue, StackSlot, Written, Spilled, State, kind_at, kinds_of, stack_slots_of, MeansBy, slot_at, SlotMeans, with_maps}
 use Rattle.isa_model.specs.Machine.States as Machine
-use Rattle.isa_model.specs.Machine.MachineStates.{IsState}
-use Rattle.reg_state.specs.declared.kinds.Kind.{Kind}
-use Rattle.reg_state.specs.Kinds.{Assigned, HasLiveValue}
 use Rattle.reg_state.specs.KindCover.{packet_identity_of, null_identity_of}
 use Rattle.reg_state.proofs.KindLaws.{frame_of as frame_in, map_of, KeepsAssigned, Allows-kept}
-use Rattle.stack_state.specs.declared.slots.StackSlot.{StackSlot}
-use Rattle.stack_state.specs.declared.slots.StackSlot.TheVariants.{Written, Spilled}
-use Rattle.stack_state.specs.declared.states.State.{State}
-use Rattle.stack_state.specs.Meaning.{kind_at, kinds_of, stack_slots_of, MeansBy}
-use Rattle.stack_state.specs.Slots.{slot_at}
-use Rattle.stack_state.specs.StackMeaning.{SlotMeans, with_maps}
 use Rattle.stack_state.proofs.StackLaws.{SlotMeans-spilled}
 use Rattle.stack_state.proofs.MeaningLaws.{MeansBy-onto}
 

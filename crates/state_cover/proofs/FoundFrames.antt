@@ -1,19 +1,8 @@
 -- What the tests of call frames have to find, where a state encloses another or is equal to it.
-use Rattle.std.proofs.Common.{◌≡◌, ◌∙◌, ℕ, zero, suc, ◌<◌, List, [], ◌∷◌, length, map, get_or, refl, sym, ap, subst, arith}
+use Rattle.state_cover.proofs.Common.{◌≡◌, ◌∙◌, ℕ, zero, suc, ◌<◌, List, [], ◌∷◌, length, map, get_or, refl, sym, ap, subst, arith, Kind, Unset, Number, Context, Stack, Packet, PacketEnd, Map, MapValue, MapValueOrNull, KindEncloses, StackSlot, Written, Spilled, AbstractFrame, State, slot_at, frames_of, no_frame, abstract_frame_at, kind_at, kinds_of, stack_slots_of, packet_name, null_name, SlotEncloses, KindsEnclose, SlotsEnclose, StateEncloses}
 use Rattle.std.proofs.lemmas.List.{length-map, get_or_default}
 use Rattle.std.proofs.lemmas.Int.{ints}
-use Rattle.reg_state.specs.declared.kinds.Kind.{Kind}
-use Rattle.reg_state.specs.declared.kinds.Kind.TheVariants.{Unset, Number, Context, Stack, Packet, PacketEnd, Map, MapValue, MapValueOrNull}
-use Rattle.reg_state.specs.KindCover.{KindEncloses}
-use Rattle.stack_state.specs.declared.slots.StackSlot.{StackSlot}
-use Rattle.stack_state.specs.declared.slots.StackSlot.TheVariants.{Written, Spilled}
-use Rattle.stack_state.specs.declared.states.AbstractFrame.{AbstractFrame}
-use Rattle.stack_state.specs.declared.states.State.{State}
-use Rattle.stack_state.specs.Slots.{slot_at}
-use Rattle.stack_state.specs.Meaning.{frames_of, no_frame, abstract_frame_at, kind_at, kinds_of, stack_slots_of}
 use Rattle.stack_state.proofs.MeaningLaws.{length-frames_of, abstract_frame_at-caller, abstract_frame_at-innermost}
-use Rattle.state_cover.specs.Names.{packet_name, null_name}
-use Rattle.state_cover.specs.FrameCover.{SlotEncloses, KindsEnclose, SlotsEnclose, StateEncloses}
 use Rattle.state_cover.proofs.Renaming.{StateEncloses-names}
 
 -- ---- equal states

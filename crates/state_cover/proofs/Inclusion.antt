@@ -1,25 +1,15 @@
 -- If each call frame covers the other state's, each member of the other state is a member.
 -- `packet` and `null` rename packet and null identities to the other state's.
-use Rattle.std.proofs.Common.{◌≡◌, ◌∙◌, ℕ, zero, suc, ◌<◌, ◌≤◌, ◌++◌, inl, inr, List, [], ◌∷◌, length, map, get_or, refl, ap, arith}
+use Rattle.state_cover.proofs.Common.{◌≡◌, ◌∙◌, ℕ, zero, suc, ◌<◌, ◌≤◌, ◌++◌, inl, inr, List, [], ◌∷◌, length, map, get_or, refl, ap, arith, Kind, Unset, KindCovers, StackSlot, Written, Spilled, AbstractFrame, State, slot_at, Covers, Means, kind_at, frames_of, no_frame, abstract_frame_at, FrameCovers, KindsCover, SlotCovers}
 use Rattle.std.proofs.lemmas.List.{get_or_past}
 use Rattle.std.proofs.lemmas.Bool.{cases_lt}
 use Rattle.isa_model.specs.declared.values.Cell.{Cell}
 use Rattle.isa_model.specs.Code.Instructions.{Program}
-use Rattle.reg_state.specs.declared.kinds.Kind.{Kind}
-use Rattle.reg_state.specs.declared.kinds.Kind.TheVariants.{Unset}
 use Rattle.reg_state.specs.Kinds.{Assigned}
-use Rattle.reg_state.specs.KindCover.{KindCovers}
 use Rattle.reg_state.proofs.KindCoverLaws.{Allows-covered, renamed}
-use Rattle.stack_state.specs.declared.slots.StackSlot.{StackSlot}
-use Rattle.stack_state.specs.declared.slots.StackSlot.TheVariants.{Written, Spilled}
-use Rattle.stack_state.specs.declared.states.AbstractFrame.{AbstractFrame}
-use Rattle.stack_state.specs.declared.states.State.{State}
-use Rattle.stack_state.specs.Slots.{slot_at}
 use Rattle.stack_state.specs.StackMeaning.{SlotMeans}
 use Rattle.stack_state.proofs.StackLaws.{SlotMeans-spilled, SlotMeans-marks}
-use Rattle.stack_state.specs.Meaning.{Covers, Means, kind_at, frames_of, no_frame, abstract_frame_at}
 use Rattle.stack_state.proofs.MeaningLaws.{FrameKeeps, MeansBy-change}
-use Rattle.state_cover.specs.FrameCover.{FrameCovers, KindsCover, SlotCovers}
 
 -- past the last register a kind is Unset, which covers every kind
 kind_covers_past : (packet null : ℕ → ℕ) (xs ys : List Kind) (k : ℕ) → length xs ≤ k

@@ -1,3 +1,4 @@
+mod Common
 pub mod Marks
 pub mod Places
 pub mod Renaming

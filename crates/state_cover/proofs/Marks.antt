@@ -1,11 +1,9 @@
 -- The test that some marks are among others.
-use Rattle.std.proofs.Common.{◌≡◌, ℕ, ◌^◌, ◌<◌, inl, inr, bit_and, sym, ap, ◌∙◌, min, arith}
-use Rattle.std.specs.Prelude.{IsTrue, ◌↔◌, nat_eq}
+use Rattle.state_cover.proofs.Common.{◌≡◌, ℕ, ◌^◌, ◌<◌, inl, inr, bit_and, sym, ap, ◌∙◌, min, arith, IsTrue, ◌↔◌, nat_eq, AreAmong}
 use Rattle.std.specs.Int.{bit_at}
 use Rattle.std.proofs.lemmas.Bool.{cases_lt, eqb-true}
 use Rattle.std.proofs.lemmas.Bool.Decides.{nat_tests}
 use Rattle.std.proofs.lemmas.Nat.Bits.{bit_at_and, bit_at-lt, bit_at_above, same_from_bits}
-use Rattle.state_cover.specs.FrameCover.{AreAmong}
 
 kept_among : (m r : ℕ) → bit_and r m ≡ m → AreAmong m r
 kept_among m r same = λ i within bit.

@@ -1,11 +1,6 @@
 -- The first place of two lists of kinds, or of call frames, that passes a test.
-use Rattle.std.proofs.Common.{◌≡◌, ◌∙◌, ℕ, ◌+◌, ◌<◌, suc, List, [], ◌∷◌, ◌++◌, append_assoc, Bool, Option, Some, None, length, get_or, drop, drop-cons, add-one, sym, ap, refl, arith}
-use Rattle.std.specs.List.{find}
+use Rattle.state_cover.proofs.Common.{◌≡◌, ◌∙◌, ℕ, ◌+◌, ◌<◌, suc, List, [], ◌∷◌, ◌++◌, append_assoc, Bool, Option, Some, None, length, get_or, drop, drop-cons, add-one, sym, ap, refl, arith, find, find-append, Kind, AbstractFrame, frame_places, places}
 use Rattle.std.specs.Option.{option_or}
-use Rattle.std.proofs.lemmas.List.Folds.{find-append}
-use Rattle.reg_state.specs.declared.kinds.Kind.{Kind}
-use Rattle.stack_state.specs.declared.states.AbstractFrame.{AbstractFrame}
-use Rattle.state_cover.specs.Names.{frame_places, places}
 
 -- one frame more
 pub find-places : (p : Kind × Kind → Bool) (fs gs : List AbstractFrame) (n : ℕ)

@@ -1,24 +1,10 @@
 -- If some renaming of identities works, then the one by first places does too.
-use Rattle.std.proofs.Common.{◌≡◌, ◌∙◌, ℕ, zero, suc, inl, inr, List, [], ◌∷◌, Bool, true, false, cond, get_or, Option, Some, None, refl, sym, ap, subst, arith}
-use Rattle.std.specs.Prelude.{◌⊎◌, IfSome, IsSome, nat_eq, if◌then◌else◌}
-use Rattle.std.specs.List.{zip}
+use Rattle.state_cover.proofs.Common.{◌≡◌, ◌∙◌, ℕ, zero, suc, inl, inr, List, [], ◌∷◌, Bool, true, false, cond, get_or, Option, Some, None, refl, sym, ap, subst, arith, ◌⊎◌, IfSome, IsSome, nat_eq, if◌then◌else◌, zip, find-append, Kind, Unset, Number, Context, Stack, Packet, PacketEnd, Map, MapValue, MapValueOrNull, packet_identity_of, null_identity_of, KindEncloses, StackSlot, Written, Spilled, AbstractFrame, State, slot_at, kind_in, frames_of, no_frame, abstract_frame_at, kind_at, kinds_of, stack_slots_of, identity_of, is_identity, is_named, spilled_kinds, frame_places, places, first_named, name_at, name_of, packet_name, null_name, SlotEncloses, SlotsEnclose, StateEncloses}
 use Rattle.std.specs.Option.{option_or}
-use Rattle.std.proofs.lemmas.List.Folds.{find-append}
 use Rattle.std.proofs.lemmas.Bool.Decides.{nat_tests}
-use Rattle.reg_state.specs.declared.kinds.Kind.{Kind}
-use Rattle.reg_state.specs.declared.kinds.Kind.TheVariants.{Unset, Number, Context, Stack, Packet, PacketEnd, Map, MapValue, MapValueOrNull}
-use Rattle.reg_state.specs.KindCover.{packet_identity_of, null_identity_of, KindEncloses}
 use Rattle.reg_state.proofs.Numbers.{if_some}
-use Rattle.stack_state.specs.declared.slots.StackSlot.{StackSlot}
-use Rattle.stack_state.specs.declared.slots.StackSlot.TheVariants.{Written, Spilled}
-use Rattle.stack_state.specs.declared.states.AbstractFrame.{AbstractFrame}
-use Rattle.stack_state.specs.declared.states.State.{State}
-use Rattle.stack_state.specs.Slots.{slot_at, kind_in}
-use Rattle.stack_state.specs.Meaning.{frames_of, no_frame, abstract_frame_at, kind_at, kinds_of, stack_slots_of}
 use Rattle.state_cover.specs.declared.names.NameSort.{NameSort}
 use Rattle.state_cover.specs.declared.names.NameSort.TheVariants as sort
-use Rattle.state_cover.specs.Names.{identity_of, is_identity, is_named, spilled_kinds, frame_places, places, first_named, name_at, name_of, packet_name, null_name}
-use Rattle.state_cover.specs.FrameCover.{SlotEncloses, SlotsEnclose, StateEncloses}
 
 -- ---- one place
 

@@ -1,6 +1,5 @@
 -- The parts of a call frame, written one after the other, make the frame again.
-use Rattle.std.proofs.Common.{◌≡◌, ℕ, zero, suc, ◌+◌, ◌-◌, ◌<◌, ◌≤◌, List, [], ◌∷◌, ◌++◌, length, get_or, set, drop, drop-cons, add-one, replicate, append_assoc, length-append, true, false, Option, Some, None, refl, sym, ap, ◌∙◌, subst, inl, inr, arith}
-use Rattle.std.specs.Prelude.{option_to_list, if◌then◌else◌, ◌==◌}
+use Rattle.state_index.proofs.Common.{◌≡◌, ℕ, zero, suc, ◌+◌, ◌-◌, ◌<◌, ◌≤◌, List, [], ◌∷◌, ◌++◌, length, get_or, set, drop, drop-cons, add-one, replicate, append_assoc, length-append, true, false, Option, Some, None, refl, sym, ap, ◌∙◌, subst, inl, inr, arith, option_to_list, if◌then◌else◌, ◌==◌, register_part, slot_part, register_parts, slot_parts, parts_of, IsPartOf, unset_frame, with_part, all_written}
 use Rattle.std.proofs.lemmas.Bool.{cases_lt}
 use Rattle.std.proofs.lemmas.Bool.Decides.{nat_tests}
 use Rattle.std.proofs.lemmas.List.{drop_all, append-nil, get_or_append_left, get_or-append_right}
@@ -14,7 +13,6 @@ use Rattle.stack_state.specs.Meaning.{kind_at}
 use Rattle.stack_state.specs.Slots.{slot_at, frame_slots}
 use Rattle.state_index.specs.declared.parts.Part.{Part}
 use Rattle.state_index.specs.declared.parts.Part.TheVariants.{InRegister, InSlot}
-use Rattle.state_index.specs.Parts.{register_part, slot_part, register_parts, slot_parts, parts_of, IsPartOf, unset_frame, with_part, all_written}
 
 -- ---- one part more
 

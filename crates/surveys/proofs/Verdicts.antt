@@ -1,12 +1,10 @@
 -- That a row says the verdict and the sizes of an image.
-use Rattle.std.proofs.Common.{◌≡◌, ◌⊎◌, ◌∙◌, ap, ℕ, Option, None, Some, inl, inr, subst, sym}
+use Rattle.surveys.proofs.Common.{◌≡◌, ◌⊎◌, ◌∙◌, ap, ℕ, Option, None, Some, inl, inr, subst, sym, start, Counts}
 use Rattle.isa_model.specs.{Program}
 use Rattle.isa_model.specs.Running.Outcomes.{StartsEnd}
 use Rattle.image.specs.declared.errors.ImageError.{ImageError}
 use Rattle.image.specs.declared.errors.ImageError.TheVariants as error
-use Rattle.stack_state.specs.Starts.{start}
 use Rattle.walks.specs.Counts.{HasNumber}
-use Rattle.survey_rows.specs.declared.rows.Counts.{Counts}
 use Rattle.survey_rows.specs.declared.rows.Judgement.{Judgement}
 use Rattle.survey_rows.specs.declared.rows.Judgement.TheVariants as verdict
 use Rattle.surveys.specs.Judging.{IfBound, RefusesWith, SaysVerdict, SaysMalformed}

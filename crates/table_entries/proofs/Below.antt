@@ -1,23 +1,9 @@
 -- What a call frame in the bytes of a table holds points only into frames up to that frame, so the
 -- end of a later one leaves it as it is.
-use Rattle.std.specs.Prelude.{◌≡◌, ℕ, zero, suc, ◌+◌, ◌<◌, nat_lt, ◌==◌, if◌then◌else◌, Bool, true, false, ℤ, List, [], ◌∷◌, length, drop, map, Option, Some, None, Ok, Err, refl}
-use Rattle.std.specs.Option.{option_map}
-use Rattle.std.proofs.Common.{ap, subst, arith}
+use Rattle.table_entries.proofs.Common.{◌≡◌, ℕ, zero, suc, ◌+◌, ◌<◌, nat_lt, ◌==◌, if◌then◌else◌, Bool, true, false, ℤ, List, [], ◌∷◌, length, drop, map, Option, Some, None, Ok, Err, ap, subst, arith, refl, option_map, little_number, Scalar, Kind, Unset, Number, Stack, StackSlot, Spilled, AbstractFrame, frame_slots, Short, Meaningless, Read, sized, then_read, joined, many, scalar_in, signed_32, lacks_identity, limits_in, packet_of, packet_in, stack_in, map_in, value_of, value_in, null_in, fields_in, kind_in, marks_in, spilled, stack_slot_in, frame_allowed, allowed_frame, frame_in}
 use Rattle.std.proofs.lemmas.Bool.Decides.{nat_tests}
-use Rattle.byteorder.specs.Endian.{little_number}
-use Rattle.reg_state.specs.declared.scalars.Scalar.{Scalar}
-use Rattle.reg_state.specs.declared.kinds.Kind.{Kind}
-use Rattle.reg_state.specs.declared.kinds.Kind.TheVariants.{Unset, Number, Stack}
-use Rattle.stack_state.specs.declared.slots.StackSlot.{StackSlot}
-use Rattle.stack_state.specs.declared.slots.StackSlot.TheVariants.{Spilled}
-use Rattle.stack_state.specs.declared.states.AbstractFrame.{AbstractFrame}
 use Rattle.stack_state.specs.Calls.{without_frame}
 use Rattle.stack_state.specs.Effects.{with_spilled, with_kinds}
-use Rattle.stack_state.specs.Slots.{frame_slots}
-use Rattle.table_entries.specs.declared.stops.StopReason.TheVariants.{Short, Meaningless}
-use Rattle.table_entries.specs.Reading.{Read, sized, then_read, joined, many}
-use Rattle.table_entries.specs.Kinds.{scalar_in, signed_32, lacks_identity, limits_in, packet_of, packet_in, stack_in, map_in, value_of, value_in, null_in, fields_in, kind_in, marks_in, spilled, stack_slot_in}
-use Rattle.table_entries.specs.Frames.{frame_allowed, allowed_frame, frame_in}
 
 -- what there is has the property
 abbrev Each : {X : Type 0} → (X → Type 0) → Option X → Type 0

@@ -1,16 +1,6 @@
 -- Bytes that are zeros, and the stack slots about which nothing is known that they spell: many of
 -- them are read, or passed over, at once.
-use Rattle.std.specs.Prelude.{◌≡◌, ℕ, zero, suc, ◌+◌, ◌-◌, ◌*◌, ◌<◌, ◌≤◌, Bool, true, List, [], ◌∷◌, ◌++◌, length, drop, replicate, Option, Some, None, Ok, Err, refl}
-use Rattle.std.specs.Option.{is_some}
-use Rattle.std.proofs.Common.{inl, inr, ap, sym, ◌∙◌, subst, arith, get_or}
-use Rattle.std.proofs.lemmas.Bool.{cases_lt}
-use Rattle.std.proofs.lemmas.List.{get_or-drop, length-drop, drop-drop, replicate_more}
-use Rattle.byteorder.specs.Endian.{little_number}
-use Rattle.stack_state.specs.declared.slots.StackSlot.{StackSlot}
-use Rattle.stack_state.specs.declared.slots.StackSlot.TheVariants.{Written}
-use Rattle.table_entries.specs.Blanks.{AreZeros}
-use Rattle.table_entries.specs.Reading.{Read, seen, many}
-use Rattle.table_entries.specs.Kinds.{stack_slot_in}
+use Rattle.table_entries.proofs.Common.{◌≡◌, ℕ, zero, suc, ◌+◌, ◌-◌, ◌*◌, ◌<◌, ◌≤◌, Bool, true, List, [], ◌∷◌, ◌++◌, length, drop, replicate, Option, Some, None, Ok, Err, inl, inr, ap, sym, ◌∙◌, subst, arith, get_or, refl, is_some, cases_lt, get_or-drop, length-drop, drop-drop, replicate_more, little_number, StackSlot, Written, AreZeros, Read, seen, many, stack_slot_in}
 use Rattle.table_entries.proofs.Many.{appended, with_front, many-goes_on, many-begins}
 use Rattle.table_entries.proofs.Seen.{and_seen, seen-begins}
 

@@ -1,19 +1,6 @@
 -- What is left when something was read: an end of the bytes.
-use Rattle.std.specs.Prelude.{◌≡◌, ℕ, zero, suc, ◌+◌, ◌-◌, ◌≤◌, nat_lt, ◌==◌, ◌||◌, if◌then◌else◌, Bool, true, false, ◌⊎◌, List, [], ◌∷◌, length, drop, Option, Some, Ok, Err, refl}
-use Rattle.std.proofs.Common.{inl, inr, ap, sym, ◌∙◌, subst, arith}
-use Rattle.std.proofs.lemmas.List.{drop-drop, length-drop, drop_all}
-use Rattle.std.specs.Option.{option_map}
-use Rattle.byteorder.specs.Endian.{little_number}
-use Rattle.reg_state.specs.declared.kinds.Kind.TheVariants.{Number}
-use Rattle.stack_state.specs.Slots.{frame_slots}
-use Rattle.table_entries.specs.declared.stops.StopReason.TheVariants.{Meaningless}
-use Rattle.isa_model.specs.Code.Instructions.{Program}
+use Rattle.table_entries.proofs.Common.{◌≡◌, ℕ, zero, suc, ◌+◌, ◌-◌, ◌≤◌, nat_lt, ◌==◌, ◌||◌, if◌then◌else◌, Bool, true, false, ◌⊎◌, List, [], ◌∷◌, length, drop, Option, Some, Ok, Err, inl, inr, ap, sym, ◌∙◌, subst, arith, refl, drop-drop, length-drop, drop_all, option_map, little_number, Number, frame_slots, Meaningless, Program, Read, sized, then_read, joined, many, scalar_in, stack_in, packet_in, map_in, value_in, null_in, fields_in, kind_in, stack_slot_in, marks_in, spilled, frame_in, callers_in, Entry, named_in, rest_in, entry_in, IsEnd}
 use Rattle.table_entries.specs.Deciding.{decide}
-use Rattle.table_entries.specs.Reading.{Read, sized, then_read, joined, many}
-use Rattle.table_entries.specs.Kinds.{scalar_in, stack_in, packet_in, map_in, value_in, null_in, fields_in, kind_in, stack_slot_in, marks_in, spilled}
-use Rattle.table_entries.specs.Frames.{frame_in, callers_in}
-use Rattle.table_entries.specs.Entries.{Entry, named_in, rest_in, entry_in}
-use Rattle.table_entries.specs.Growing.{IsEnd}
 
 pub IsEnd-more : (bytes rest after : List ℕ) → IsEnd bytes rest → IsEnd rest after
     → IsEnd bytes after

@@ -1,16 +1,7 @@
 -- Entries read one after the other, as a loop does.
-use Rattle.std.specs.Prelude.{◌≡◌, ℕ, suc, ◌+◌, ◌-◌, ◌<◌, ◌≤◌, ◌==◌, true, false, List, [], ◌∷◌, ◌++◌, length, map, slice_get, Option, Some, None, Result, Ok, Err, refl}
-use Rattle.std.specs.Option.{is_some, option_map, option_and_then}
-use Rattle.std.proofs.Common.{sym, ap, ◌∙◌, append_assoc, arith}
-use Rattle.std.proofs.lemmas.List.{append-nil, map-append, length-map, length-append}
-use Rattle.std.proofs.lemmas.Option.{slice_get-map}
-use Rattle.isa_model.specs.Code.Instructions.{Program}
+use Rattle.table_entries.proofs.Common.{◌≡◌, ℕ, suc, ◌+◌, ◌-◌, ◌<◌, ◌≤◌, ◌==◌, true, false, List, [], ◌∷◌, ◌++◌, length, map, slice_get, Option, Some, None, Result, Ok, Err, sym, ap, ◌∙◌, append_assoc, arith, refl, is_some, option_map, option_and_then, append-nil, map-append, length-map, length-append, slice_get-map, Program, StopReason, Entry, entry_in, before, refusal_of, entries_in, to_the_end, earlier, first_none, all_of, entry_from, TableView, KeepsEntries, with_entries, IsEnd}
 use Rattle.table_entries.specs.declared.refusals.TableRefusal.{TableRefusal}
 use Rattle.table_entries.specs.declared.refusals.TableRefusal.TheVariants as refusal
-use Rattle.table_entries.specs.declared.stops.StopReason.{StopReason}
-use Rattle.table_entries.specs.Entries.{Entry, entry_in}
-use Rattle.table_entries.specs.Tables.{before, refusal_of, entries_in, to_the_end, earlier, first_none, all_of, entry_from, TableView, KeepsEntries}
-use Rattle.table_entries.specs.Growing.{with_entries, IsEnd}
 use Rattle.table_entries.proofs.Ends.{IsEnd-place}
 
 regroup : (front : List (Option Entry)) (e : Option Entry)

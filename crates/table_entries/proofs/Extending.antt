@@ -1,22 +1,11 @@
 -- Why a table is refused is the same however its bytes go on, unless they end too early.
-use Rattle.std.specs.Prelude.{◌≡◌, ℕ, zero, suc, ◌+◌, ◌-◌, ◌≤◌, nat_lt, nat_eq, ◌==◌, ◌||◌, not, if◌then◌else◌, codes, Bool, true, false, List, [], ◌∷◌, ◌++◌, length, drop, Option, Some, Result, Ok, Err, ◌⊎◌, refl}
+use Rattle.table_entries.proofs.Common.{◌≡◌, ℕ, zero, suc, ◌+◌, ◌-◌, ◌≤◌, nat_lt, nat_eq, ◌==◌, ◌||◌, not, if◌then◌else◌, codes, Bool, true, false, List, [], ◌∷◌, ◌++◌, length, drop, Option, Some, Result, Ok, Err, ◌⊎◌, ap, sym, ◌∙◌, subst, append_assoc, inl, inr, arith, refl, le-ltb, append-nil, drop-append-le, length-append, take-append-le, little_number, Program, AbstractFrame, Short, Meaningless, Read, sized, then_read, frame_in, callers_in, Entry, named_in, entry_with, rest_in, entry_in, before, then_entries, entries_in, to_the_end, count_in, body_in, with_count, all_allowed}
 use Rattle.std.specs.List.{starts_with}
-use Rattle.std.proofs.Common.{ap, sym, ◌∙◌, subst, append_assoc, inl, inr, arith}
-use Rattle.std.proofs.lemmas.Bool.{le-ltb}
-use Rattle.std.proofs.lemmas.List.{append-nil, drop-append-le, length-append, take-append-le}
 use lib.Pointwise.{pointwise}
-use Rattle.byteorder.specs.Endian.{little_number}
-use Rattle.isa_model.specs.Code.Instructions.{Program}
 use Rattle.isa_model.specs.Code.Limits.{max_call_frames}
 use Rattle.isa_model.specs.declared.limits.TheConstants.{MAX_EXPLORED}
-use Rattle.stack_state.specs.declared.states.AbstractFrame.{AbstractFrame}
 use Rattle.table_entries.specs.declared.refusals.TableRefusal.{TableRefusal}
 use Rattle.table_entries.specs.declared.refusals.TableRefusal.TheVariants as refusal
-use Rattle.table_entries.specs.declared.stops.StopReason.TheVariants.{Short, Meaningless}
-use Rattle.table_entries.specs.Reading.{Read, sized, then_read}
-use Rattle.table_entries.specs.Frames.{frame_in, callers_in}
-use Rattle.table_entries.specs.Entries.{Entry, named_in, entry_with, rest_in, entry_in}
-use Rattle.table_entries.specs.Tables.{before, then_entries, entries_in, to_the_end, count_in, body_in, with_count, all_allowed}
 use Rattle.table_entries.specs.Settled.{IsTableSettled, IsTableOpen}
 use Rattle.table_entries.proofs.EntryOrder.{end-empty, end-long}
 use Rattle.table_entries.proofs.Fronts.{same2, same4, number-front, ReadsFront, ReadsFront-sized, ReadsFront-then, ReadsFront-if, ReadsFront-nothing, ReadsFront-many, ReadsFront-byte, ReadsFront-frame}

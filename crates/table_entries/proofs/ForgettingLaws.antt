@@ -1,9 +1,5 @@
 -- Lists of which some is forgotten.
-use Rattle.std.specs.Prelude.{◌≡◌, ℕ, ◌-◌, ◌<◌, ◌⊎◌, List, ◌++◌, length, drop, replicate, get_or, slice_set, refl}
-use Rattle.std.proofs.Common.{inl, inr, ap, sym, ◌∙◌, subst, arith}
-use Rattle.std.proofs.lemmas.Bool.{cases_eq, cases_lt}
-use Rattle.std.proofs.lemmas.List.{get_or-set_same, get_or-set_other, get_or_default, get_or_append_left, get_or-append_right, get_or-replicate, get_or-drop, length-replicate}
-use Rattle.table_entries.specs.Forgetting.{IsWeakerList}
+use Rattle.table_entries.proofs.Common.{◌≡◌, ℕ, ◌-◌, ◌<◌, ◌⊎◌, List, ◌++◌, length, drop, replicate, get_or, slice_set, inl, inr, ap, sym, ◌∙◌, subst, arith, refl, cases_eq, cases_lt, get_or-set_same, get_or-set_other, get_or_default, get_or_append_left, get_or-append_right, get_or-replicate, get_or-drop, length-replicate, IsWeakerList}
 
 pub IsWeakerList-same : {X : Type 0} (d : X) (xs : List X) → IsWeakerList d xs xs
 IsWeakerList-same d xs = λ k. inl refl

@@ -1,21 +1,6 @@
 -- What is read depends on the bytes that are read only: anything may come after them.
-use Rattle.std.specs.Prelude.{◌≡◌, ℕ, zero, suc, ◌+◌, ◌-◌, ◌*◌, ◌≤◌, nat_lt, ◌==◌, ◌&&◌, not, if◌then◌else◌, Bool, true, false, ℤ, List, [], ◌∷◌, ◌++◌, length, take, drop, Option, Some, None, Ok, Err, refl}
+use Rattle.table_entries.proofs.Common.{◌≡◌, ℕ, zero, suc, ◌+◌, ◌-◌, ◌*◌, ◌≤◌, nat_lt, ◌==◌, ◌&&◌, not, if◌then◌else◌, Bool, true, false, ℤ, List, [], ◌∷◌, ◌++◌, length, take, drop, Option, Some, None, Ok, Err, ap, sym, ◌∙◌, subst, append_assoc, arith, refl, option_map, le-ltb, length-append, length-drop, length-take-le, take-append-drop, get_or_append_left, drop-append-le, drop_at, take_at, little_from, little_number, Kind, Unset, Number, Context, Stack, PacketEnd, Map, MapValueOrNull, StackSlot, AbstractFrame, frame_slots, Short, Meaningless, Read, sized, then_read, joined, many, bits_of, wide_of, low_of, range_of, scalar_of, bits_in, wide_in, low_in, scalar_in, limits_of, limits_in, has_no_part, lacks_identity, packet_of, packet_in, stack_in, map_in, value_of, value_in, null_in, fields_in, kind_in, marks_in, spilled, stack_slot_in, allowed_frame, frame_in, SpellsFrame, SpellsSlots}
 use Rattle.std.specs.Int.{w32, w64, cast_signed}
-use Rattle.std.specs.Option.{option_map}
-use Rattle.std.proofs.Common.{ap, sym, ◌∙◌, subst, append_assoc, arith}
-use Rattle.std.proofs.lemmas.Bool.{le-ltb}
-use Rattle.std.proofs.lemmas.List.{length-append, length-drop, length-take-le, take-append-drop, get_or_append_left, drop-append-le, drop_at, take_at}
-use Rattle.byteorder.specs.Endian.{little_from, little_number}
-use Rattle.reg_state.specs.declared.kinds.Kind.{Kind}
-use Rattle.reg_state.specs.declared.kinds.Kind.TheVariants.{Unset, Number, Context, Stack, PacketEnd, Map, MapValueOrNull}
-use Rattle.stack_state.specs.declared.slots.StackSlot.{StackSlot}
-use Rattle.stack_state.specs.declared.states.AbstractFrame.{AbstractFrame}
-use Rattle.stack_state.specs.Slots.{frame_slots}
-use Rattle.table_entries.specs.declared.stops.StopReason.TheVariants.{Short, Meaningless}
-use Rattle.table_entries.specs.Reading.{Read, sized, then_read, joined, many}
-use Rattle.table_entries.specs.Kinds.{bits_of, wide_of, low_of, range_of, scalar_of, bits_in, wide_in, low_in, scalar_in, limits_of, limits_in, has_no_part, lacks_identity, packet_of, packet_in, stack_in, map_in, value_of, value_in, null_in, fields_in, kind_in, marks_in, spilled, stack_slot_in}
-use Rattle.table_entries.specs.Frames.{allowed_frame, frame_in}
-use Rattle.table_entries.specs.KnownBytes.{SpellsFrame, SpellsSlots}
 
 -- ---- a function of several arguments that are the same
 

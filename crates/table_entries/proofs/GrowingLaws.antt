@@ -1,15 +1,5 @@
 -- Laws of tables whose entries are placed one after the other.
-use Rattle.std.specs.Prelude.{◌≡◌, ℕ, zero, suc, ◌+◌, ◌-◌, ◌<◌, ◌≤◌, ◌==◌, IsTrue, Bool, true, false, List, [], ◌∷◌, ◌++◌, length, drop, map, slice_get, Option, Some, None, IsSome, Ok, refl}
-use Rattle.std.specs.Option.{is_some, option_and_then}
-use Rattle.std.proofs.Common.{inl, inr, ap, sym, ◌∙◌, subst, append_assoc, arith}
-use Rattle.std.proofs.lemmas.Bool.{cases_lt}
-use Rattle.std.proofs.lemmas.Option.{slice_get_past}
-use Rattle.std.proofs.lemmas.List.{append-nil, length-map, length-append}
-use Rattle.isa_model.specs.Code.Instructions.{Program}
-use Rattle.table_entries.specs.Reading.{seen}
-use Rattle.table_entries.specs.Entries.{Entry, entry_in}
-use Rattle.table_entries.specs.Tables.{TableView, KeepsEntries, count_of, count_in, entry_at, entry_from, earlier, first_none, all_of, body_in, to_the_end, table_read}
-use Rattle.table_entries.specs.Growing.{Grown, IsBegun, MayGrow, Grows, AllThere, with_place}
+use Rattle.table_entries.proofs.Common.{◌≡◌, ℕ, zero, suc, ◌+◌, ◌-◌, ◌<◌, ◌≤◌, ◌==◌, IsTrue, Bool, true, false, List, [], ◌∷◌, ◌++◌, length, drop, map, slice_get, Option, Some, None, IsSome, Ok, inl, inr, ap, sym, ◌∙◌, subst, append_assoc, arith, refl, is_some, option_and_then, cases_lt, slice_get_past, append-nil, length-map, length-append, Program, seen, Entry, entry_in, TableView, KeepsEntries, count_of, count_in, entry_at, entry_from, earlier, first_none, all_of, body_in, to_the_end, table_read, Grown, IsBegun, MayGrow, Grows, AllThere, with_place}
 use Rattle.table_entries.proofs.Ends.{IsEnd-more, IsEnd-place, entry_in-end}
 use Rattle.table_entries.proofs.Seen.{read-seen}
 use Rattle.table_entries.proofs.EntryOrder.{entries-begins, entries-goes_on, entries-done, places-more, earlier-more, length-more, end-empty, KeepsEntries-places}

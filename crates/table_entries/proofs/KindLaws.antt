@@ -1,15 +1,12 @@
 -- Laws of `bits_of`, `wide_of`, `low_of` and `limits_of`: what they make of the fields of bits and
 -- limits, and that they make nothing where the bits overlap or a least limit is over its greatest.
-use Rattle.std.specs.Prelude.{◌≡◌, ℕ, ◌^◌, ◌<◌, ◌≤◌, ℤ, ◌≤ℤ◌, ◌⊎◌, Some, None, bit_and, refl}
-use Rattle.std.proofs.Common.{inl, inr, ap, sym, ◌∙◌}
-use Rattle.std.proofs.lemmas.Bool.{cases_eq}
+use Rattle.table_entries.proofs.Common.{◌≡◌, ℕ, ◌^◌, ◌<◌, ◌≤◌, ℤ, ◌≤ℤ◌, ◌⊎◌, Some, None, bit_and, inl, inr, ap, sym, ◌∙◌, refl, cases_eq, bits_when, bits_of, ordered_when, wide_with, wide_of, low_with, low_of, limits_when, limits_of}
 use Rattle.known_bits.specs.declared.bits.Bits.{Bits}
 use Rattle.known_bits.proofs.SameBits.{one_proof, one_less}
 use Rattle.ranges.specs.declared.wide.Wide.{Wide}
 use Rattle.ranges.specs.declared.low.Low.{Low}
 use Rattle.ranges.proofs.SameLimits.{one_order, one_order_z}
 use Rattle.table_entries.specs.Deciding.{decide, decide_less, decide_z}
-use Rattle.table_entries.specs.Kinds.{bits_when, bits_of, ordered_when, wide_with, wide_of, low_with, low_of, limits_when, limits_of}
 
 pub bits_of-is : (b : Bits) → bits_of b.value b.mask ≡ Some b
 unfolding bits_of

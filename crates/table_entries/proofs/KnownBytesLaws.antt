@@ -1,11 +1,7 @@
 -- Bytes that are known to spell parts of a state: more of them, and fewer.
-use Rattle.std.specs.Prelude.{◌≡◌, ℕ, zero, suc, ◌<◌, ◌⊎◌, List, [], ◌∷◌, ◌++◌, length, take, slice_get, Some, None, refl}
-use Rattle.std.proofs.Common.{inl, inr, sym, ap, ◌∙◌, subst, arith}
-use Rattle.stack_state.specs.declared.states.AbstractFrame.{AbstractFrame}
-use Rattle.stack_state.specs.declared.states.State.{State}
+use Rattle.table_entries.proofs.Common.{◌≡◌, ℕ, zero, suc, ◌<◌, ◌⊎◌, List, [], ◌∷◌, ◌++◌, length, take, slice_get, Some, None, inl, inr, sym, ap, ◌∙◌, subst, arith, refl, AbstractFrame, State, SpellsFrame, SpellFrames, IsNoted, NotesFrame, AreSpelled}
 use Rattle.table_entries.specs.declared.known_bytes.FrameBytes.{FrameBytes}
 use Rattle.table_entries.specs.declared.known_bytes.KnownBytes.{KnownBytes}
-use Rattle.table_entries.specs.KnownBytes.{SpellsFrame, SpellFrames, IsNoted, NotesFrame, AreSpelled}
 
 -- an element of a list that has one more at its end
 pub pushed_get : {X : Type 0} (xs : List X) (y x : X) (j : ℕ) → slice_get (xs ++ y ∷ []) j ≡ Some x

@@ -1,3 +1,4 @@
+mod Common
 pub mod LittleNumbers
 pub mod Many
 pub mod Parts

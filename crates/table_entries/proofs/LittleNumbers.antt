@@ -1,9 +1,6 @@
 -- What the standard library reads from 2, 4 or 8 bytes is their number, the lowest byte first.
-use Rattle.std.specs.Prelude.{◌≡◌, ℕ, List, take}
+use Rattle.table_entries.proofs.Common.{◌≡◌, ℕ, List, take, arith, lit<, get_or-take, little_number}
 use Rattle.std.specs.Int.{w16, w32, w64, from_le_bytes}
-use Rattle.std.proofs.Common.{arith, lit<}
-use Rattle.std.proofs.lemmas.List.{get_or-take}
-use Rattle.byteorder.specs.Endian.{little_number}
 
 pub two_bytes : (xs : List ℕ) → from_le_bytes w16 (take 2 xs) ≡ little_number 2 xs
 two_bytes xs =

@@ -1,9 +1,5 @@
 -- What a loop reads one after the other: what it has so far, and what is still to be read.
-use Rattle.std.specs.Prelude.{◌≡◌, ℕ, suc, ◌+◌, ◌-◌, ◌<◌, ◌≤◌, ◌&&◌, Bool, true, false, List, [], ◌∷◌, ◌++◌, length, take, slice_set, Option, Some, None, Ok, Err, refl}
-use Rattle.std.proofs.Common.{sym, ap, ◌∙◌, append_assoc, arith, subst, get_or, take_all}
-use Rattle.std.proofs.lemmas.List.{append-nil, take_more, take_more_set}
-use Rattle.table_entries.specs.declared.stops.StopReason.{StopReason}
-use Rattle.table_entries.specs.Reading.{Read, kept, then_read, joined, many, one_more}
+use Rattle.table_entries.proofs.Common.{◌≡◌, ℕ, suc, ◌+◌, ◌-◌, ◌<◌, ◌≤◌, ◌&&◌, Bool, true, false, List, [], ◌∷◌, ◌++◌, length, take, slice_set, Option, Some, None, Ok, Err, sym, ap, ◌∙◌, append_assoc, arith, subst, get_or, take_all, refl, append-nil, take_more, take_more_set, StopReason, Read, kept, then_read, joined, many, one_more}
 
 abbrev pub appended : {X : Type 0} → Option (List X) → Option (List X) → Option (List X)
 appended (Some xs) (Some ys) = Some (xs ++ ys)

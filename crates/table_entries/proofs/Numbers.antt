@@ -1,19 +1,6 @@
 -- The number of an entry is the one that its bytes begin with, and it is allowed.
-use Rattle.std.specs.Prelude.{◌≡◌, ℕ, ◌-◌, ◌<◌, nat_lt, ◌==◌, ◌||◌, ◌&&◌, not, if◌then◌else◌, Bool, true, false, List, length, drop, slice_get, Option, Some, None, Ok, Err, refl, MatchOption}
-use Rattle.std.proofs.Common.{sym, ap, ◌∙◌, subst, arith, get_or}
-use Rattle.std.proofs.lemmas.Option.{slice_get-get_or}
-use Rattle.std.specs.Option.{is_some, option_map}
-use Rattle.stack_state.specs.declared.states.State.{State}
-use Rattle.table_entries.specs.declared.entries.EntryHead.{EntryHead}
-use Rattle.table_entries.specs.declared.stops.StopReason.{StopReason}
-use Rattle.byteorder.specs.Endian.{little_number}
-use Rattle.isa_model.specs.Code.Instructions.{Program, fetch}
+use Rattle.table_entries.proofs.Common.{◌≡◌, ℕ, ◌-◌, ◌<◌, nat_lt, ◌==◌, ◌||◌, ◌&&◌, not, if◌then◌else◌, Bool, true, false, List, length, drop, slice_get, Option, Some, None, Ok, Err, MatchOption, sym, ap, ◌∙◌, subst, arith, get_or, refl, slice_get-get_or, is_some, option_map, State, EntryHead, StopReason, little_number, Program, fetch, AbstractFrame, Read, then_read, allowed, frame_in, callers_in, Entry, entry_of, IsAllowed, named_in, head_allowed, entry_with, rest_in, entry_in, TableView, entry_from, entry_at}
 use Rattle.isa_model.specs.declared.limits.TheConstants.{MAX_STEPS}
-use Rattle.stack_state.specs.declared.states.AbstractFrame.{AbstractFrame}
-use Rattle.table_entries.specs.Reading.{Read, then_read, allowed}
-use Rattle.table_entries.specs.Frames.{frame_in, callers_in}
-use Rattle.table_entries.specs.Entries.{Entry, entry_of, IsAllowed, named_in, head_allowed, entry_with, rest_in, entry_in}
-use Rattle.table_entries.specs.Tables.{TableView, entry_from, entry_at}
 
 -- P holds of the entry, if there is one
 abbrev pub EntryIs : (Entry → Type 0) → Option Entry → Type 0

@@ -1,21 +1,6 @@
 -- Call frames and entries whose parts were read.
-use Rattle.std.specs.Prelude.{◌≡◌, ℕ, ◌≤◌, ◌&&◌, if◌then◌else◌, Bool, true, false, List, length, drop, Option, Some, None, Ok, refl}
-use Rattle.std.specs.Option.{option_map}
-use Rattle.std.proofs.Common.{ap, sym, ◌∙◌}
-use Rattle.std.proofs.lemmas.Bool.{le-ltb}
-use Rattle.byteorder.specs.Endian.{little_number}
-use Rattle.isa_model.specs.Code.Instructions.{Program}
-use Rattle.reg_state.specs.declared.kinds.Kind.{Kind}
-use Rattle.stack_state.specs.declared.slots.StackSlot.{StackSlot}
-use Rattle.stack_state.specs.declared.states.AbstractFrame.{AbstractFrame}
-use Rattle.stack_state.specs.declared.states.State.{State}
-use Rattle.stack_state.specs.Slots.{frame_slots}
+use Rattle.table_entries.proofs.Common.{◌≡◌, ℕ, ◌≤◌, ◌&&◌, if◌then◌else◌, Bool, true, false, List, length, drop, Option, Some, None, Ok, ap, sym, ◌∙◌, refl, option_map, le-ltb, little_number, Program, Kind, StackSlot, AbstractFrame, State, frame_slots, EntryHead, kept, many, kind_in, stack_slot_in, frame_allowed, allowed_frame, frame_in, callers_in, Entry, list_of, entry_of, named_in, head_allowed, entry_with, rest_in}
 use Rattle.table_entries.specs.declared.entries.NamedEntries.{NamedEntries}
-use Rattle.table_entries.specs.declared.entries.EntryHead.{EntryHead}
-use Rattle.table_entries.specs.Reading.{kept, many}
-use Rattle.table_entries.specs.Kinds.{kind_in, stack_slot_in}
-use Rattle.table_entries.specs.Frames.{frame_allowed, allowed_frame, frame_in, callers_in}
-use Rattle.table_entries.specs.Entries.{Entry, list_of, entry_of, named_in, head_allowed, entry_with, rest_in}
 
 pub kept-if : {X : Type 0} (b : Bool) (x : X) → (if b then Some x else None) ≡ kept b x
 kept-if true x = refl

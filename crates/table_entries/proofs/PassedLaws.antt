@@ -1,12 +1,6 @@
 -- Outer frames that were passed over: bytes that spell one, whatever comes after them.
-use Rattle.std.specs.Prelude.{◌≡◌, ℕ, ◌-◌, ◌≤◌, true, List, [], length, take, slice_get, Option, Some, None, Ok, refl}
-use Rattle.std.specs.Option.{is_some}
-use Rattle.std.proofs.Common.{inl, inr, sym, ap, ◌∙◌, subst}
-use Rattle.stack_state.specs.declared.states.AbstractFrame.{AbstractFrame}
+use Rattle.table_entries.proofs.Common.{◌≡◌, ℕ, ◌-◌, ◌≤◌, true, List, [], length, take, slice_get, Option, Some, None, Ok, inl, inr, sym, ap, ◌∙◌, subst, refl, is_some, AbstractFrame, Read, seen, frame_in, SpellsFrame, ArePassed, BeginsKnown, IsNoted}
 use Rattle.table_entries.specs.declared.known_bytes.FrameBytes.{FrameBytes}
-use Rattle.table_entries.specs.Reading.{Read, seen}
-use Rattle.table_entries.specs.Frames.{frame_in}
-use Rattle.table_entries.specs.KnownBytes.{SpellsFrame, ArePassed, BeginsKnown, IsNoted}
 use Rattle.table_entries.proofs.Fronts.{SpellsFrame-before}
 use Rattle.table_entries.proofs.Seen.{read-seen}
 use Rattle.table_entries.proofs.KnownBytesLaws.{pushed_get, taken_get}

@@ -1,9 +1,5 @@
 -- Bytes that are the same, compared by numbers of eight bytes.
-use Rattle.std.specs.Prelude.{◌≡◌, ℕ, zero, suc, ◌+◌, ◌-◌, ◌*◌, ◌<◌, ◌≤◌, List, ◌++◌, length, take, drop, get_or}
-use Rattle.std.proofs.Common.{inl, inr, sym, ap, ◌∙◌, subst, arith}
-use Rattle.std.proofs.lemmas.Bool.{cases_eq, cases_lt}
-use Rattle.std.proofs.lemmas.List.{ext_get_or, length-take-le, get_or-take, get_or-drop, take-append-drop}
-use Rattle.byteorder.specs.Endian.{little_from, little_number}
+use Rattle.table_entries.proofs.Common.{◌≡◌, ℕ, zero, suc, ◌+◌, ◌-◌, ◌*◌, ◌<◌, ◌≤◌, List, ◌++◌, length, take, drop, get_or, inl, inr, sym, ap, ◌∙◌, subst, arith, cases_eq, cases_lt, ext_get_or, length-take-le, get_or-take, get_or-drop, take-append-drop, little_from, little_number}
 
 -- each is a byte
 abbrev pub AreBytes : List ℕ → Type 0

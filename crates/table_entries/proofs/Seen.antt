@@ -1,19 +1,5 @@
 -- Whether what is passed over is allowed, part by part.
-use Rattle.std.specs.Prelude.{◌≡◌, ℕ, suc, ◌+◌, ◌-◌, ◌<◌, ◌≤◌, ◌==◌, ◌||◌, ◌&&◌, not, if◌then◌else◌, Bool, true, false, List, length, drop, Option, Some, None, Result, Ok, Err, refl}
-use Rattle.std.specs.Option.{is_some}
-use Rattle.std.proofs.Common.{sym, ap, ◌∙◌, arith}
-use Rattle.std.proofs.lemmas.Bool.{le-ltb}
-use Rattle.byteorder.specs.Endian.{little_number}
-use Rattle.isa_model.specs.Code.Instructions.{Program}
-use Rattle.reg_state.specs.declared.kinds.Kind.{Kind}
-use Rattle.stack_state.specs.declared.slots.StackSlot.{StackSlot}
-use Rattle.stack_state.specs.declared.states.AbstractFrame.{AbstractFrame}
-use Rattle.stack_state.specs.Slots.{frame_slots}
-use Rattle.table_entries.specs.declared.stops.StopReason.{StopReason}
-use Rattle.table_entries.specs.Reading.{Read, kept, seen, then_read, joined, many}
-use Rattle.table_entries.specs.Kinds.{kind_in, stack_slot_in}
-use Rattle.table_entries.specs.Frames.{frame_allowed, allowed_frame, frame_in, callers_in}
-use Rattle.table_entries.specs.Entries.{named_in, head_allowed, entry_with, rest_in}
+use Rattle.table_entries.proofs.Common.{◌≡◌, ℕ, suc, ◌+◌, ◌-◌, ◌<◌, ◌≤◌, ◌==◌, ◌||◌, ◌&&◌, not, if◌then◌else◌, Bool, true, false, List, length, drop, Option, Some, None, Result, Ok, Err, sym, ap, ◌∙◌, arith, refl, is_some, le-ltb, little_number, Program, Kind, StackSlot, AbstractFrame, frame_slots, StopReason, Read, kept, seen, then_read, joined, many, kind_in, stack_slot_in, frame_allowed, allowed_frame, frame_in, callers_in, named_in, head_allowed, entry_with, rest_in}
 
 abbrev pub Seen : Type 0
 Seen = Result (Bool × List ℕ) StopReason

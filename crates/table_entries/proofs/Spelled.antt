@@ -1,14 +1,9 @@
 -- Bits, limits and numbers, compared field by field with those that were read.
-use Rattle.std.specs.Prelude.{◌≡◌, ℕ, ◌^◌, ◌<◌, ℤ, List, drop, Some, refl}
-use Rattle.std.proofs.Common.{sym, ap, ◌∙◌}
-use Rattle.std.proofs.lemmas.Int.{of_z-to_z, to_z-of_z}
+use Rattle.table_entries.proofs.Common.{◌≡◌, ℕ, ◌^◌, ◌<◌, ℤ, List, drop, Some, sym, ap, ◌∙◌, refl, of_z-to_z, to_z-of_z, SFits, bits, of_z, to_z, Scalar, bits_of, wide_of, low_of, bits_in, wide_in, low_in, scalar_in}
 use mir.Syntax.{Width}
-use mir.Val.{SFits, bits, of_z, to_z}
 use Rattle.known_bits.specs.declared.bits.Bits.{Bits}
 use Rattle.ranges.specs.declared.wide.Wide.{Wide}
 use Rattle.ranges.specs.declared.low.Low.{Low}
-use Rattle.reg_state.specs.declared.scalars.Scalar.{Scalar}
-use Rattle.table_entries.specs.Kinds.{bits_of, wide_of, low_of, bits_in, wide_in, low_in, scalar_in}
 use Rattle.table_entries.proofs.KindLaws.{bits_of-is, wide_of-is, low_of-is}
 
 -- a signed number that is compared by its bits

@@ -1,18 +1,6 @@
 -- Outer call frames whose first six kinds are unset: they are read as innermost ones are.
-use Rattle.std.specs.Prelude.{◌≡◌, ℕ, zero, suc, ◌+◌, ◌<◌, ◌≤◌, nat_lt, Bool, true, false, if◌then◌else◌, List, [], ◌∷◌, length, drop, Option, Some, None, Ok, Err, refl}
-use Rattle.std.proofs.Common.{ap, subst, sym, arith}
-use Rattle.byteorder.specs.Endian.{little_number}
-use Rattle.reg_state.specs.declared.kinds.Kind.{Kind}
-use Rattle.reg_state.specs.declared.kinds.Kind.TheVariants.{Unset}
-use Rattle.stack_state.specs.declared.slots.StackSlot.{StackSlot}
-use Rattle.stack_state.specs.declared.states.AbstractFrame.{AbstractFrame}
+use Rattle.table_entries.proofs.Common.{◌≡◌, ℕ, zero, suc, ◌+◌, ◌<◌, ◌≤◌, nat_lt, Bool, true, false, if◌then◌else◌, List, [], ◌∷◌, length, drop, Option, Some, None, Ok, Err, ap, subst, sym, arith, refl, little_number, Kind, Unset, StackSlot, AbstractFrame, frame_slots, Short, AreZeros, Read, then_read, joined, many, kind_in, fields_in, stack_slot_in, allowed_frame, frame_in}
 use Rattle.stack_state.specs.Meaning.{kind_at}
-use Rattle.stack_state.specs.Slots.{frame_slots}
-use Rattle.table_entries.specs.declared.stops.StopReason.TheVariants.{Short}
-use Rattle.table_entries.specs.Blanks.{AreZeros}
-use Rattle.table_entries.specs.Reading.{Read, then_read, joined, many}
-use Rattle.table_entries.specs.Kinds.{kind_in, fields_in, stack_slot_in}
-use Rattle.table_entries.specs.Frames.{allowed_frame, frame_in}
 
 -- the first j kinds that were read are unset
 abbrev AreUnset : ℕ → Option (List Kind) → Type 0

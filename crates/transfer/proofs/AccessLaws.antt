@@ -1,20 +1,7 @@
 -- The kinds that loads return allow the machine's values, and the states that stores leave mean its
 -- next state.
-use Rattle.std.specs.Prelude.{ℤ, length, Ok}
-use Rattle.std.proofs.Common.{sym, subst}
-use Rattle.isa_model.specs.declared.sizes.Size.{Size}
-use Rattle.isa_model.specs.declared.sizes.SignedSize.{SignedSize}
-use Rattle.isa_model.specs.declared.values.Value.{Value}
-use Rattle.isa_model.specs.Code.Instructions.{Program}
+use Rattle.transfer.proofs.Common.{ℤ, length, Ok, sym, subst, Size, SignedSize, Value, Program, load, load_signed, store, IsValue, store_keeps, Kind, Context, Stack, Packet, MapValue, Assigned, Allows, State, MeansBy}
 use Rattle.isa_model.specs.Machine.States as Machine
-use Rattle.isa_model.specs.Machine.Memory.{load, load_signed, store}
-use Rattle.isa_model.specs.Machine.MachineStates.{IsValue}
-use Rattle.isa_model.proofs.AccessLaws.{store_keeps}
-use Rattle.reg_state.specs.declared.kinds.Kind.{Kind}
-use Rattle.reg_state.specs.declared.kinds.Kind.TheVariants.{Context, Stack, Packet, MapValue}
-use Rattle.reg_state.specs.Kinds.{Assigned, Allows}
-use Rattle.stack_state.specs.declared.states.State.{State}
-use Rattle.stack_state.specs.Meaning.{MeansBy}
 use Rattle.transfer.proofs.ResultLaws.{Yields}
 use Rattle.transfer.specs.Accesses.{LoadsKind, LoadsSigned, StoresKind}
 use Rattle.transfer.proofs.PacketLaws.{context_load_yields, packet_load_yields, packet_load_signed_yields, packet_store_leaves}

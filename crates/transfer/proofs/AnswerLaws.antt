@@ -1,23 +1,11 @@
 -- Numbers that are shown to name an action, and what a program answers.
-use Rattle.std.specs.Prelude.{◌≡◌, ◌≢◌, ◌⊎◌, ℕ, ◌%◌, ◌^◌, ◌≤◌, nat_le, bit_or, Bool, true, false, ◌||◌, if◌then◌else◌, Ok, Err, refl}
-use Rattle.std.proofs.Common.{inl, inr, ◌∙◌, arith}
-use Rattle.std.proofs.lemmas.Bool.Decides.{nat_tests}
+use Rattle.transfer.proofs.Common.{◌≡◌, ◌≢◌, ◌⊎◌, ℕ, ◌%◌, ◌^◌, ◌≤◌, nat_le, bit_or, Bool, true, false, ◌||◌, if◌then◌else◌, Ok, Err, inl, inr, ◌∙◌, arith, refl, nat_tests, is_answer, Scalar, Kind, Number, Has, IsConstant, IsJust, Ways, Refusal, ExitValue, NoAction, shows_action, exit_result}
 use Rattle.std.proofs.lemmas.Nat.Bits.{bit_at_or, bit_at-zero, same_from_bits}
 use Rattle.isa_model.specs.declared.versions.Version.{Version}
 use Rattle.isa_model.specs.declared.versions.Version.TheVariants.{One, Two}
-use Rattle.isa_model.specs.Machine.Steps.{is_answer}
 use Rattle.known_bits.specs.Bits.{greatest_of}
 use Rattle.known_bits.proofs.MemberLaws.{low-greatest}
-use Rattle.reg_state.specs.declared.scalars.Scalar.{Scalar}
-use Rattle.reg_state.specs.declared.kinds.Kind.{Kind}
-use Rattle.reg_state.specs.declared.kinds.Kind.TheVariants.{Number}
-use Rattle.reg_state.specs.Scalars.{Has, IsConstant}
-use Rattle.branch_refine.specs.Refining.{IsJust}
-use Rattle.transfer.specs.declared.Ways.{Ways}
 use Rattle.transfer.specs.declared.Ways.TheVariants as ways
-use Rattle.transfer.specs.declared.refusals.Refusal.{Refusal}
-use Rattle.transfer.specs.declared.refusals.Refusal.TheVariants.{ExitValue, NoAction}
-use Rattle.transfer.specs.Exact.{shows_action, exit_result}
 
 -- ---- what is shown
 

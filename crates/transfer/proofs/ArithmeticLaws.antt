@@ -1,28 +1,11 @@
 -- The kinds that arithmetic computes in a state allow what the machine computes, under some
 -- assignment of identities.
-use Rattle.std.specs.Prelude.{◌≡◌, ℕ, ℤ, Bool, true, false, length, Ok, refl}
-use Rattle.isa_model.specs.declared.sizes.Width.{Width}
-use Rattle.isa_model.specs.declared.sizes.Width.TheVariants.{Low32, Full64}
+use Rattle.transfer.proofs.Common.{◌≡◌, ℕ, ℤ, Bool, true, false, length, Ok, refl, Width, Low32, Full64, Mov, Add, Sub, Value, alu, low, moved_to, moved, combined, arithmetic, is_unset, IsValue, Program, Scalar, Kind, Number, Stack, Packet, MapValue, Has, Assigned, Allows, AllowsMapValue, State, MeansBy, packet_pointer, IsLowNumber, OfNumber, moved_offset, MovesPointer, PointerAndNumber, NumberAndPointer, NumberAnd, PointerAnd, Combined, Copied, Arithmetic}
 use Rattle.isa_model.specs.declared.instructions.AluOp.{AluOp}
-use Rattle.isa_model.specs.declared.instructions.AluOp.TheVariants.{Mov, Add, Sub}
 use Rattle.isa_model.specs.declared.values.Region.TheVariants as region
-use Rattle.isa_model.specs.declared.values.Value.{Value}
 use Rattle.isa_model.specs.declared.values.Value.TheVariants as value
-use Rattle.isa_model.specs.Code.Numbers.{alu, low}
 use Rattle.isa_model.specs.Code.NumberLaws.{low_same}
-use Rattle.isa_model.specs.Machine.Pointers.{moved_to, moved, combined, arithmetic}
 use Rattle.isa_model.specs.Machine.States as Machine
-use Rattle.isa_model.specs.Machine.Steps.{is_unset}
-use Rattle.isa_model.specs.Machine.MachineStates.{IsValue}
-use Rattle.isa_model.specs.Code.Instructions.{Program}
-use Rattle.reg_state.specs.declared.scalars.Scalar.{Scalar}
-use Rattle.reg_state.specs.declared.kinds.Kind.{Kind}
-use Rattle.reg_state.specs.declared.kinds.Kind.TheVariants.{Number, Stack, Packet, MapValue}
-use Rattle.reg_state.specs.Scalars.{Has}
-use Rattle.reg_state.specs.Kinds.{Assigned, Allows, AllowsMapValue}
-use Rattle.stack_state.specs.declared.states.State.{State}
-use Rattle.stack_state.specs.Meaning.{MeansBy}
-use Rattle.transfer.specs.Results.{packet_pointer, IsLowNumber, OfNumber, moved_offset, MovesPointer, PointerAndNumber, NumberAndPointer, NumberAnd, PointerAnd, Combined, Copied, Arithmetic}
 use Rattle.transfer.proofs.ResultLaws.{Yields, YieldsUnder, frame_moves}
 use Rattle.transfer.proofs.PacketMoveLaws.{packet_plus_yields, packet_minus_yields, number_plus_packet_yields}
 use Rattle.transfer.proofs.ValuePointerLaws.{value_moves_yields}

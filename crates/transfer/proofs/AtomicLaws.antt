@@ -1,33 +1,9 @@
 -- The states that atomic instructions leave mean the machine's next state.
-use Rattle.std.specs.Prelude.{◌≡◌, ◌≢◌, ℕ, ℤ, ◌+ℤ◌, false, slice_get, Option, Some, None, Result, Ok, Err, refl}
-use Rattle.std.proofs.Common.{sym, ap, ◌∙◌, subst}
-use Rattle.isa_model.specs.declared.registers.Reg.{Reg}
-use Rattle.isa_model.specs.declared.registers.Reg.TheVariants.{R0, R10}
-use Rattle.isa_model.specs.declared.sizes.Size.{Size}
-use Rattle.isa_model.specs.declared.sizes.Width.{Width}
+use Rattle.transfer.proofs.Common.{◌≡◌, ◌≢◌, ℕ, ℤ, ◌+ℤ◌, false, slice_get, Option, Some, None, Result, Ok, Err, sym, ap, ◌∙◌, subst, refl, Reg, R0, R10, Size, Width, Value, TrapReason, size_bytes, width_size, Program, is_frame_pointer, reg, set_reg, and_then, load_number, store_number, base_of, swaps_in, atomic_number, store_number_keeps, Scalar, Kind, Number, Stack, Packet, MapValue, Has, Assigned, Allows, State, MeansBy, reg_allowed, MeansBy-set, kind_of, IfLeft, value_size, AreInValue}
 use Rattle.isa_model.specs.declared.instructions.Place.{Place}
-use Rattle.isa_model.specs.declared.values.Value.{Value}
 use Rattle.isa_model.specs.declared.values.Value.TheVariants as value
-use Rattle.isa_model.specs.declared.ends.TrapReason.{TrapReason}
-use Rattle.isa_model.specs.Code.Sizes.{size_bytes, width_size}
-use Rattle.isa_model.specs.Code.Instructions.{Program, is_frame_pointer}
-use Rattle.isa_model.specs.Machine.States.{reg, set_reg}
 use Rattle.isa_model.specs.Machine.States as Machine
-use Rattle.isa_model.specs.Machine.Memory.{and_then, load_number, store_number}
-use Rattle.isa_model.specs.Machine.Steps.{base_of, swaps_in, atomic_number}
-use Rattle.isa_model.proofs.AccessLaws.{store_number_keeps}
-use Rattle.reg_state.specs.declared.scalars.Scalar.{Scalar}
-use Rattle.reg_state.specs.declared.kinds.Kind.{Kind}
-use Rattle.reg_state.specs.declared.kinds.Kind.TheVariants.{Number, Stack, Packet, MapValue}
-use Rattle.reg_state.specs.Scalars.{Has}
-use Rattle.reg_state.specs.Kinds.{Assigned, Allows}
-use Rattle.stack_state.specs.declared.states.State.{State}
-use Rattle.stack_state.specs.Meaning.{MeansBy}
-use Rattle.stack_state.proofs.MeaningLaws.{reg_allowed, MeansBy-set}
-use Rattle.stack_state.specs.Places.{kind_of}
-use Rattle.stack_state.proofs.EffectLaws.{IfLeft}
 use Rattle.transfer.proofs.StackAccessLaws.{ContinuesIn, ContinuesIn-left, number_read, stored_left}
-use Rattle.transfer.specs.Values.{value_size, AreInValue}
 use Rattle.transfer.proofs.ValueLaws.{GoesIntoSome, value_stored, value_number_read}
 use Rattle.transfer.specs.Atomics.{with_old, StackSwaps, ValueSwaps, SwapsAt, Swaps, ComparesIn, Compares}
 

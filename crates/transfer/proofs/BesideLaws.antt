@@ -1,16 +1,6 @@
 -- Steps that leave the callers of a state as they are: there is one successor, whatever stands in
 -- place of a second one.
-use Rattle.std.specs.Prelude.{◌≡◌, Bool, true, false, Ok, IsTrue, refl}
-use Rattle.std.proofs.Common.{ap}
-use Rattle.isa_model.specs.declared.instructions.Insn.{Insn}
-use Rattle.isa_model.specs.declared.instructions.Insn.TheVariants.{Alu, Neg, MovSx, ByteSwap, LoadNumber, LoadMap, LoadMapValue, Load, LoadSx, StoreConstant, Store, Atomic, Exchange, CompareExchange, Jump, JumpLong, JumpIf, CallHelper, CallLocal, Exit}
-use Rattle.isa_model.specs.Code.Instructions.{Program, writes, is_frame_pointer}
-use Rattle.stack_state.specs.declared.states.State.{State}
-use Rattle.transfer.specs.declared.Ways.{Ways}
-use Rattle.transfer.specs.declared.refusals.Refusal.TheVariants.{UnsetRegister, ReadOnlyRegister}
-use Rattle.transfer.specs.Refusing.{reads_unset}
-use Rattle.transfer.specs.Exact.{SetsOrRefuses, StepsForm, Steps}
-use Rattle.transfer.specs.Beside.{keeps_callers, beside}
+use Rattle.transfer.proofs.Common.{◌≡◌, Bool, true, false, Ok, IsTrue, ap, refl, Insn, Alu, Neg, MovSx, ByteSwap, LoadNumber, LoadMap, LoadMapValue, Load, LoadSx, StoreConstant, Store, Atomic, Exchange, CompareExchange, Jump, JumpLong, JumpIf, CallHelper, CallLocal, Exit, Program, writes, is_frame_pointer, State, Ways, UnsetRegister, ReadOnlyRegister, reads_unset, SetsOrRefuses, StepsForm, Steps, keeps_callers, beside}
 use Rattle.transfer.proofs.ExactLaws.{tested_rest}
 
 -- ---- forms that set a register, or jump always

@@ -1,66 +1,27 @@
 -- The successors of an abstract state mean the machine's next state.
-use Rattle.std.specs.Prelude.{◌≡◌, ◌≢◌, ℕ, zero, suc, ◌+◌, ◌==◌, ℤ, Bool, true, false, if◌then◌else◌, length, All, Some, None, Result, Ok, Err, refl}
-use Rattle.std.specs.List.{list_any}
-use Rattle.std.proofs.Common.{inl, inr, sym, ap, ◌∙◌, subst, arith}
-use Rattle.std.proofs.lemmas.Bool.Decides.{nat_tests}
-use Rattle.isa_model.specs.declared.sizes.Width.{Width}
-use Rattle.isa_model.specs.declared.sizes.Width.TheVariants.{Full64}
-use Rattle.isa_model.specs.declared.sizes.Size.{Size}
-use Rattle.isa_model.specs.declared.registers.Reg.{Reg}
-use Rattle.isa_model.specs.declared.registers.Reg.TheVariants.{R0}
+use Rattle.transfer.proofs.Common.{◌≡◌, ◌≢◌, ℕ, zero, suc, ◌+◌, ◌==◌, ℤ, Bool, true, false, if◌then◌else◌, length, All, Some, None, Result, Ok, Err, inl, inr, sym, ap, ◌∙◌, subst, arith, refl, list_any, nat_tests, Width, Full64, Size, Reg, R0, Cond, Insn, StoreConstant, Store, Atomic, Exchange, CompareExchange, Jump, JumpLong, JumpIf, CallHelper, CallLocal, Exit, Value, TrapReason, alu, low, unsigned, atomic_alu, Program, fetch, slots_filled, reads, writes, is_frame_pointer, helper_numbered, IsRow, NamesRows, reg, max_call_frames, and_then, store, Next, Trapped, base_of, destination, goes_on, jumps, branches, test_of, calls, atomic_number, swaps_in, fetched_into, is_answer, finishes, exits, act, performed_at, step, helper_call, after_call, IsClock, IsProgram, IsState, IsValue, unsigned_fits, reg_fits, Kind, Assigned, Allows, State, MeansBy, Means, kind_of, go_to, reg_allowed, depth_is_length, MeansBy-go_to, KeepsMembers, Refusal, UnsetRegister, ReadOnlyRegister, Ways, InSome, LeadsTo, reads_unset, CallsHelper, GoesOn, StoresAt, SwapsAtPlace, ComparesAtPlace, Sides, Branches, StepsJump, StepsCall, ExitsFrom, StepsForm, Tested, Steps}
 use Rattle.isa_model.specs.declared.instructions.AtomicOp.{AtomicOp}
-use Rattle.isa_model.specs.declared.instructions.Cond.{Cond}
 use Rattle.isa_model.specs.declared.instructions.Place.{Place}
-use Rattle.isa_model.specs.declared.instructions.Insn.{Insn}
-use Rattle.isa_model.specs.declared.instructions.Insn.TheVariants.{StoreConstant, Store, Atomic, Exchange, CompareExchange, Jump, JumpLong, JumpIf, CallHelper, CallLocal, Exit}
-use Rattle.isa_model.specs.declared.values.Value.{Value}
 use Rattle.isa_model.specs.declared.values.Value.TheVariants as value
-use Rattle.isa_model.specs.declared.ends.TrapReason.{TrapReason}
 use Rattle.isa_model.specs.declared.ends.TrapReason.TheVariants.{TooManyCallFrames}
 use Rattle.isa_model.specs.declared.versions.Version.{Version}
-use Rattle.isa_model.specs.Code.Numbers.{alu, low, unsigned, atomic_alu}
 use Rattle.isa_model.specs.Code.Spelling.{InsnFits}
-use Rattle.isa_model.specs.Code.Instructions.{Program, fetch, slots_filled, reads, writes, is_frame_pointer}
-use Rattle.isa_model.specs.Code.Helpers.{helper_numbered}
-use Rattle.isa_model.specs.Code.MapRows.{IsRow, NamesRows}
-use Rattle.isa_model.specs.Machine.States.{reg}
 use Rattle.isa_model.specs.Machine.States as Machine
-use Rattle.isa_model.specs.Code.Limits.{max_call_frames}
 use Rattle.isa_model.specs.Machine.Calls.{enter, leave}
-use Rattle.isa_model.specs.Machine.Memory.{and_then, store}
-use Rattle.isa_model.specs.Machine.Steps.{Next, Trapped, base_of, destination, goes_on, jumps, branches, test_of, calls, atomic_number, swaps_in, fetched_into, is_answer, finishes, exits, act, performed_at, step}
 use Rattle.isa_model.specs.Running.Ends.{After}
-use Rattle.isa_model.specs.Machine.HelperCalls.{helper_call, after_call}
-use Rattle.isa_model.specs.Machine.MachineStates.{IsClock, IsProgram, IsState, IsValue}
-use Rattle.isa_model.proofs.ValueLaws.{unsigned_fits}
-use Rattle.isa_model.proofs.StateLaws.{reg_fits}
 use Rattle.isa_model.proofs.StepLaws.{IfNext, act_keeps}
-use Rattle.reg_state.specs.declared.kinds.Kind.{Kind}
-use Rattle.reg_state.specs.Kinds.{Assigned, Allows}
-use Rattle.stack_state.specs.declared.states.State.{State}
-use Rattle.stack_state.specs.Meaning.{MeansBy, Means}
-use Rattle.stack_state.specs.Places.{kind_of, go_to}
 use Rattle.stack_state.specs.Calls.{entered, with_new_frame, without_last, ended}
 use Rattle.stack_state.proofs.CallLaws.{MeansBy-enter}
 use Rattle.stack_state.proofs.EndLaws.{MeansBy-ended}
-use Rattle.stack_state.proofs.MeaningLaws.{reg_allowed, depth_is_length, MeansBy-go_to}
-use Rattle.branch_refine.specs.Refining.{KeepsMembers}
 use Rattle.branch_refine.proofs.ComparingLaws.{test-defined}
-use Rattle.transfer.specs.declared.refusals.Refusal.{Refusal}
-use Rattle.transfer.specs.declared.refusals.Refusal.TheVariants.{UnsetRegister, ReadOnlyRegister}
-use Rattle.transfer.specs.declared.Ways.{Ways}
 use Rattle.transfer.specs.declared.Ways.TheVariants as ways
-use Rattle.transfer.specs.Leading.{InSome, LeadsTo}
-use Rattle.transfer.specs.Refusing.{reads_unset}
 use Rattle.transfer.proofs.RegisterLaws.{unset_in, none_unset, performed_acts}
 use Rattle.transfer.proofs.AnswerLaws.{shows_action-answers, answered_number}
 use Rattle.transfer.proofs.StackAccessLaws.{ContinuesIn}
 use Rattle.transfer.proofs.ValueLaws.{GoesIntoSome}
 use Rattle.transfer.proofs.AccessLaws.{store_goes}
 use Rattle.transfer.proofs.AtomicLaws.{keep_old, swap_goes, compare_and_swap_goes}
-use Rattle.transfer.specs.HelperCalls.{CallsHelper}
 use Rattle.transfer.proofs.HelperCallLaws.{helper_call_goes}
-use Rattle.transfer.specs.Exact.{GoesOn, StoresAt, SwapsAtPlace, ComparesAtPlace, Sides, Branches, StepsJump, StepsCall, ExitsFrom, StepsForm, Tested, Steps}
 use Rattle.transfer.proofs.SetsRegisterLaws.{just_allowed, one_means, sets_in}
 
 -- ---- stores

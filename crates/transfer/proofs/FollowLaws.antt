@@ -1,30 +1,12 @@
 -- Each successor of an instruction is at a slot that it leads to, with the call frames that it
 -- leaves.
-use Rattle.std.specs.Prelude.{◌≡◌, ℕ, zero, suc, ◌+◌, ℤ, [], ◌∷◌, ◌++◌, length, Bool, true, false, Some, Result, Ok, refl}
-use Rattle.std.proofs.Common.{inl, inr, sym, ap, ◌∙◌, subst, arith}
-use Rattle.isa_model.specs.declared.registers.Reg.TheVariants.{R0}
-use Rattle.isa_model.specs.declared.instructions.Cond.{Cond}
-use Rattle.isa_model.specs.declared.instructions.Insn.{Insn}
-use Rattle.isa_model.specs.declared.instructions.Insn.TheVariants.{StoreConstant, Store, Atomic, Exchange, CompareExchange, Jump, JumpLong, JumpIf, CallHelper, CallLocal, Exit}
-use Rattle.isa_model.specs.Code.Sizes.{width_size}
-use Rattle.isa_model.specs.Code.Instructions.{Program, fetch, slots_filled, writes, is_frame_pointer}
-use Rattle.isa_model.specs.Machine.Steps.{destination}
+use Rattle.transfer.proofs.Common.{◌≡◌, ℕ, zero, suc, ◌+◌, ℤ, [], ◌∷◌, ◌++◌, length, Bool, true, false, Some, Result, Ok, inl, inr, sym, ap, ◌∙◌, subst, arith, refl, R0, Cond, Insn, StoreConstant, Store, Atomic, Exchange, CompareExchange, Jump, JumpLong, JumpIf, CallHelper, CallLocal, Exit, width_size, Program, fetch, slots_filled, writes, is_frame_pointer, destination, State, returns-with, kind_of, with_register, go_to, Refusal, UnsetRegister, ReadOnlyRegister, Ways, EachWay, reads_unset, CallsHelper, SetsRegister, GoesOn, Sides, Branches, StepsCall, ExitsFrom, StepsForm, Steps}
 use Rattle.isa_model.specs.Machine.Successors.{falls_through, jump_distance}
-use Rattle.stack_state.specs.declared.states.State.{State}
-use Rattle.stack_state.proofs.MeaningLaws.{returns-with}
-use Rattle.stack_state.specs.Places.{kind_of, with_register, go_to}
 use Rattle.stack_state.proofs.CallLaws.{returns-entered}
 use Rattle.stack_state.proofs.EndLaws.{returns-ended}
-use Rattle.transfer.specs.declared.refusals.Refusal.{Refusal}
-use Rattle.transfer.specs.declared.refusals.Refusal.TheVariants.{UnsetRegister, ReadOnlyRegister}
-use Rattle.transfer.specs.declared.Ways.{Ways}
 use Rattle.transfer.specs.declared.Ways.TheVariants as ways
-use Rattle.transfer.specs.Leading.{EachWay}
-use Rattle.transfer.specs.Refusing.{reads_unset}
 use Rattle.transfer.specs.Following.{returns_of, GoesOnTo}
 use Rattle.transfer.proofs.ReturnLaws.{returns-stores, returns-swaps, returns-compares, returns-refines, returns-calls_helper}
-use Rattle.transfer.specs.HelperCalls.{CallsHelper}
-use Rattle.transfer.specs.Exact.{SetsRegister, GoesOn, Sides, Branches, StepsCall, ExitsFrom, StepsForm, Steps}
 use Rattle.transfer.proofs.AnswerLaws.{answered_number}
 use Rattle.transfer.proofs.ExactLaws.{tested_rest}
 

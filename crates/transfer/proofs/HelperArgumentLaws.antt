@@ -1,40 +1,12 @@
 -- Arguments of helpers: the machine's are those that the kinds show, and their bytes are there.
-use Rattle.std.specs.Prelude.{◌≡◌, ℕ, ◌+◌, ◌<◌, ◌≤◌, ℤ, pos, ◌+ℤ◌, nat_le, Bool, true, false, ◌&&◌, List, [], map, take, drop, length, slice_get, Option, Some, None, Result, Ok, refl}
-use Rattle.std.specs.List.{list_all}
-use Rattle.std.proofs.Common.{sym, ap, ◌∙◌, subst, arith}
-use Rattle.std.proofs.lemmas.Bool.{le-leb}
-use Rattle.std.proofs.lemmas.Int.{ints}
-use Rattle.std.proofs.lemmas.List.{length-map}
-use Rattle.isa_model.specs.Code.Limits.{stack_size}
-use Rattle.isa_model.specs.declared.map_defs.MapDef.{MapDef}
+use Rattle.transfer.proofs.Common.{◌≡◌, ℕ, ◌+◌, ◌<◌, ◌≤◌, ℤ, pos, ◌+ℤ◌, nat_le, Bool, true, false, ◌&&◌, List, [], map, take, drop, length, slice_get, Option, Some, None, Result, Ok, sym, ap, ◌∙◌, subst, arith, refl, list_all, le-leb, ints, length-map, stack_size, MapDef, Value, Ptr, Cell, Byte, Program, content_of, call_frame_at, new_call_frame, and_then, is_byte, byte_in, index_from, index_at, key_value_at, read, IsCallFrame, MapArgument, map_of_row, map_argument, BytesArgument, bytes_argument, number_argument, bytes_in, bytes_at, list_all-is_byte-Byte, take-drop-Byte, Kind, Number, Stack, Packet, Map, MapValue, Assigned, Allows, State, stack_slots_of, MeansBy, depth_is_length, part_of, none_unwritten, Refusal, CalledMap, map_with_row, called_map, is_number, judged, AreInFrame, AreKnown}
 use Rattle.isa_model.specs.declared.values.Region.TheVariants as region
-use Rattle.isa_model.specs.declared.values.Value.{Value}
-use Rattle.isa_model.specs.declared.values.Value.TheVariants.{Ptr}
-use Rattle.isa_model.specs.declared.values.Cell.{Cell}
-use Rattle.isa_model.specs.declared.values.Cell.TheVariants.{Byte}
-use Rattle.isa_model.specs.Code.Instructions.{Program}
-use Rattle.isa_model.specs.Machine.States.{content_of, call_frame_at, new_call_frame}
 use Rattle.isa_model.specs.Machine.States as Machine
-use Rattle.isa_model.specs.Machine.Memory.{and_then, is_byte, byte_in, index_from, index_at, key_value_at, read}
-use Rattle.isa_model.specs.Machine.MachineStates.{IsCallFrame}
-use Rattle.isa_model.specs.Machine.HelperCalls.{MapArgument, map_of_row, map_argument, BytesArgument, bytes_argument, number_argument, bytes_in, bytes_at}
-use Rattle.isa_model.proofs.ByteCells.{list_all-is_byte-Byte, take-drop-Byte}
-use Rattle.reg_state.specs.declared.kinds.Kind.{Kind}
-use Rattle.reg_state.specs.declared.kinds.Kind.TheVariants.{Number, Stack, Packet, Map, MapValue}
-use Rattle.reg_state.specs.Kinds.{Assigned, Allows}
-use Rattle.stack_state.specs.declared.states.State.{State}
-use Rattle.stack_state.specs.Meaning.{stack_slots_of, MeansBy}
-use Rattle.stack_state.proofs.MeaningLaws.{depth_is_length}
-use Rattle.stack_state.specs.StackMeaning.{part_of}
-use Rattle.stack_state.proofs.CellLaws.{none_unwritten}
 use Rattle.stack_state.proofs.StackLaws.{marked_are_bytes}
 use Rattle.stack_state.proofs.FrameLaws.{IsHere, read_here}
 use Rattle.stack_state.proofs.FramePlaceLaws.{call_frame_index-serial}
-use Rattle.transfer.specs.declared.refusals.Refusal.{Refusal}
-use Rattle.transfer.specs.declared.helpers.CalledMap.{CalledMap}
 use Rattle.transfer.proofs.PacketLaws.{packet_place}
 use Rattle.transfer.proofs.ValueLaws.{HasBytesAt, at_value}
-use Rattle.transfer.specs.HelperCalls.{map_with_row, called_map, is_number, judged, AreInFrame, AreKnown}
 
 -- ---- the kinds of the arguments
 

@@ -1,43 +1,19 @@
 -- Calls of helpers: the state that the call leaves means the machine's next state.
-use Rattle.std.specs.Prelude.{◌≡◌, ℕ, ◌+◌, ℤ, true, ◌||◌, ◌&&◌, List, slice_get, All, Option, Some, None, Result, Ok, Err, IfOk, refl}
-use Rattle.std.proofs.Common.{sym, subst}
-use Rattle.isa_model.specs.declared.registers.Reg.TheVariants.{R1, R2, R3, R4}
+use Rattle.transfer.proofs.Common.{◌≡◌, ℕ, ◌+◌, ℤ, true, ◌||◌, ◌&&◌, List, slice_get, All, Option, Some, None, Result, Ok, Err, IfOk, sym, subst, refl, R1, R2, R3, R4, MapDef, Num, TrapReason, helper_numbered, Program, IsRow, reg, content_of, and_then, IsState, IsClock, map_argument, BytesArgument, bytes_argument, number_argument, bytes_at, lookup_call, update_call, delete_call, ktime_get_ns, helper_call, answered, after_call, row_within, Kind, MapValueOrNull, Assigned, Allows, State, MeansBy, reg_allowed, kind_of, Refusal, CalledMap, is_untested, called_map, points_to_bytes, is_number, key_arguments, update_arguments, KeyIsKnown, ValueIsKnown, AnswersNumber, AnswersValue, without_values, LeavesIf, StepsHelper, CallsHelper}
 use Rattle.isa_model.specs.declared.helpers.Helper.{Helper}
 use Rattle.isa_model.specs.declared.helpers.Helper.TheVariants.{MapLookupElem, MapUpdateElem, MapDeleteElem, KtimeGetNs}
 use Rattle.isa_model.specs.declared.map_defs.MapType.{MapType}
 use Rattle.isa_model.specs.declared.map_defs.MapType.TheVariants.{Hash, Array}
-use Rattle.isa_model.specs.declared.map_defs.MapDef.{MapDef}
-use Rattle.isa_model.specs.declared.values.Value.TheVariants.{Num}
-use Rattle.isa_model.specs.declared.ends.TrapReason.{TrapReason}
-use Rattle.isa_model.specs.Code.Helpers.{helper_numbered}
-use Rattle.isa_model.specs.Code.Instructions.{Program}
-use Rattle.isa_model.specs.Code.MapRows.{IsRow}
-use Rattle.isa_model.specs.Machine.States.{reg, content_of}
 use Rattle.isa_model.specs.Machine.States as Machine
-use Rattle.isa_model.specs.Machine.Memory.{and_then}
-use Rattle.isa_model.specs.Machine.MachineStates.{IsState, IsClock}
 use Rattle.isa_model.specs.Machine.MapContents.{update_answer, delete_answer}
 use Rattle.isa_model.specs.Machine.MapHelpers.{Helped, map_lookup_elem, map_update_elem, map_delete_elem}
-use Rattle.isa_model.specs.Machine.HelperCalls.{map_argument, BytesArgument, bytes_argument, number_argument, bytes_at, lookup_call, update_call, delete_call, ktime_get_ns, helper_call, answered, after_call}
 use Rattle.isa_model.proofs.HelperStates.{IsHelped, helper_call_fits, IsState-answered}
-use Rattle.isa_model.proofs.HelperLaws.{row_within}
 use Rattle.isa_model.proofs.MapRowsLaws.{KeyFits-some}
-use Rattle.reg_state.specs.declared.kinds.Kind.{Kind}
-use Rattle.reg_state.specs.declared.kinds.Kind.TheVariants.{MapValueOrNull}
-use Rattle.reg_state.specs.Kinds.{Assigned, Allows}
-use Rattle.stack_state.specs.declared.states.State.{State}
-use Rattle.stack_state.specs.Meaning.{MeansBy}
-use Rattle.stack_state.proofs.MeaningLaws.{reg_allowed}
-use Rattle.stack_state.specs.Places.{kind_of}
 use Rattle.stack_state.proofs.FillLaws.{any_number}
 use Rattle.stack_state.specs.HelperAnswers.{with_answer}
 use Rattle.stack_state.proofs.HelperEffects.{MeansBy-answered, MeansBy-looked_up, MeansBy-update, MeansBy-asked, MeansBy-delete}
-use Rattle.transfer.specs.declared.refusals.Refusal.{Refusal}
-use Rattle.transfer.specs.declared.helpers.CalledMap.{CalledMap}
-use Rattle.transfer.specs.Refusing.{is_untested}
 use Rattle.transfer.proofs.StackAccessLaws.{ContinuesIn}
 use Rattle.transfer.proofs.ValueLaws.{GoesIntoSome}
-use Rattle.transfer.specs.HelperCalls.{called_map, points_to_bytes, is_number, key_arguments, update_arguments, KeyIsKnown, ValueIsKnown, AnswersNumber, AnswersValue, without_values, LeavesIf, StepsHelper, CallsHelper}
 use Rattle.transfer.proofs.HelperArgumentLaws.{argument_of, map_called, judged_map, flags_there, last_of, known_points}
 
 -- ---- what the machine does

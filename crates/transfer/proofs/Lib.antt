@@ -1,3 +1,4 @@
+mod Common
 mod Sizes
 pub mod AccessLaws
 pub mod AnswerLaws

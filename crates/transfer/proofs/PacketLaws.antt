@@ -1,47 +1,17 @@
 -- Through the context and packet pointers: what the machine loads and stores is allowed by the kind
 -- that the step computes.
-use Rattle.std.specs.Prelude.{◌≡◌, ℕ, ◌+◌, ◌-◌, ◌*◌, ◌%◌, ◌^◌, ◌<◌, ◌≤◌, ℤ, pos, negsuc, ◌+ℤ◌, ◌≤ℤ◌, FitsSigned, nat_le, true, List, map, take, drop, length, Some, Ok, refl}
-use Rattle.std.specs.List.{splice}
+use Rattle.transfer.proofs.Common.{◌≡◌, ℕ, ◌+◌, ◌-◌, ◌*◌, ◌%◌, ◌^◌, ◌<◌, ◌≤◌, ℤ, pos, negsuc, ◌+ℤ◌, ◌≤ℤ◌, FitsSigned, nat_le, true, List, map, take, drop, length, Some, Ok, inl, inr, sym, ◌∙◌, subst, arith, refl, splice, le-leb, ints, to_z-of_z, length-map, length-take-le, length-drop, Size, U8, U16, U32, U64, SignedSize, Value, Num, Ptr, Cell, Byte, Program, bytes_of, number_from, sign_extended, size_bytes, unsigned_size, size_extension, byte_in, index_from, load, load_number, load_signed, store, IsState, number_in-Byte, value_in-Byte, take-drop-Byte, slice_index_fits, length-splice, Scalar, Kind, Number, Context, Packet, MapValueOrNull, Has, Assigned, Allows, AllowsPacket, State, length-bytes_of, number_from_below, AssignmentFits, MeansBy, IfLeft, IsNumber32, AreInPacket, IsOfSize, IsOfSignedSize, IsNumberOf, PacketLoads, PacketLoadsSigned, PacketStores}
 use Rattle.std.specs.Int.{w8, w16, w32, w64, cast_signed, cast_unsigned}
-use Rattle.std.proofs.Common.{inl, inr, sym, ◌∙◌, subst, arith}
-use Rattle.std.proofs.lemmas.Bool.{le-leb}
-use Rattle.std.proofs.lemmas.Int.{ints, to_z-of_z}
 use Rattle.std.proofs.Math.Facts.{sfits_to_z}
-use Rattle.std.proofs.lemmas.List.{length-map, length-take-le, length-drop}
-use Rattle.isa_model.specs.declared.sizes.Size.{Size}
-use Rattle.isa_model.specs.declared.sizes.Size.TheVariants.{U8, U16, U32, U64}
-use Rattle.isa_model.specs.declared.sizes.SignedSize.{SignedSize}
 use Rattle.isa_model.specs.declared.sizes.SignedSize.TheVariants.{S8, S16, S32}
 use Rattle.isa_model.specs.declared.values.Region.TheVariants as region
-use Rattle.isa_model.specs.declared.values.Value.{Value}
-use Rattle.isa_model.specs.declared.values.Value.TheVariants.{Num, Ptr}
-use Rattle.isa_model.specs.declared.values.Cell.{Cell}
-use Rattle.isa_model.specs.declared.values.Cell.TheVariants.{Byte}
-use Rattle.isa_model.specs.Code.Instructions.{Program}
-use Rattle.isa_model.specs.Code.Numbers.{bytes_of, number_from, sign_extended}
 use Rattle.isa_model.proofs.LittleEndianLaws.{EachByte-take, EachByte-drop}
 use Rattle.isa_model.proofs.ExtensionLaws.{sign_extended_fits}
-use Rattle.isa_model.specs.Code.Sizes.{size_bytes, unsigned_size, size_extension}
 use Rattle.isa_model.specs.Machine.States as Machine
-use Rattle.isa_model.specs.Machine.Memory.{byte_in, index_from, load, load_number, load_signed, store}
-use Rattle.isa_model.specs.Machine.MachineStates.{IsState}
-use Rattle.isa_model.proofs.ByteCells.{number_in-Byte, value_in-Byte, take-drop-Byte}
-use Rattle.isa_model.proofs.ValueLaws.{slice_index_fits, length-splice}
 use Rattle.ranges.specs.Keeps.{extension_signed}
-use Rattle.reg_state.specs.declared.scalars.Scalar.{Scalar}
-use Rattle.reg_state.specs.declared.kinds.Kind.{Kind}
-use Rattle.reg_state.specs.declared.kinds.Kind.TheVariants.{Number, Context, Packet, MapValueOrNull}
-use Rattle.reg_state.specs.Scalars.{Has}
-use Rattle.reg_state.specs.Kinds.{Assigned, Allows, AllowsPacket}
-use Rattle.stack_state.specs.declared.states.State.{State}
-use Rattle.stack_state.proofs.CellLaws.{length-bytes_of, number_from_below}
-use Rattle.stack_state.specs.Meaning.{AssignmentFits, MeansBy}
-use Rattle.stack_state.proofs.EffectLaws.{IfLeft}
 use Rattle.stack_state.proofs.PacketEffects.{MeansBy-packet}
-use Rattle.transfer.specs.Results.{IsNumber32}
 use Rattle.transfer.proofs.ResultLaws.{Yields}
 use Rattle.transfer.specs.ContextLoads.{packet_start, IsField, IsFieldKind, ContextLoads}
-use Rattle.transfer.specs.Packets.{AreInPacket, IsOfSize, IsOfSignedSize, IsNumberOf, PacketLoads, PacketLoadsSigned, PacketStores}
 
 -- ---- the context
 

@@ -1,31 +1,10 @@
 -- Packet pointers with numbers added or subtracted: what the machine computes is allowed by the
 -- kind that the step computes.
-use Rattle.std.specs.Prelude.{◌≡◌, ℕ, ◌<◌, ◌≤◌, ℤ, pos, ◌+ℤ◌, ◌-ℤ◌, ◌≤ℤ◌, unsigned_abs, Bool, true, false, Ok}
-use Rattle.std.proofs.Common.{inl, inr, sym, ap, subst, arith}
-use Rattle.std.proofs.lemmas.Bool.Decides.{nat_tests}
-use Rattle.std.proofs.lemmas.Int.{ints}
+use Rattle.transfer.proofs.Common.{◌≡◌, ℕ, ◌<◌, ◌≤◌, ℤ, pos, ◌+ℤ◌, ◌-ℤ◌, ◌≤ℤ◌, unsigned_abs, Bool, true, false, Ok, inl, inr, sym, ap, subst, arith, nat_tests, ints, Value, Num, Ptr, Full64, Add, Sub, Program, signed, offset_limit, moved_to, combined, Scalar, Kind, Packet, Has, Assigned, Allows, AllowsPacket, IsNumber-only, State, MeansBy, MeansBy-fresh, moved_by, lowest, highest, AreOffsets, StaysProved, IsFreshPointer, least_part, greatest_part, IsMovedVariable, IsMovedBetween, IsMovedFixed, IsMovedBy, PacketMoves}
 use Rattle.isa_model.specs.declared.values.Region.TheVariants as region
-use Rattle.isa_model.specs.declared.values.Value.{Value}
-use Rattle.isa_model.specs.declared.values.Value.TheVariants.{Num, Ptr}
-use Rattle.isa_model.specs.declared.sizes.Width.TheVariants.{Full64}
-use Rattle.isa_model.specs.declared.instructions.AluOp.TheVariants.{Add, Sub}
-use Rattle.isa_model.specs.Code.Instructions.{Program}
-use Rattle.isa_model.specs.Code.Numbers.{signed}
 use Rattle.isa_model.specs.Machine.States as Machine
-use Rattle.isa_model.specs.Code.Limits.{offset_limit}
-use Rattle.isa_model.specs.Machine.Pointers.{moved_to, combined}
-use Rattle.reg_state.specs.declared.scalars.Scalar.{Scalar}
-use Rattle.reg_state.specs.declared.kinds.Kind.{Kind}
-use Rattle.reg_state.specs.declared.kinds.Kind.TheVariants.{Packet}
-use Rattle.reg_state.specs.Scalars.{Has}
-use Rattle.reg_state.specs.Kinds.{Assigned, Allows, AllowsPacket}
-use Rattle.reg_state.proofs.ConstantsLaws.{IsNumber-only}
 use Rattle.reg_state.proofs.KindLaws.{with_offset}
-use Rattle.stack_state.specs.declared.states.State.{State}
-use Rattle.stack_state.specs.Meaning.{MeansBy}
-use Rattle.stack_state.proofs.MeaningLaws.{MeansBy-fresh}
 use Rattle.transfer.proofs.ResultLaws.{YieldsUnder, pointer_at_within}
-use Rattle.transfer.specs.Packets.{moved_by, lowest, highest, AreOffsets, StaysProved, IsFreshPointer, least_part, greatest_part, IsMovedVariable, IsMovedBetween, IsMovedFixed, IsMovedBy, PacketMoves}
 use Rattle.transfer.specs.declared.packets.PacketPointer.{PacketPointer}
 
 -- ---- moves of packet pointers

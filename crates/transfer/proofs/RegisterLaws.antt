@@ -1,23 +1,8 @@
 -- Registers that are known to be set are set, so that a machine state passes the tests that its
 -- abstract state passes.
-use Rattle.std.specs.Prelude.{◌≡◌, ℕ, Bool, false, List, [], ◌∷◌, Option, Some, None, refl}
-use Rattle.std.specs.List.{list_any}
-use Rattle.std.proofs.Common.{ap}
-use Rattle.std.proofs.lemmas.Bool.{or_parts}
-use Rattle.isa_model.specs.declared.registers.Reg.{Reg}
-use Rattle.isa_model.specs.declared.instructions.Insn.{Insn}
-use Rattle.isa_model.specs.declared.values.Value.{Value}
-use Rattle.isa_model.specs.Code.Instructions.{Program, reads, writes, is_frame_pointer}
-use Rattle.isa_model.specs.Machine.States.{reg}
+use Rattle.transfer.proofs.Common.{◌≡◌, ℕ, Bool, false, List, [], ◌∷◌, Option, Some, None, ap, refl, list_any, or_parts, Reg, Insn, Value, Program, reads, writes, is_frame_pointer, reg, act, is_unset, performed, Kind, Assigned, Allows, AllowsOrNull, State, MeansBy, kind_of, reg_allowed}
 use Rattle.isa_model.specs.Machine.States as Machine
-use Rattle.isa_model.specs.Machine.Steps.{act, is_unset, performed}
-use Rattle.reg_state.specs.declared.kinds.Kind.{Kind}
 use Rattle.reg_state.specs.declared.kinds.Kind.TheVariants as kind
-use Rattle.reg_state.specs.Kinds.{Assigned, Allows, AllowsOrNull}
-use Rattle.stack_state.specs.declared.states.State.{State}
-use Rattle.stack_state.specs.Meaning.{MeansBy}
-use Rattle.stack_state.specs.Places.{kind_of}
-use Rattle.stack_state.proofs.MeaningLaws.{reg_allowed}
 use Rattle.transfer.specs.Refusing.{is_unset as is_unset_kind, is_unset_in}
 
 -- what was looked up is set, null or not

@@ -1,26 +1,9 @@
 -- Each value that the machine computes is allowed by the kind that the step computes.
-use Rattle.std.specs.Prelude.{◌≡◌, ℕ, ◌≤◌, ℤ, Bool, true, false, nat_le, unsigned_abs, if◌then◌else◌, slice_get, Option, Some, None, Result, Ok, Err, refl}
-use Rattle.std.proofs.Common.{arith}
-use Rattle.std.proofs.lemmas.Bool.Decides.{nat_tests}
+use Rattle.transfer.proofs.Common.{◌≡◌, ℕ, ◌≤◌, ℤ, Bool, true, false, nat_le, unsigned_abs, if◌then◌else◌, slice_get, Option, Some, None, Result, Ok, Err, arith, refl, nat_tests, Value, TrapReason, offset_limit, pointer_at, moved_to, on_number, Program, Scalar, Kind, Number, Stack, Has, Assigned, Allows, IsNumber-only, State, MeansBy, PointerOffset, OfNumber, moved_offset, LeavesNumber, moved_frame}
 use Rattle.isa_model.specs.declared.values.Region.{Region}
 use Rattle.isa_model.specs.declared.values.Region.TheVariants as region
-use Rattle.isa_model.specs.declared.values.Value.{Value}
 use Rattle.isa_model.specs.declared.values.Value.TheVariants as value
-use Rattle.isa_model.specs.declared.ends.TrapReason.{TrapReason}
-use Rattle.isa_model.specs.Code.Limits.{offset_limit}
-use Rattle.isa_model.specs.Machine.Pointers.{pointer_at, moved_to, on_number}
 use Rattle.isa_model.specs.Machine.States as Machine
-use Rattle.isa_model.specs.Code.Instructions.{Program}
-use Rattle.reg_state.specs.declared.scalars.Scalar.{Scalar}
-use Rattle.reg_state.specs.declared.kinds.Kind.{Kind}
-use Rattle.reg_state.specs.declared.kinds.Kind.TheVariants.{Number, Stack}
-use Rattle.reg_state.specs.Scalars.{Has}
-use Rattle.reg_state.specs.Kinds.{Assigned, Allows}
-use Rattle.reg_state.proofs.ConstantsLaws.{IsNumber-only}
-use Rattle.stack_state.specs.declared.states.State.{State}
-use Rattle.stack_state.specs.Meaning.{MeansBy}
-use Rattle.transfer.specs.declared.refusals.Refusal.TheVariants.{PointerOffset}
-use Rattle.transfer.specs.Results.{OfNumber, moved_offset, LeavesNumber, moved_frame}
 
 -- the value is there, and the kind allows it
 abbrev pub Yields : Assigned → Kind → Result Value TrapReason → Type 0

@@ -1,42 +1,22 @@
 -- Every instruction but a local call and an exit keeps the slots to which the live call frames
 -- return.
-use Rattle.std.specs.Prelude.{◌≡◌, ℕ, ◌<◌, ℤ, Bool, true, false, if◌then◌else◌, List, [], ◌∷◌, ◌++◌, map, Option, Some, None, Result, Ok, Err, refl}
-use Rattle.std.proofs.Common.{sym, ap, ◌∙◌}
-use Rattle.std.proofs.lemmas.List.{map-append}
+use Rattle.transfer.proofs.Common.{◌≡◌, ℕ, ◌<◌, ℤ, Bool, true, false, if◌then◌else◌, List, [], ◌∷◌, ◌++◌, map, Option, Some, None, Result, Ok, Err, sym, ap, ◌∙◌, refl, map-append, Size, U64, Reg, R0, Cond, MapDef, Scalar, Kind, State, frames_of, abstract_frame_at, no_frame, depth, returns-with, frames_of-with_frame, Narrows, LearnsOf, Refines, IsLeft, helper_numbered, Refusal, CalledMap, key_arguments, update_arguments, KeyIsKnown, ValueIsKnown, AnswersNumber, AnswersValue, without_values, LeavesIf, StepsHelper, CallsHelper}
 use Rattle.std.proofs.Math.Seq.{map-set_same}
-use Rattle.isa_model.specs.declared.sizes.Size.{Size}
-use Rattle.isa_model.specs.declared.sizes.Size.TheVariants.{U64}
-use Rattle.isa_model.specs.declared.registers.Reg.{Reg}
-use Rattle.isa_model.specs.declared.registers.Reg.TheVariants.{R0}
-use Rattle.isa_model.specs.declared.instructions.Cond.{Cond}
-use Rattle.isa_model.specs.declared.map_defs.MapDef.{MapDef}
-use Rattle.reg_state.specs.declared.scalars.Scalar.{Scalar}
-use Rattle.reg_state.specs.declared.kinds.Kind.{Kind}
 use Rattle.reg_state.specs.declared.kinds.Kind.TheVariants as kind
 use Rattle.stack_state.specs.declared.slots.StackSlot.{StackSlot}
-use Rattle.stack_state.specs.declared.states.State.{State}
-use Rattle.stack_state.specs.Meaning.{frames_of, abstract_frame_at, no_frame, depth}
-use Rattle.stack_state.proofs.MeaningLaws.{returns-with}
 use Rattle.stack_state.specs.Effects.{with_slots, with_frame_slots, forgotten_frame, with_kinds, map_kinds, proved_kind}
-use Rattle.stack_state.proofs.EffectLaws.{frames_of-with_frame}
 use Rattle.stack_state.proofs.KindEffects.{frames_of-map, same_returns}
 use Rattle.branch_refine.specs.Comparing.{compared_by, same}
-use Rattle.branch_refine.specs.Refining.{Narrows, LearnsOf, Refines}
 use Rattle.branch_refine.proofs.RefiningLaws.{numbers-compared_by}
 use Rattle.branch_refine.specs.declared.comparing.Compared.{Compared}
 use Rattle.branch_refine.specs.declared.comparing.Compared.TheVariants as compared
-use Rattle.transfer.specs.StackAccesses.{IsLeft}
 use Rattle.transfer.specs.Accesses.{StoresKind}
 use Rattle.transfer.specs.Atomics.{with_old, IsSwapped, SwapsAt, Swaps, ComparesIn}
 use Rattle.isa_model.specs.declared.map_defs.MapType.{MapType}
 use Rattle.isa_model.specs.declared.map_defs.MapType.TheVariants.{Hash, Array}
 use Rattle.isa_model.specs.declared.helpers.Helper.{Helper}
 use Rattle.isa_model.specs.declared.helpers.Helper.TheVariants.{MapLookupElem, MapUpdateElem, MapDeleteElem, KtimeGetNs}
-use Rattle.isa_model.specs.Code.Helpers.{helper_numbered}
 use Rattle.stack_state.proofs.HelperEffects.{returns-with_answer}
-use Rattle.transfer.specs.declared.refusals.Refusal.{Refusal}
-use Rattle.transfer.specs.declared.helpers.CalledMap.{CalledMap}
-use Rattle.transfer.specs.HelperCalls.{key_arguments, update_arguments, KeyIsKnown, ValueIsKnown, AnswersNumber, AnswersValue, without_values, LeavesIf, StepsHelper, CallsHelper}
 use Rattle.transfer.specs.Following.{returns_of}
 
 -- ---- memory

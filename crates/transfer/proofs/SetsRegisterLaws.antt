@@ -1,57 +1,25 @@
 -- Forms that set a register: the successor with the kind in that register means the machine's
 -- next state.
-use Rattle.std.specs.Prelude.{◌≡◌, ◌≢◌, ℕ, ◌+◌, pos, false, length, Some, Result, Ok, Err, refl}
-use Rattle.std.specs.List.{list_any}
-use Rattle.std.proofs.Common.{sym, ap, subst, arith}
-use Rattle.std.proofs.lemmas.Bool.{or_parts}
-use Rattle.std.proofs.lemmas.List.{get_or-set_same}
-use Rattle.isa_model.specs.declared.sizes.Width.{Width}
-use Rattle.isa_model.specs.declared.registers.Reg.{Reg}
-use Rattle.isa_model.specs.declared.registers.Reg.TheVariants.{R10}
+use Rattle.transfer.proofs.Common.{◌≡◌, ◌≢◌, ℕ, ◌+◌, pos, false, length, Some, Result, Ok, Err, sym, ap, subst, arith, refl, list_any, or_parts, get_or-set_same, Width, Reg, R10, Mov, Insn, Alu, Neg, MovSx, ByteSwap, LoadNumber, LoadMap, LoadMapValue, Load, LoadSx, Value, TrapReason, unsigned, negated, sign_extended, reordered, Program, slots_filled, operand_reads, alu_reads, reads, writes, NamesRows, arithmetic, on_number, reg, set_reg, load, load_signed, map_pointer, value_pointer, operand_value, base_of, sets, act, is_unset, IsState, IsValue, unsigned_fits, reg_fits, Kind, Assigned, Allows, State, MeansBy, Means, kind_of, with_register, go_to, reg_allowed, MeansBy-go_to, MeansBy-set, IsJust, Ways, InSome, OperandKind, ResultKind, SetsRegister}
 use Rattle.isa_model.specs.declared.instructions.AluOp.{AluOp}
-use Rattle.isa_model.specs.declared.instructions.AluOp.TheVariants.{Mov}
 use Rattle.isa_model.specs.declared.instructions.Operand.{Operand}
 use Rattle.isa_model.specs.declared.instructions.Operand.TheVariants.{Constant, Register}
-use Rattle.isa_model.specs.declared.instructions.Insn.{Insn}
-use Rattle.isa_model.specs.declared.instructions.Insn.TheVariants.{Alu, Neg, MovSx, ByteSwap, LoadNumber, LoadMap, LoadMapValue, Load, LoadSx}
-use Rattle.isa_model.specs.declared.values.Value.{Value}
 use Rattle.isa_model.specs.declared.values.Value.TheVariants as value
-use Rattle.isa_model.specs.declared.ends.TrapReason.{TrapReason}
 use Rattle.isa_model.specs.Code.Registers.{reg_number}
-use Rattle.isa_model.specs.Code.Numbers.{unsigned, negated, sign_extended, reordered}
 use Rattle.isa_model.specs.Code.Spelling.{InsnFits, OperandFits}
-use Rattle.isa_model.specs.Code.Instructions.{Program, slots_filled, operand_reads, alu_reads, reads, writes}
-use Rattle.isa_model.specs.Code.MapRows.{NamesRows}
-use Rattle.isa_model.specs.Machine.Pointers.{arithmetic, on_number}
-use Rattle.isa_model.specs.Machine.States.{reg, set_reg}
 use Rattle.isa_model.specs.Machine.States as Machine
-use Rattle.isa_model.specs.Machine.Memory.{load, load_signed}
-use Rattle.isa_model.specs.Machine.Steps.{map_pointer, value_pointer, operand_value, base_of, sets, act, is_unset}
 use Rattle.isa_model.specs.Running.Ends.{After}
 use Rattle.isa_model.proofs.EndsLaws.{After-weaker}
-use Rattle.isa_model.specs.Machine.MachineStates.{IsState, IsValue}
-use Rattle.isa_model.proofs.ValueLaws.{unsigned_fits}
-use Rattle.isa_model.proofs.StateLaws.{reg_fits}
 use Rattle.isa_model.proofs.StepLaws.{IfNext}
 use Rattle.isa_model.proofs.RegisterLaws.{reg_number-below}
-use Rattle.reg_state.specs.declared.kinds.Kind.{Kind}
 use Rattle.reg_state.specs.declared.kinds.Kind.TheVariants as kind
-use Rattle.reg_state.specs.Kinds.{Assigned, Allows}
 use Rattle.reg_state.specs.Arithmetic.{IsNegated, IsReordered, IsSignExtended}
-use Rattle.stack_state.specs.declared.states.State.{State}
-use Rattle.stack_state.specs.Meaning.{MeansBy, Means}
-use Rattle.stack_state.specs.Places.{kind_of, with_register, go_to}
-use Rattle.stack_state.proofs.MeaningLaws.{reg_allowed, MeansBy-go_to, MeansBy-set}
-use Rattle.branch_refine.specs.Refining.{IsJust}
-use Rattle.transfer.specs.declared.Ways.{Ways}
 use Rattle.transfer.specs.declared.Ways.TheVariants as ways
-use Rattle.transfer.specs.Leading.{InSome}
 use Rattle.transfer.proofs.RegisterLaws.{unset_in}
 use Rattle.transfer.proofs.ResultLaws.{Yields, YieldsUnder, on_number_yields}
 use Rattle.transfer.proofs.ArithmeticLaws.{arithmetic_yields}
 use Rattle.transfer.proofs.ValuePointerLaws.{value_pointer_allowed}
 use Rattle.transfer.proofs.AccessLaws.{load_yields, load_signed_yields}
-use Rattle.transfer.specs.Exact.{OperandKind, ResultKind, SetsRegister}
 
 -- ---- operands
 

@@ -1,14 +1,8 @@
 -- The greatest number of each size of bytes.
 use native.Mathlib.Nat.{zero-div, div-eq_of_lt}
-use Rattle.std.proofs.Common.{◌≡◌, ◌≢◌, ℕ, ◌+◌, ◌*◌, ◌/◌, ◌^◌, ◌<◌, ◌≤◌, pos, w64, inl, inr, sym, ◌∙◌, refl, arith}
-use Rattle.std.specs.Prelude.{◌≤ℤ◌}
-use Rattle.std.specs.Int.{cast_signed}
+use Rattle.std.proofs.Common.{◌≡◌, ◌≢◌, ℕ, ◌+◌, ◌*◌, ◌/◌, ◌^◌, ◌<◌, ◌≤◌, pos, w64, inl, inr, sym, ◌∙◌, refl, arith, ◌≤ℤ◌}
+use Rattle.transfer.proofs.Common.{cast_signed, cases_lt, ints, to_z_pos, Size, U8, U16, U32, U64, size_bytes}
 use Rattle.std.proofs.Math.Pow.{pow_mono}
-use Rattle.std.proofs.lemmas.Bool.{cases_lt}
-use Rattle.std.proofs.lemmas.Int.{ints, to_z_pos}
-use Rattle.isa_model.specs.declared.sizes.Size.{Size}
-use Rattle.isa_model.specs.declared.sizes.Size.TheVariants.{U8, U16, U32, U64}
-use Rattle.isa_model.specs.Code.Sizes.{size_bytes}
 
 -- a small number has no bit from a position on
 no_bits : (most n i : ℕ) → most + 1 ≡ 2 ^ n → n ≤ i → 0 / 2 ^ i ≡ most / 2 ^ i

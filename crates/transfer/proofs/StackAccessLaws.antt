@@ -1,43 +1,17 @@
 -- The kinds that loads through frame pointers return allow the machine's values, and the states
 -- that stores leave mean its next state.
-use Rattle.std.specs.Prelude.{◌≡◌, ◌≢◌, ℕ, suc, ◌*◌, ◌/◌, ◌==◌, ℤ, ◌+ℤ◌, Bool, true, false, if◌then◌else◌, length, slice_get, Option, Some, None, Result, Ok, Err, IfOk, refl}
-use Rattle.std.proofs.Common.{sym, subst, arith}
-use Rattle.isa_model.specs.declared.sizes.Size.{Size}
-use Rattle.isa_model.specs.declared.sizes.Size.TheVariants.{U8, U16, U32, U64}
-use Rattle.isa_model.specs.declared.sizes.SignedSize.{SignedSize}
+use Rattle.transfer.proofs.Common.{◌≡◌, ◌≢◌, ℕ, suc, ◌*◌, ◌/◌, ◌==◌, ℤ, ◌+ℤ◌, Bool, true, false, if◌then◌else◌, length, slice_get, Option, Some, None, Result, Ok, Err, IfOk, sym, subst, arith, refl, Size, U8, U16, U32, U64, SignedSize, Value, TrapReason, size_bytes, unsigned_size, size_extension, sign_extended, Program, and_then, as_number, load, load_number, load_signed, store, IsState, IsValue, store_keeps, Scalar, Kind, Unset, Number, Context, Stack, Packet, PacketEnd, Map, MapValue, MapValueOrNull, Has, Assigned, Allows, AllowsOrNull, State, depth, stack_slots_of, MeansBy, slot_at, IsLoad, IsFill, LoadsNumber, LoadsSlot, IfLeft, MeansBy-loads, MeansBy-fills, MeansBy-stores, MeansBy-spills, IsNumberKind, Refusal, NullNotTested, PointerStored, IsFramePlace, IsNumberLoad, IsStackLoad, IsSignedLoad, StackLoads, StackLoadsSigned, whole_or, store_refusal, IsLeft, StackStores}
 use Rattle.isa_model.specs.declared.values.Region.TheVariants as region
-use Rattle.isa_model.specs.declared.values.Value.{Value}
 use Rattle.isa_model.specs.declared.values.Value.TheVariants as value
-use Rattle.isa_model.specs.declared.ends.TrapReason.{TrapReason}
-use Rattle.isa_model.specs.Code.Sizes.{size_bytes, unsigned_size, size_extension}
-use Rattle.isa_model.specs.Code.Numbers.{sign_extended}
-use Rattle.isa_model.specs.Code.Instructions.{Program}
 use Rattle.isa_model.specs.Machine.States as Machine
-use Rattle.isa_model.specs.Machine.Memory.{and_then, as_number, load, load_number, load_signed, store}
-use Rattle.isa_model.specs.Machine.MachineStates.{IsState, IsValue}
-use Rattle.isa_model.proofs.AccessLaws.{store_keeps}
-use Rattle.reg_state.specs.declared.scalars.Scalar.{Scalar}
-use Rattle.reg_state.specs.declared.kinds.Kind.{Kind}
-use Rattle.reg_state.specs.declared.kinds.Kind.TheVariants.{Unset, Number, Context, Stack, Packet, PacketEnd, Map, MapValue, MapValueOrNull}
-use Rattle.reg_state.specs.Scalars.{Has}
-use Rattle.reg_state.specs.Kinds.{Assigned, Allows, AllowsOrNull}
-use Rattle.stack_state.specs.declared.states.State.{State}
-use Rattle.stack_state.specs.Meaning.{depth, stack_slots_of, MeansBy}
-use Rattle.stack_state.specs.Slots.{slot_at, IsLoad, IsFill}
-use Rattle.stack_state.specs.StackMeaning.{LoadsNumber, LoadsSlot}
 use Rattle.stack_state.proofs.StackLaws.{loads}
 use Rattle.stack_state.proofs.FillLaws.{fills}
 use Rattle.stack_state.proofs.FrameLaws.{IsHere}
-use Rattle.stack_state.proofs.EffectLaws.{IfLeft, MeansBy-loads, MeansBy-fills, MeansBy-stores, MeansBy-spills}
 use Rattle.stack_state.proofs.NumberStoreEffects.{MeansBy-stores_number}
 use Rattle.stack_state.specs.FramePlaces.{IsStoredIn, IsSpilledIn}
 use Rattle.stack_state.specs.NumberStores.{IsNumberStoredIn}
 use Rattle.stack_state.proofs.FramePlaceLaws.{place_below, place_in_slot, place_whole, IsHere-place}
-use Rattle.branch_refine.specs.Refining.{IsNumberKind}
-use Rattle.transfer.specs.declared.refusals.Refusal.{Refusal}
-use Rattle.transfer.specs.declared.refusals.Refusal.TheVariants.{NullNotTested, PointerStored}
 use Rattle.transfer.proofs.ResultLaws.{Yields}
-use Rattle.transfer.specs.StackAccesses.{IsFramePlace, IsNumberLoad, IsStackLoad, IsSignedLoad, StackLoads, StackLoadsSigned, whole_or, store_refusal, IsLeft, StackStores}
 
 -- ---- loads
 

@@ -1,55 +1,18 @@
 -- Through pointers to map values: what the machine loads and stores is allowed by the kind that
 -- the step computes.
-use Rattle.std.specs.Prelude.{◌≡◌, ℕ, ◌+◌, ◌-◌, ◌*◌, ◌^◌, ◌<◌, ◌≤◌, ◌==◌, ℤ, ◌+ℤ◌, ◌≤ℤ◌, nat_le, nat_lt, Bool, true, false, cond, List, [], map, take, drop, length, slice_get, slice_set, slice_index_or, Contains, Option, Some, None, Result, Ok, IfOk, refl}
-use Rattle.std.specs.List.{position_or_len}
-use Rattle.std.proofs.Common.{inl, inr, sym, ap, ◌∙◌, subst, arith}
-use Rattle.std.proofs.lemmas.Bool.{le-leb, cases_lt}
-use Rattle.std.proofs.lemmas.Bool.Decides.{nat_tests}
-use Rattle.std.proofs.lemmas.Int.{ints}
-use Rattle.std.proofs.lemmas.List.{length-map, length-take-le, length-drop}
+use Rattle.transfer.proofs.Common.{◌≡◌, ℕ, ◌+◌, ◌-◌, ◌*◌, ◌^◌, ◌<◌, ◌≤◌, ◌==◌, ℤ, ◌+ℤ◌, ◌≤ℤ◌, nat_le, nat_lt, Bool, true, false, cond, List, [], map, take, drop, length, slice_get, slice_set, slice_index_or, Contains, Option, Some, None, Result, Ok, IfOk, inl, inr, sym, ap, ◌∙◌, subst, arith, refl, position_or_len, le-leb, cases_lt, nat_tests, ints, length-map, length-take-le, length-drop, Size, U8, U16, U32, U64, SignedSize, Value, Num, Ptr, Cell, Byte, TrapReason, MapDef, Program, bytes_of, number_from, sign_extended, size_bytes, unsigned_size, size_extension, Stored, Content, key_values_of, content_of, byte_in, index_from, index_of_serial, key_value_at, put_value, load, load_number, load_signed, store, store_number, AreBytes, IsKeyValue, value_serials, IsState, store_number_keeps, number_in-Byte, value_in-Byte, take-drop-Byte, content_fits, put_value_serials, slice_index_fits, Scalar, Kind, Number, MapValue, MapValueOrNull, Has, Assigned, Allows, AllowsMapValue, HasLiveValue, State, length-bytes_of, number_from_below, MeansBy, with_maps, IsOfSize, IsOfSignedSize, value_size, AreInValue, ValueLoads, ValueLoadsSigned, ValueStores}
 use Rattle.std.proofs.lemmas.List.Sums.{fails_before_first}
 use Rattle.std.proofs.lemmas.List.Elements.{All-get_or, at_from_Contains}
 use Rattle.std.proofs.Math.Seq.{map-set_same}
 use Rattle.std.proofs.Math.ListN.{get_or-map as get_or-map_default}
-use Rattle.isa_model.specs.declared.sizes.Size.{Size}
-use Rattle.isa_model.specs.declared.sizes.Size.TheVariants.{U8, U16, U32, U64}
-use Rattle.isa_model.specs.declared.sizes.SignedSize.{SignedSize}
 use Rattle.isa_model.specs.declared.values.Region.TheVariants as region
-use Rattle.isa_model.specs.declared.values.Value.{Value}
-use Rattle.isa_model.specs.declared.values.Value.TheVariants.{Num, Ptr}
-use Rattle.isa_model.specs.declared.values.Cell.{Cell}
-use Rattle.isa_model.specs.declared.values.Cell.TheVariants.{Byte}
-use Rattle.isa_model.specs.declared.ends.TrapReason.{TrapReason}
-use Rattle.isa_model.specs.declared.map_defs.MapDef.{MapDef}
-use Rattle.isa_model.specs.Code.Instructions.{Program}
-use Rattle.isa_model.specs.Code.Numbers.{bytes_of, number_from, sign_extended}
 use Rattle.isa_model.proofs.LittleEndianLaws.{EachByte-take, EachByte-drop}
 use Rattle.isa_model.proofs.ExtensionLaws.{sign_extended_fits}
-use Rattle.isa_model.specs.Code.Sizes.{size_bytes, unsigned_size, size_extension}
-use Rattle.isa_model.specs.Machine.States.{Stored, Content, key_values_of, content_of}
 use Rattle.isa_model.specs.Machine.States as Machine
-use Rattle.isa_model.specs.Machine.Memory.{byte_in, index_from, index_of_serial, key_value_at, put_value, load, load_number, load_signed, store, store_number}
-use Rattle.isa_model.specs.Machine.MachineStates.{AreBytes, IsKeyValue, value_serials, IsState}
-use Rattle.isa_model.proofs.AccessLaws.{store_number_keeps}
-use Rattle.isa_model.proofs.ByteCells.{number_in-Byte, value_in-Byte, take-drop-Byte}
-use Rattle.isa_model.proofs.HelperLaws.{content_fits}
-use Rattle.isa_model.proofs.StateLaws.{put_value_serials}
-use Rattle.isa_model.proofs.ValueLaws.{slice_index_fits}
-use Rattle.reg_state.specs.declared.scalars.Scalar.{Scalar}
-use Rattle.reg_state.specs.declared.kinds.Kind.{Kind}
-use Rattle.reg_state.specs.declared.kinds.Kind.TheVariants.{Number, MapValue, MapValueOrNull}
-use Rattle.reg_state.specs.Scalars.{Has}
-use Rattle.reg_state.specs.Kinds.{Assigned, Allows, AllowsMapValue, HasLiveValue}
-use Rattle.stack_state.specs.declared.states.State.{State}
-use Rattle.stack_state.proofs.CellLaws.{length-bytes_of, number_from_below}
-use Rattle.stack_state.specs.Meaning.{MeansBy}
-use Rattle.stack_state.specs.StackMeaning.{with_maps}
 use Rattle.stack_state.proofs.ValueEffects.{KeepsLive, MeansBy-values}
 use Rattle.transfer.proofs.ResultLaws.{Yields}
-use Rattle.transfer.specs.Packets.{IsOfSize, IsOfSignedSize}
 use Rattle.transfer.proofs.PacketLaws.{place_from, number_yields, extended_fits}
 use Rattle.transfer.proofs.StackAccessLaws.{ContinuesIn}
-use Rattle.transfer.specs.Values.{value_size, AreInValue, ValueLoads, ValueLoadsSigned, ValueStores}
 
 -- ---- live map values
 

@@ -1,40 +1,13 @@
 -- Pointers to map values, moved and from wide loads: the kind that the step computes allows them,
 -- and what wide loads of maps name fits the fields of kinds.
-use Rattle.std.specs.Prelude.{◌≡◌, ℕ, ◌<◌, ℤ, pos, ◌+ℤ◌, ◌-ℤ◌, ◌≤ℤ◌, if◌then◌else◌, Bool, true, false, List, [], ◌∷◌, length, slice_get, Contains, All, Option, Some, None, IsSomeAnd, Ok, refl}
-use Rattle.std.proofs.Common.{sym, subst, arith}
-use Rattle.std.proofs.lemmas.Int.{ints}
-use Rattle.std.proofs.lemmas.List.{length-map}
+use Rattle.transfer.proofs.Common.{◌≡◌, ℕ, ◌<◌, ℤ, pos, ◌+ℤ◌, ◌-ℤ◌, ◌≤ℤ◌, if◌then◌else◌, Bool, true, false, List, [], ◌∷◌, length, slice_get, Contains, All, Option, Some, None, IsSomeAnd, Ok, sym, subst, arith, refl, ints, length-map, max_value_size, Full64, Value, MapDef, Insn, LoadMap, LoadMapValue, Program, fetch, IsRow, HoldsOffset, NamesRows, signed, Content, key_values_of, content_of, moved_to, one_serial, value_pointer, keys_of, value_serials, IsState, content_fits, has_value, row_within, Scalar, Kind, MapValue, Has, Assigned, Allows, AllowsMapValue, HasLiveValue, IsNumber-only, State, MeansBy, moved_offset, LeavesNumber, NamesFit, nearest, farthest, moved_least, moved_greatest, ValueMoves}
 use Rattle.std.proofs.lemmas.Option.{slice_get_within}
-use Rattle.isa_model.specs.Code.Limits.{max_value_size}
-use Rattle.isa_model.specs.declared.sizes.Width.TheVariants.{Full64}
 use Rattle.isa_model.specs.declared.values.Region.TheVariants as region
-use Rattle.isa_model.specs.declared.values.Value.{Value}
-use Rattle.isa_model.specs.declared.map_defs.MapDef.{MapDef}
-use Rattle.isa_model.specs.declared.instructions.Insn.{Insn}
-use Rattle.isa_model.specs.declared.instructions.Insn.TheVariants.{LoadMap, LoadMapValue}
-use Rattle.isa_model.specs.Code.Instructions.{Program, fetch}
-use Rattle.isa_model.specs.Code.MapRows.{IsRow, HoldsOffset, NamesRows}
-use Rattle.isa_model.specs.Code.Numbers.{signed}
-use Rattle.isa_model.specs.Machine.States.{Content, key_values_of, content_of}
 use Rattle.isa_model.specs.Machine.States as Machine
-use Rattle.isa_model.specs.Machine.Pointers.{moved_to}
-use Rattle.isa_model.specs.Machine.Steps.{one_serial, value_pointer}
-use Rattle.isa_model.specs.Machine.MachineStates.{keys_of, value_serials, IsState}
-use Rattle.isa_model.proofs.HelperLaws.{content_fits, has_value, row_within}
-use Rattle.reg_state.specs.declared.scalars.Scalar.{Scalar}
-use Rattle.reg_state.specs.declared.kinds.Kind.{Kind}
-use Rattle.reg_state.specs.declared.kinds.Kind.TheVariants.{MapValue}
-use Rattle.reg_state.specs.Scalars.{Has}
-use Rattle.reg_state.specs.Kinds.{Assigned, Allows, AllowsMapValue, HasLiveValue}
-use Rattle.reg_state.proofs.ConstantsLaws.{IsNumber-only}
-use Rattle.stack_state.specs.declared.states.State.{State}
-use Rattle.stack_state.specs.Meaning.{MeansBy}
 use Rattle.image.specs.Images.{IsImage}
 use Rattle.image.proofs.ImageLaws.{NamesRows-fetch}
-use Rattle.transfer.specs.Results.{moved_offset, LeavesNumber}
 use Rattle.transfer.proofs.ResultLaws.{Yields, pointer_at_within}
 use Rattle.transfer.proofs.PacketMoveLaws.{offset_between}
-use Rattle.transfer.specs.Values.{NamesFit, nearest, farthest, moved_least, moved_greatest, ValueMoves}
 
 -- ---- moves
 

@@ -1,39 +1,14 @@
 -- When a program is refused only for memory and for its steps.
-use Rattle.std.proofs.Common.{◌≡◌, ◌≤◌, ◌+◌, ◌∷◌, [], ℕ, zero, suc, Some, None, Option, Bool, true, false, List, arith, refl, sym, subst, inl, inr, ◌⊎◌}
-use Rattle.std.specs.Prelude.{◌≢◌, ◌↔◌, ℤ, if◌then◌else◌}
+use Rattle.walks.proofs.Common.{◌≡◌, ◌≤◌, ◌+◌, ◌∷◌, [], ℕ, zero, suc, Some, None, Option, Bool, true, false, List, arith, refl, sym, subst, inl, inr, ◌⊎◌, ◌≢◌, ◌↔◌, ℤ, if◌then◌else◌, option_map, option_and_then, Reg, R10, Insn, CallLocal, Exit, Program, fetch, slots_filled, reads, writes, destination, falls_through, jump_distance, Kind, Number, Scalar, State, kind_of, IsNumberKind, slot_behind, call_distance, BeginsInsn, jump_to, call_to, fall_to, ReachedIn, IsFlow, HasEdge-Follows, IsFlow-Fails, Flow, Step, Repeats, TooLong, Memory, IsStuck, ComesBack, StartTakes, IsRefused, IsOutOfMemory, Exact, Coarse, IsPlainForm, Each, IsOneOf, needs, PathTo, IsWhole, is_frame_pointer-other}
 use Rattle.std.specs.List.{list_any}
-use Rattle.std.specs.Option.{option_map, option_and_then}
-use Rattle.isa_model.specs.declared.registers.Reg.{Reg}
-use Rattle.isa_model.specs.declared.registers.Reg.TheVariants.{R10}
-use Rattle.isa_model.specs.declared.instructions.Insn.{Insn}
-use Rattle.isa_model.specs.declared.instructions.Insn.TheVariants.{CallLocal, Exit}
-use Rattle.isa_model.specs.Code.Instructions.{Program, fetch, slots_filled, reads, writes}
-use Rattle.isa_model.specs.Machine.Steps.{destination}
-use Rattle.isa_model.specs.Machine.Successors.{falls_through, jump_distance}
-use Rattle.reg_state.specs.declared.kinds.Kind.{Kind}
-use Rattle.reg_state.specs.declared.kinds.Kind.TheVariants.{Number}
-use Rattle.reg_state.specs.declared.scalars.Scalar.{Scalar}
-use Rattle.stack_state.specs.declared.states.State.{State}
-use Rattle.stack_state.specs.Places.{kind_of}
-use Rattle.branch_refine.specs.Refining.{IsNumberKind}
 use Rattle.control_flow.specs.declared.errors.FlowError.{FlowError}
 use Rattle.control_flow.specs.declared.errors.FlowError.TheVariants as error
-use Rattle.control_flow.specs.Graph.{slot_behind, call_distance, BeginsInsn, jump_to, call_to, fall_to, ReachedIn}
 use Rattle.control_flow.specs.Functions.{BeginsFunction, SameFunction}
-use Rattle.control_flow.specs.Flows.{IsFlow}
 use Rattle.control_flow.specs.Flows as flow
-use Rattle.control_flow.proofs.FlowLaws.{HasEdge-Follows, IsFlow-Fails}
 use Rattle.transfer.specs.declared.refusals.Refusal.{Refusal as StepRefusal}
 use Rattle.transfer.specs.Refusing.{is_unset, is_unset_in, register_refusal, reads_unset}
 use Rattle.walks.specs.declared.refusals.Refusal.{Refusal}
-use Rattle.walks.specs.declared.refusals.Refusal.TheVariants.{Flow, Step, Repeats, TooLong, Memory}
-use Rattle.walks.specs.Walks.{IsStuck, ComesBack}
 use Rattle.walks.proofs.PrecisionLaws.{IsStuck-as, ComesBack-as}
-use Rattle.walks.specs.Refused.{StartTakes, IsRefused}
-use Rattle.walks.specs.Accepting.{IsOutOfMemory}
-use Rattle.walks.specs.Forgetting.{Exact, Coarse}
-use Rattle.isa_model.specs.MustAccept.Paths.{IsPlainForm, Each, IsOneOf, needs, PathTo, IsWhole}
-use Rattle.isa_model.proofs.InstructionLaws.{is_frame_pointer-other}
 
 -- ---- control flow
 

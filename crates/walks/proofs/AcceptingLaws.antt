@@ -1,13 +1,7 @@
 -- The programs that must be accepted, all classes together: which refusals they get, and which
 -- bounds.
-use Rattle.std.specs.Prelude.{ℕ}
-use Rattle.isa_model.specs.Code.Instructions.{Program}
-use Rattle.isa_model.specs.Machine.MachineStates.{IsProgram}
-use Rattle.stack_state.specs.Starts.{start}
+use Rattle.walks.proofs.Common.{ℕ, Program, IsProgram, start, IsRefused, AcceptsAll, BoundsAll, HasNumber}
 use Rattle.walks.specs.declared.refusals.Refusal.{Refusal}
-use Rattle.walks.specs.Refused.{IsRefused}
-use Rattle.walks.specs.Accepting.{AcceptsAll, BoundsAll}
-use Rattle.walks.specs.Counts.{HasNumber}
 use Rattle.walks.proofs.Plain.{IsPlain-refused, IsPlain-bound}
 use Rattle.walks.proofs.Determined.{IsDetermined-refused, IsDetermined-bound}
 use Rattle.walks.proofs.Guarded.{IsGuarded-refused, IsGuarded-bound}

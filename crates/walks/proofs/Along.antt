@@ -1,37 +1,8 @@
 -- After a step of a walk and a step of the run, the abstract state stays beside the machine state:
 -- conditional jumps, stores, and any step.
-use Rattle.std.proofs.Common.{◌≡◌, ◌+◌, ◌<◌, ◌∷◌, ℕ, suc, Some, None, Ok, Bool, true, false, length, arith, refl, sym, ap, ◌∙◌, subst, inl, inr}
-use Rattle.std.specs.Prelude.{◌≢◌, ℤ, ◌^◌}
-use Rattle.std.proofs.lemmas.Int.{ints}
-use Rattle.isa_model.specs.declared.sizes.Size.TheVariants.{U64}
-use Rattle.isa_model.specs.declared.sizes.Width.TheVariants.{Full64}
-use Rattle.isa_model.specs.declared.registers.Reg.{Reg}
-use Rattle.isa_model.specs.declared.instructions.Cond.{Cond}
-use Rattle.isa_model.specs.declared.instructions.Operand.{Operand}
-use Rattle.isa_model.specs.declared.instructions.Operand.TheVariants.{Constant, Register}
-use Rattle.isa_model.specs.declared.instructions.Place.{Place}
-use Rattle.isa_model.specs.declared.instructions.Insn.{Insn}
-use Rattle.isa_model.specs.declared.instructions.Insn.TheVariants.{Alu, Neg, MovSx, ByteSwap, LoadNumber, Load, StoreConstant, Store, Jump, JumpLong, JumpIf, Exit}
-use Rattle.isa_model.specs.declared.values.Value.TheVariants.{Num}
-use Rattle.isa_model.specs.Code.Numbers.{unsigned, holds}
-use Rattle.isa_model.specs.Code.Instructions.{Program, fetch, operand_reads, writes}
+use Rattle.walks.proofs.Common.{◌≡◌, ◌+◌, ◌<◌, ◌∷◌, ℕ, suc, Some, None, Ok, Bool, true, false, length, arith, refl, sym, ap, ◌∙◌, subst, inl, inr, ◌≢◌, ℤ, ◌^◌, ints, U64, Full64, Reg, Cond, Operand, Constant, Register, Place, Insn, Alu, Neg, MovSx, ByteSwap, LoadNumber, Load, StoreConstant, Store, Jump, JumpLong, JumpIf, Exit, Num, unsigned, holds, Program, fetch, operand_reads, writes, reg, Next, destination, branches, tested, test_of, act, step, jump_distance, FallsTo, Reaches-then, Each, stack_slot_offset, stack_slot_place, IsStackSlotPlace, IsDeterminedForm, IsDetermined, HasKnownStackSlots-store, HasKnownStackSlots-keep, stored, store_acts, store_constant_acts, Kind, State, kind_of, go_to, IsJust, IsJustOperand, Ways, SetsRegister, Sides, Branches, StepsForm, StepsToWays, GoesOnWith, StoresAt, IsHomeLive, IsWholeSlot, WritesSlot}
 use Rattle.isa_model.specs.Machine.States as Machine
-use Rattle.isa_model.specs.Machine.States.{reg}
-use Rattle.isa_model.specs.Machine.Steps.{Next, destination, branches, tested, test_of, act, step}
-use Rattle.isa_model.specs.Machine.Successors.{jump_distance, FallsTo}
-use Rattle.isa_model.proofs.EndsLaws.{Reaches-then}
-use Rattle.isa_model.specs.MustAccept.Paths.{Each}
-use Rattle.isa_model.specs.MustAccept.Determined.{stack_slot_offset, stack_slot_place, IsStackSlotPlace, IsDeterminedForm, IsDetermined}
-use Rattle.isa_model.proofs.StackSlotLaws.{HasKnownStackSlots-store, HasKnownStackSlots-keep, stored, store_acts, store_constant_acts}
-use Rattle.reg_state.specs.declared.kinds.Kind.{Kind}
-use Rattle.stack_state.specs.declared.states.State.{State}
-use Rattle.stack_state.specs.Places.{kind_of, go_to}
-use Rattle.branch_refine.specs.Refining.{IsJust, IsJustOperand}
-use Rattle.transfer.specs.declared.Ways.{Ways}
 use Rattle.transfer.specs.declared.Ways.TheVariants as ways
-use Rattle.transfer.specs.Exact.{SetsRegister, Sides, Branches, StepsForm, StepsToWays, GoesOnWith, StoresAt}
-use Rattle.control_flow.specs.Liveness.{IsHomeLive}
-use Rattle.control_flow.specs.StackUse.{IsWholeSlot, WritesSlot}
 use Rattle.walks.proofs.Accepted.{Each-more}
 use Rattle.walks.proofs.Exits.{exited_none}
 use Rattle.walks.proofs.OnNumbers.{NumbersIn, Refines-remains, StepsToWays-performs, kind_of-go_to, compared_operand, just_number}

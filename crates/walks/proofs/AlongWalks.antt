@@ -1,35 +1,8 @@
 -- A walk stays beside a run, step by step.
-use Rattle.std.proofs.Common.{◌≡◌, ◌+◌, ℕ, zero, suc, arith, refl, sym, ap, ◌∙◌, subst, inl, inr, ◌⊎◌}
-use Rattle.std.specs.Prelude.{◌≢◌}
-use Rattle.stack_state.specs.declared.slots.StackSlot.TheVariants.{Written}
-use Rattle.std.proofs.lemmas.List.{length-replicate}
-use Rattle.isa_model.specs.declared.registers.Reg.{Reg}
-use Rattle.isa_model.specs.declared.registers.Reg.TheVariants.{R1, R10}
-use Rattle.isa_model.specs.Code.Registers.{reg_number}
-use Rattle.isa_model.specs.Code.Instructions.{Program}
+use Rattle.walks.proofs.Common.{◌≡◌, ◌+◌, ℕ, zero, suc, arith, refl, sym, ap, ◌∙◌, subst, inl, inr, ◌⊎◌, ◌≢◌, Written, length-replicate, Reg, R1, R10, reg_number, Program, reg, value_at, new_call_frame, step, start_state, start_regs, count_map_values, U64, Place, Insn, Load, CallHelper, IsDeterminedForm, IsDetermined, HasKnownStackSlots, HasKnownStackSlots-start, State, kind_of, start, kind_in, frame_slots, IsJust, Ways, IsAmong, StepsTo, HasSteps, IsLive, IsSlotLive, IsHomeLive, HasInput, TakesInput, Coarse, DeadForgotten, Forgets, AreForgotten, StepsInto}
 use Rattle.isa_model.specs.Machine.States as Machine
-use Rattle.isa_model.specs.Machine.States.{reg, value_at, new_call_frame}
-use Rattle.isa_model.specs.Machine.Steps.{step}
-use Rattle.isa_model.specs.Running.Runs.{start_state, start_regs, count_map_values}
 use Rattle.isa_model.proofs.RunLaws.{progress-zero}
-use Rattle.isa_model.specs.declared.sizes.Size.TheVariants.{U64}
-use Rattle.isa_model.specs.declared.instructions.Place.{Place}
-use Rattle.isa_model.specs.declared.instructions.Insn.{Insn}
-use Rattle.isa_model.specs.declared.instructions.Insn.TheVariants.{Load, CallHelper}
-use Rattle.isa_model.specs.MustAccept.Determined.{IsDeterminedForm, IsDetermined}
-use Rattle.isa_model.proofs.StackSlotLaws.{HasKnownStackSlots, HasKnownStackSlots-start}
-use Rattle.stack_state.specs.declared.states.State.{State}
-use Rattle.stack_state.specs.Places.{kind_of}
-use Rattle.stack_state.specs.Starts.{start}
-use Rattle.stack_state.specs.Slots.{kind_in, frame_slots}
-use Rattle.branch_refine.specs.Refining.{IsJust}
-use Rattle.transfer.specs.declared.Ways.{Ways}
 use Rattle.transfer.specs.declared.Ways.TheVariants as ways
-use Rattle.walks.specs.Walks.{IsAmong, StepsTo, HasSteps}
-use Rattle.control_flow.specs.Liveness.{IsLive, IsSlotLive, IsHomeLive}
-use Rattle.control_flow.specs.TestedNumbers.{HasInput, TakesInput}
-use Rattle.walks.specs.Forgetting.{Coarse, DeadForgotten, Forgets}
-use Rattle.walks.specs.Counts.{AreForgotten, StepsInto}
 use Rattle.walks.proofs.DeadForgottenLaws.{DeadForgotten-slot, DeadForgotten-depth, DeadForgotten-live, DeadForgotten-stack_slot_live}
 use Rattle.walks.proofs.Forgotten.{Forgets-dead}
 use Rattle.walks.proofs.Beside.{HoldsIf, Mirrored, IsNoPointer, first, Along}

@@ -1,49 +1,15 @@
 -- An abstract state beside the machine state of a run: its numbers are known.
-use Rattle.std.proofs.Common.{◌≡◌, ◌<◌, ◌*◌, ℕ, arith, Some, Ok, Bool, true, false, length, set, refl, sym, ap, ◌∙◌, subst, inl, inr, ◌⊎◌}
-use Rattle.std.specs.Prelude.{◌≢◌, ◌^◌}
+use Rattle.walks.proofs.Common.{◌≡◌, ◌<◌, ◌*◌, ℕ, arith, Some, Ok, Bool, true, false, length, set, refl, sym, ap, ◌∙◌, subst, inl, inr, ◌⊎◌, ◌≢◌, ◌^◌, frame_slots, U64, Low32, Full64, Reg, R1, R10, AluOp, Mov, Operand, Constant, Register, Place, Insn, Alu, Neg, MovSx, ByteSwap, LoadNumber, Load, StoreConstant, Store, Jump, JumpLong, JumpIf, CallHelper, CallLocal, Exit, Value, alu, low, unsigned, negated, sign_extended, reordered, Program, fetch, operand_reads, alu_reads, reads, writes, reg, set_reg, value_at, new_call_frame, Trapped, is_unset, operand_value, sets, act, start_state, Reaches, Each, IsOneOf, stack_slot_place, IsStackSlotPlace, IsDeterminedForm, operands, WritesIn, IsDetermined, no_trap, is_set, step_unset, HasKnownStackSlots, load_acts, Kind, Scalar, State, depth, registers_of, kind_of, IsJust, OfNumber, NumberAnd, Combined, Copied, Arithmetic, OperandKind, ResultKind, Home, InRegister, InSlot, IsLive, IsHomeLive, ReadsSlot, IsLive-read}
 use Rattle.std.specs.List.{list_any}
-use Rattle.stack_state.specs.Slots.{frame_slots}
-use Rattle.isa_model.specs.declared.sizes.Size.TheVariants.{U64}
 use Rattle.isa_model.specs.declared.sizes.Width.{Width}
-use Rattle.isa_model.specs.declared.sizes.Width.TheVariants.{Low32, Full64}
-use Rattle.isa_model.specs.declared.registers.Reg.{Reg}
-use Rattle.isa_model.specs.declared.registers.Reg.TheVariants.{R1, R10}
-use Rattle.isa_model.specs.declared.instructions.AluOp.{AluOp}
-use Rattle.isa_model.specs.declared.instructions.AluOp.TheVariants.{Mov}
-use Rattle.isa_model.specs.declared.instructions.Operand.{Operand}
-use Rattle.isa_model.specs.declared.instructions.Operand.TheVariants.{Constant, Register}
-use Rattle.isa_model.specs.declared.instructions.Place.{Place}
-use Rattle.isa_model.specs.declared.instructions.Insn.{Insn}
-use Rattle.isa_model.specs.declared.instructions.Insn.TheVariants.{Alu, Neg, MovSx, ByteSwap, LoadNumber, Load, StoreConstant, Store, Jump, JumpLong, JumpIf, CallHelper, CallLocal, Exit}
-use Rattle.isa_model.specs.declared.values.Value.{Value}
 use Rattle.isa_model.specs.declared.values.Value.TheVariants.{Unset, Num, Ptr}
 use Rattle.isa_model.specs.declared.ends.TrapReason.{TrapReason}
-use Rattle.isa_model.specs.Code.Numbers.{alu, low, unsigned, negated, sign_extended, reordered}
 use Rattle.isa_model.specs.Code.NumberLaws.{low_same}
-use Rattle.isa_model.specs.Code.Instructions.{Program, fetch, operand_reads, alu_reads, reads, writes}
 use Rattle.isa_model.specs.Machine.States as Machine
-use Rattle.isa_model.specs.Machine.States.{reg, set_reg, value_at, new_call_frame}
 use Rattle.isa_model.specs.Machine.Pointers.{arithmetic, on_number}
-use Rattle.isa_model.specs.Machine.Steps.{Trapped, is_unset, operand_value, sets, act}
-use Rattle.isa_model.specs.Running.Runs.{start_state, Reaches}
-use Rattle.isa_model.specs.MustAccept.Paths.{Each, IsOneOf}
-use Rattle.isa_model.specs.MustAccept.Determined.{stack_slot_place, IsStackSlotPlace, IsDeterminedForm, operands, WritesIn, IsDetermined}
-use Rattle.isa_model.proofs.RunSteps.{no_trap, is_set, step_unset}
-use Rattle.isa_model.proofs.StackSlotLaws.{HasKnownStackSlots, load_acts}
-use Rattle.reg_state.specs.declared.kinds.Kind.{Kind}
 use Rattle.reg_state.specs.declared.kinds.Kind.TheVariants as kind
-use Rattle.reg_state.specs.declared.scalars.Scalar.{Scalar}
 use Rattle.reg_state.specs.Scalars.{Has, IsConstant}
 use Rattle.reg_state.specs.Arithmetic.{IsAlu, IsNegated, IsSignExtended, IsReordered}
-use Rattle.stack_state.specs.declared.states.State.{State}
-use Rattle.stack_state.specs.Meaning.{depth, registers_of}
-use Rattle.stack_state.specs.Places.{kind_of}
-use Rattle.branch_refine.specs.Refining.{IsJust}
-use Rattle.transfer.specs.Results.{OfNumber, NumberAnd, Combined, Copied, Arithmetic}
-use Rattle.transfer.specs.Exact.{OperandKind, ResultKind}
-use Rattle.control_flow.specs.Liveness.{Home, InRegister, InSlot, IsLive, IsHomeLive}
-use Rattle.control_flow.specs.StackUse.{ReadsSlot}
-use Rattle.control_flow.proofs.LivenessLaws.{IsLive-read}
 use Rattle.walks.proofs.Accepted.{Each-all, Each-one}
 use Rattle.walks.proofs.Living.{CallsNothing, read_needed}
 use Rattle.walks.proofs.StackSlots.{SlotHolds, load_just}

@@ -1,34 +1,11 @@
 -- What forgetting dead registers and stack slots does to a state: it means more, and all
 -- else stays.
-use Rattle.std.proofs.Common.{◌≡◌, ◌≢◌, ◌<◌, ◌+◌, ◌∷◌, [], ℕ, zero, suc, List, length, map, get_or, refl, sym, ap, ◌∙◌, subst, arith, inl, inr}
-use Rattle.std.proofs.lemmas.Bool.{cases_lt, cases_eq}
+use Rattle.walks.proofs.Common.{◌≡◌, ◌≢◌, ◌<◌, ◌+◌, ◌∷◌, [], ℕ, zero, suc, List, length, map, get_or, refl, sym, ap, ◌∙◌, subst, arith, inl, inr, cases_lt, cases_eq, get_or_past, Reg, R10, Value, reg_number, Program, Kind, Unset, StackSlot, Written, slot_at, frame_slots, AbstractFrame, State, frames_of, abstract_frame_at, depth, registers_of, kind_at, no_frame, Means, abstract_frame_at-innermost, length-frames_of, FrameKeeps, MeansBy-change, kind_of, kind_of-registers, IsJoin, IsLive, IsSlotLive, numbered, returns_of, IsKept, IsSlotDeadAt, IsSlotKept, IsCallerSlotKept, slots_in, DeadForgotten, IsForgotten}
 use Rattle.std.proofs.lemmas.Nat.Bits.{bit_at-zero}
-use Rattle.std.proofs.lemmas.List.{get_or_past}
-use Rattle.isa_model.specs.declared.registers.Reg.{Reg}
-use Rattle.isa_model.specs.declared.registers.Reg.TheVariants.{R10}
-use Rattle.isa_model.specs.declared.values.Value.{Value}
 use Rattle.isa_model.specs.declared.values.Cell.{Cell}
-use Rattle.isa_model.specs.Code.Registers.{reg_number}
-use Rattle.isa_model.specs.Code.Instructions.{Program}
 use Rattle.isa_model.specs.Machine.States as Machine
-use Rattle.reg_state.specs.declared.kinds.Kind.{Kind}
-use Rattle.reg_state.specs.declared.kinds.Kind.TheVariants.{Unset}
 use Rattle.reg_state.specs.Kinds.{Assigned, Allows}
-use Rattle.stack_state.specs.declared.slots.StackSlot.{StackSlot}
-use Rattle.stack_state.specs.declared.slots.StackSlot.TheVariants.{Written}
-use Rattle.stack_state.specs.Slots.{slot_at, frame_slots}
 use Rattle.stack_state.specs.StackMeaning.{SlotMeans}
-use Rattle.stack_state.specs.declared.states.AbstractFrame.{AbstractFrame}
-use Rattle.stack_state.specs.declared.states.State.{State}
-use Rattle.stack_state.specs.Meaning.{frames_of, abstract_frame_at, depth, registers_of, kind_at, no_frame, Means}
-use Rattle.stack_state.proofs.MeaningLaws.{abstract_frame_at-innermost, length-frames_of, FrameKeeps, MeansBy-change}
-use Rattle.stack_state.specs.Places.{kind_of}
-use Rattle.stack_state.proofs.PlaceLaws.{kind_of-registers}
-use Rattle.control_flow.specs.Flows.{IsJoin}
-use Rattle.control_flow.specs.Liveness.{IsLive, IsSlotLive}
-use Rattle.control_flow.proofs.RegisterLaws.{numbered}
-use Rattle.transfer.specs.Following.{returns_of}
-use Rattle.walks.specs.Forgetting.{IsKept, IsSlotDeadAt, IsSlotKept, IsCallerSlotKept, slots_in, DeadForgotten, IsForgotten}
 
 -- ---- what stays
 

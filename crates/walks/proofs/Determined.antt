@@ -1,31 +1,11 @@
 -- Determined programs are accepted, and their bound is the count of steps of their run.
-use Rattle.std.proofs.Common.{◌≡◌, ◌≤◌, ◌+◌, ℕ, zero, suc, Some, None, length, arith, refl, sym, ap, ◌∙◌, subst, inl, inr}
-use Rattle.isa_model.specs.declared.instructions.Insn.{Insn}
-use Rattle.isa_model.specs.declared.instructions.Insn.TheVariants.{CallLocal, Exit}
-use Rattle.isa_model.specs.Code.Instructions.{Program, fetch}
+use Rattle.walks.proofs.Common.{◌≡◌, ◌≤◌, ◌+◌, ℕ, zero, suc, Some, None, length, arith, refl, sym, ap, ◌∙◌, subst, inl, inr, Insn, CallLocal, Exit, Program, fetch, StepResult, Next, Finished, Trapped, step, IsProgram, IsClock, Runs, Ends-Runs, IsDeterminedForm, IsDetermined, step_finishes, Runs-before, Runs-one, State, depth, Means, Covers, start, Ways, LeadsTo, StepsToWays, IsOutOfMemory, IsAmong, StepsTo, HasSteps, ComesBack, StepsInto, HasNumber, LeadsNowhere, LeadsToOne, LeadsToTwo, IsCoveredBy, IsRefused, call_distance, Coarse}
 use Rattle.isa_model.specs.Machine.States as Machine
-use Rattle.isa_model.specs.Machine.Steps.{StepResult, Next, Finished, Trapped, step}
-use Rattle.isa_model.specs.Machine.MachineStates.{IsProgram, IsClock}
-use Rattle.isa_model.specs.Running.Runs.{Runs}
 use Rattle.isa_model.proofs.RunLaws.{Runs-same}
 use Rattle.isa_model.specs.Running.Ends.{Ends, After}
-use Rattle.isa_model.proofs.EndsLaws.{Ends-Runs}
-use Rattle.isa_model.specs.MustAccept.Determined.{IsDeterminedForm, IsDetermined}
-use Rattle.isa_model.proofs.RunSteps.{step_finishes, Runs-before, Runs-one}
-use Rattle.stack_state.specs.declared.states.State.{State}
-use Rattle.stack_state.specs.Meaning.{depth, Means, Covers}
-use Rattle.stack_state.specs.Starts.{start}
 use Rattle.stack_state.proofs.StartsLaws.{Means-start}
-use Rattle.transfer.specs.declared.Ways.{Ways}
 use Rattle.transfer.specs.declared.Ways.TheVariants as ways
-use Rattle.transfer.specs.Leading.{LeadsTo}
-use Rattle.transfer.specs.Exact.{StepsToWays}
 use Rattle.walks.specs.declared.refusals.Refusal.{Refusal}
-use Rattle.walks.specs.Accepting.{IsOutOfMemory}
-use Rattle.walks.specs.Walks.{IsAmong, StepsTo, HasSteps, ComesBack}
-use Rattle.walks.specs.Counts.{StepsInto, HasNumber, LeadsNowhere, LeadsToOne, LeadsToTwo, IsCoveredBy}
-use Rattle.walks.specs.Refused.{IsRefused}
-use Rattle.control_flow.specs.Graph.{call_distance}
 use Rattle.walks.proofs.Accepted.{IsFlow-whole, IsRefused-want}
 use Rattle.walks.proofs.Forgotten.{Means-forgets}
 use Rattle.walks.proofs.Exits.{exited_none}
@@ -34,7 +14,6 @@ use Rattle.walks.proofs.Beside.{first, Along}
 use Rattle.walks.proofs.StillBeside.{NextAlong}
 use Rattle.walks.proofs.Along.{step_along}
 use Rattle.walks.proofs.AlongWalks.{into_along, to_along, start_along}
-use Rattle.walks.specs.Forgetting.{Coarse}
 use Rattle.walks.proofs.NeverStuck.{first_along, takes_along, steps_leads, walks_along, never_stuck}
 
 -- ---- members of the states

@@ -1,17 +1,8 @@
 -- Exits of the only call frame: where they lead, and what they are refused for.
-use Rattle.std.proofs.Common.{◌≡◌, ◌+◌, ℕ, zero, suc, Ok, Err, true, arith, inl, inr}
-use Rattle.isa_model.specs.declared.registers.Reg.TheVariants.{R0}
+use Rattle.walks.proofs.Common.{◌≡◌, ◌+◌, ℕ, zero, suc, Ok, Err, true, arith, inl, inr, R0, is_answer, State, kind_of, IsNumberKind, IsJust, Ways, Refusal, NoAction, ExitsFrom}
 use Rattle.isa_model.specs.declared.versions.Version.{Version}
 use Rattle.isa_model.specs.declared.versions.Version.TheVariants.{Two}
-use Rattle.isa_model.specs.Machine.Steps.{is_answer}
-use Rattle.stack_state.specs.declared.states.State.{State}
-use Rattle.stack_state.specs.Places.{kind_of}
-use Rattle.branch_refine.specs.Refining.{IsNumberKind, IsJust}
-use Rattle.transfer.specs.declared.Ways.{Ways}
 use Rattle.transfer.specs.declared.Ways.TheVariants as ways
-use Rattle.transfer.specs.declared.refusals.Refusal.{Refusal}
-use Rattle.transfer.specs.declared.refusals.Refusal.TheVariants.{NoAction}
-use Rattle.transfer.specs.Exact.{ExitsFrom}
 use Rattle.transfer.proofs.AnswerLaws.{answered_number, answered_refused, answered_constant}
 use Rattle.walks.proofs.Accepted.{number_is}
 

@@ -1,28 +1,6 @@
 -- The loops that forget dead registers and dead stack slots: what is forgotten after some of them,
 -- and after all; what is forgotten of callers.
-use Rattle.std.proofs.Common.{◌≡◌, ◌≢◌, ◌<◌, ◌≤◌, ◌+◌, ◌↔◌, ℕ, List, length, replicate, set, refl, sym, ap, ◌∙◌, subst, arith, inl, inr}
-use Rattle.std.specs.Int.{bit_at}
-use Rattle.std.proofs.lemmas.Bool.{cases_eq}
-use Rattle.std.proofs.lemmas.List.{length-replicate, get_or-replicate, length-set, get_or-set_same, get_or-set_other}
-use Rattle.isa_model.specs.declared.registers.Reg.{Reg}
-use Rattle.isa_model.specs.declared.registers.Reg.TheVariants.{R10}
-use Rattle.isa_model.specs.Code.Registers.{reg_number}
-use Rattle.isa_model.specs.Code.Instructions.{Program}
-use Rattle.reg_state.specs.declared.kinds.Kind.{Kind}
-use Rattle.reg_state.specs.declared.kinds.Kind.TheVariants.{Unset}
-use Rattle.stack_state.specs.declared.slots.StackSlot.{StackSlot}
-use Rattle.stack_state.specs.declared.slots.StackSlot.TheVariants.{Written}
-use Rattle.stack_state.specs.Slots.{AreKnownFrom, slot_at, frame_slots}
-use Rattle.stack_state.specs.declared.states.AbstractFrame.{AbstractFrame}
-use Rattle.stack_state.specs.declared.states.State.{State}
-use Rattle.stack_state.specs.Meaning.{abstract_frame_at, kind_at}
-use Rattle.stack_state.proofs.MeaningLaws.{abstract_frame_at-caller}
-use Rattle.isa_model.proofs.RegisterLaws.{same_number}
-use Rattle.control_flow.specs.declared.slot_masks.SlotMask.{SlotMask}
-use Rattle.control_flow.specs.Masks.{HasSlot}
-use Rattle.control_flow.specs.Flows.{IsJoin}
-use Rattle.control_flow.specs.Liveness.{IsLive, IsSlotLive}
-use Rattle.walks.specs.Forgetting.{IsKept, AreKept, IsSlotLeft, AreSlotsLeft, AreSlotsKept, IsCallerKept, AreCallersKept, CallersForgotten, DeadForgotten}
+use Rattle.walks.proofs.Common.{◌≡◌, ◌≢◌, ◌<◌, ◌≤◌, ◌+◌, ◌↔◌, ℕ, List, length, replicate, set, refl, sym, ap, ◌∙◌, subst, arith, inl, inr, bit_at, cases_eq, length-replicate, get_or-replicate, length-set, get_or-set_same, get_or-set_other, Reg, R10, reg_number, Program, Kind, Unset, StackSlot, Written, AreKnownFrom, slot_at, frame_slots, AbstractFrame, State, abstract_frame_at, kind_at, abstract_frame_at-caller, same_number, SlotMask, HasSlot, IsJoin, IsLive, IsSlotLive, IsKept, AreKept, IsSlotLeft, AreSlotsLeft, AreSlotsKept, IsCallerKept, AreCallersKept, CallersForgotten, DeadForgotten}
 
 -- ---- the loop
 

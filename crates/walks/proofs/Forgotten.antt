@@ -1,29 +1,8 @@
 -- What forgetting does to a state, of what is dead and of numbers that do not matter: it means
 -- more, and all else stays.
-use Rattle.std.proofs.Common.{◌≡◌, ◌≢◌, ◌<◌, ◌∷◌, ◌++◌, [], ℕ, List, length, sym, ap, ◌∙◌, subst, arith, inl, inr, ◌⊎◌, ◌+◌}
-use Rattle.isa_model.specs.declared.registers.Reg.{Reg}
-use Rattle.isa_model.specs.declared.registers.Reg.TheVariants.{R10}
-use Rattle.isa_model.specs.Code.Registers.{reg_number}
-use Rattle.isa_model.specs.Code.Instructions.{Program}
+use Rattle.walks.proofs.Common.{◌≡◌, ◌≢◌, ◌<◌, ◌∷◌, ◌++◌, [], ℕ, List, length, sym, ap, ◌∙◌, subst, arith, inl, inr, ◌⊎◌, ◌+◌, Reg, R10, reg_number, Program, step, Follows, After-weaker, slot_at, AbstractFrame, State, abstract_frame_at, depth, registers_of, kind_at, Means, Covers, kind_of, IsNumberKind, IsJoin, IsLive, HasInput, Ways, LeadsTo, InSome, returns_of, GoesOnTo, IsDeadAt, IsKept, IsSlotDeadAt, IsSlotKept, IsCallerKept, slots_in, DeadForgotten, Precision, NumbersForgotten, Forgets, IsForgotten, AreForgotten}
 use Rattle.isa_model.specs.Machine.States as Machine
-use Rattle.isa_model.specs.Machine.Steps.{step}
-use Rattle.isa_model.specs.Machine.Successors.{Follows}
-use Rattle.isa_model.proofs.EndsLaws.{After-weaker}
-use Rattle.stack_state.specs.Slots.{slot_at}
-use Rattle.stack_state.specs.declared.states.AbstractFrame.{AbstractFrame}
-use Rattle.stack_state.specs.declared.states.State.{State}
-use Rattle.stack_state.specs.Meaning.{abstract_frame_at, depth, registers_of, kind_at, Means, Covers}
-use Rattle.stack_state.specs.Places.{kind_of}
-use Rattle.branch_refine.specs.Refining.{IsNumberKind}
-use Rattle.control_flow.specs.Flows.{IsJoin}
-use Rattle.control_flow.specs.Liveness.{IsLive}
-use Rattle.control_flow.specs.TestedNumbers.{HasInput}
-use Rattle.transfer.specs.declared.Ways.{Ways}
 use Rattle.transfer.specs.declared.Ways.TheVariants as ways
-use Rattle.transfer.specs.Leading.{LeadsTo, InSome}
-use Rattle.transfer.specs.Following.{returns_of, GoesOnTo}
-use Rattle.walks.specs.Forgetting.{IsDeadAt, IsKept, IsSlotDeadAt, IsSlotKept, IsCallerKept, slots_in, DeadForgotten, Precision, NumbersForgotten, Forgets, IsForgotten}
-use Rattle.walks.specs.Counts.{AreForgotten}
 use Rattle.walks.proofs.DeadForgottenLaws.{DeadForgotten-slot, DeadForgotten-callers, DeadForgotten-depth, DeadForgotten-returns, DeadForgotten-each, DeadForgotten-live, DeadForgotten-alone, DeadForgotten-forgotten, Means-dead}
 use Rattle.walks.proofs.NumbersForgottenLaws.{NumbersForgotten-slot, NumbersForgotten-callers, NumbersForgotten-depth, NumbersForgotten-caller, NumbersForgotten-returns, NumbersForgotten-number, NumbersForgotten-other, NumbersForgotten-alone, AreNumbersKept-none, AreSpilledNumbersKept-none, NumbersForgotten-written, NumbersForgotten-twice, Means-numbers}
 

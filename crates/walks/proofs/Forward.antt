@@ -1,38 +1,15 @@
 -- Programs whose jumps lead forward: numbers and explored instructions are few, and no path comes
 -- back.
-use Rattle.std.proofs.Common.{◌≡◌, ◌≤◌, ◌+◌, ◌*◌, ◌^◌, ◌-◌, ◌<◌, ◌∷◌, [], ℕ, zero, suc, Some, None, Option, Ok, List, length, arith, refl, sym, ap, ◌∙◌, subst, inl, inr, count_by}
+use Rattle.walks.proofs.Common.{◌≡◌, ◌≤◌, ◌+◌, ◌*◌, ◌^◌, ◌-◌, ◌<◌, ◌∷◌, [], ℕ, zero, suc, Some, None, Option, Ok, List, length, arith, refl, sym, ap, ◌∙◌, subst, inl, inr, count_by, ℤ, slice_get, cond, option_flatten, length-map, length-append, Cond, Insn, StoreConstant, Store, Atomic, Exchange, CompareExchange, Jump, JumpLong, JumpIf, CallLocal, Exit, Program, fetch, Follows, State, BeginsInsn-inside, fetch-BeginsInsn, Ways, EachWay, frames_of, depth, length-frames_of, start, StepsForm, StepsToWays, returns_of, GoesOnTo, StartTakes, StepsTo, HasSteps, WalksTo, ComesBack, IsAmong, StepsInto, HasNumber, LeadsNowhere, LeadsToOne, LeadsToTwo, IsCoveredBy, Takes, Nothing, ItsOwn, OneMore, BothMore, Coarse, is_conditional, IsForward, slots_filled-some}
 use Rattle.std.proofs.Math.Nat.{pow-le-pow_right, two-pow-succ, add-mul, mul-add}
 use Rattle.std.proofs.lemmas.Nat.{pow_pos, mul-le}
-use Rattle.std.specs.Option.{option_flatten}
-use Rattle.std.specs.Prelude.{ℤ, slice_get, cond}
-use Rattle.std.proofs.lemmas.List.{length-map, length-append}
 use Rattle.std.proofs.lemmas.List.Sums.{sum_by-cons}
-use Rattle.isa_model.specs.declared.instructions.Cond.{Cond}
-use Rattle.isa_model.specs.declared.instructions.Insn.{Insn}
-use Rattle.isa_model.specs.declared.instructions.Insn.TheVariants.{StoreConstant, Store, Atomic, Exchange, CompareExchange, Jump, JumpLong, JumpIf, CallLocal, Exit}
-use Rattle.isa_model.specs.Code.Instructions.{Program, fetch}
-use Rattle.isa_model.specs.Machine.Successors.{Follows}
-use Rattle.stack_state.specs.declared.states.State.{State}
-use Rattle.control_flow.proofs.FlowLaws.{BeginsInsn-inside, fetch-BeginsInsn}
-use Rattle.transfer.specs.declared.Ways.{Ways}
 use Rattle.transfer.specs.declared.Ways.TheVariants as ways
-use Rattle.transfer.specs.Leading.{EachWay}
-use Rattle.stack_state.specs.Meaning.{frames_of, depth}
-use Rattle.stack_state.proofs.MeaningLaws.{length-frames_of}
-use Rattle.stack_state.specs.Starts.{start}
-use Rattle.transfer.specs.Exact.{StepsForm, StepsToWays}
-use Rattle.transfer.specs.Following.{returns_of, GoesOnTo}
 use Rattle.transfer.proofs.FollowLaws.{Steps-follows}
 use Rattle.walks.proofs.Accepted.{HasNoCalls}
-use Rattle.walks.specs.Refused.{StartTakes}
 use Rattle.walks.proofs.Forgotten.{Forgets-depth, GoesOnTo-forgets}
 use Rattle.walks.proofs.Exits.{exits_not_two}
 use Rattle.walks.proofs.OnNumbers.{StepsToWays-performs}
-use Rattle.walks.specs.Walks.{StepsTo, HasSteps, WalksTo, ComesBack, IsAmong}
-use Rattle.walks.specs.Counts.{StepsInto, HasNumber, LeadsNowhere, LeadsToOne, LeadsToTwo, IsCoveredBy, Takes, Nothing, ItsOwn, OneMore, BothMore}
-use Rattle.walks.specs.Forgetting.{Coarse}
-use Rattle.isa_model.specs.MustAccept.Paths.{is_conditional, IsForward}
-use Rattle.isa_model.proofs.InstructionLaws.{slots_filled-some}
 
 -- ---- without calls there is one call frame
 

@@ -1,32 +1,7 @@
 -- Guarded programs are accepted.
-use Rattle.std.proofs.Common.{◌≡◌, ◌≤◌, ◌+◌, ◌<◌, ◌∷◌, [], ℕ, Some, None, Err, false, length, arith, refl, sym, ap, ◌∙◌, subst, inl, inr, ◌⊎◌}
-use Rattle.std.specs.Prelude.{◌≢◌, pos}
-use Rattle.isa_model.specs.declared.sizes.Width.TheVariants.{Full64}
-use Rattle.isa_model.specs.declared.sizes.Size.TheVariants.{U32}
-use Rattle.isa_model.specs.Code.Sizes.{size_bytes, unsigned_size}
-use Rattle.isa_model.specs.declared.registers.Reg.{Reg}
-use Rattle.isa_model.specs.declared.registers.Reg.TheVariants.{R0, R1, R2, R3, R4, R10}
-use Rattle.isa_model.specs.declared.instructions.AluOp.TheVariants.{Mov, Add}
-use Rattle.isa_model.specs.declared.instructions.Operand.TheVariants.{Constant, Register}
-use Rattle.isa_model.specs.declared.instructions.Place.{Place}
-use Rattle.isa_model.specs.declared.instructions.Insn.{Insn}
-use Rattle.isa_model.specs.declared.instructions.Insn.TheVariants.{Alu, Neg, MovSx, ByteSwap, LoadNumber, Load, LoadSx, Jump, JumpLong, JumpIf, Exit}
-use Rattle.isa_model.specs.Code.Instructions.{Program, fetch, reads, writes}
-use Rattle.isa_model.specs.MustAccept.Paths.{IsPlainForm, Each, needs}
-use Rattle.isa_model.specs.MustAccept.Guarded.{IsFree, IsBodyForm, IsGuarded}
-use Rattle.isa_model.proofs.InstructionLaws.{is_frame_pointer-other}
-use Rattle.stack_state.specs.declared.states.State.{State}
-use Rattle.stack_state.specs.Places.{kind_of}
-use Rattle.stack_state.specs.Starts.{start}
+use Rattle.walks.proofs.Common.{◌≡◌, ◌≤◌, ◌+◌, ◌<◌, ◌∷◌, [], ℕ, Some, None, Err, false, length, arith, refl, sym, ap, ◌∙◌, subst, inl, inr, ◌⊎◌, ◌≢◌, pos, Full64, U32, size_bytes, unsigned_size, Reg, R0, R1, R2, R3, R4, R10, Mov, Add, Constant, Register, Place, Insn, Alu, Neg, MovSx, ByteSwap, LoadNumber, Load, LoadSx, Jump, JumpLong, JumpIf, Exit, Program, fetch, reads, writes, IsPlainForm, Each, needs, IsFree, IsBodyForm, IsGuarded, is_frame_pointer-other, State, kind_of, start, register_refusal, reads_unset, StepsForm, Step, IsStuck, HasNumber, IsRefused, IsOutOfMemory, IsUnanswered, Coarse}
 use Rattle.transfer.specs.declared.refusals.Refusal.{Refusal as StepRefusal}
-use Rattle.transfer.specs.Refusing.{register_refusal, reads_unset}
-use Rattle.transfer.specs.Exact.{StepsForm}
 use Rattle.walks.specs.declared.refusals.Refusal.{Refusal}
-use Rattle.walks.specs.declared.refusals.Refusal.TheVariants.{Step}
-use Rattle.walks.specs.Walks.{IsStuck}
-use Rattle.walks.specs.Counts.{HasNumber}
-use Rattle.walks.specs.Refused.{IsRefused}
-use Rattle.walks.specs.Accepting.{IsOutOfMemory, IsUnanswered}
 use Rattle.walks.proofs.Accepted.{IsFlow-whole, IsRefused-want, needs_reads, tests_pass}
 use Rattle.walks.proofs.Forward.{one_frame-start, HasNumber-forward, StartTakes-few, ComesBack-forward}
 use Rattle.walks.proofs.Living.{needs_live}
@@ -36,7 +11,6 @@ use Rattle.walks.proofs.OnPackets.{packet_from, field_goes, copy_goes, ahead_goe
 use Rattle.walks.proofs.GuardedParts.{AtPacket, AtEnd, AtCopy, AtAhead, AtTest, InBody, AtAnswer, AtExit, GuardedPart, part_at, one_insn, IsGuarded-no_calls}
 use Rattle.walks.proofs.Guards.{Guards, free_own}
 use Rattle.walks.proofs.GuardedBody.{numbers_needed, body_needs}
-use Rattle.walks.specs.Forgetting.{Coarse}
 use Rattle.walks.proofs.GuardedWalks.{plain_form, load_parts, WalksTo-guards}
 
 -- ---- what is not refused

@@ -1,30 +1,6 @@
 -- The body of a guarded program: the registers that its instructions read hold numbers, and its
 -- steps keep what is known at each slot.
-use Rattle.std.proofs.Common.{◌≡◌, ◌≤◌, ◌+◌, ◌<◌, ◌∷◌, ℕ, suc, Some, true, List, arith, refl, sym, ap, ◌∙◌, subst, inl, inr}
-use Rattle.isa_model.specs.declared.map_defs.MapDef.{MapDef}
-use Rattle.isa_model.specs.declared.registers.Reg.{Reg}
-use Rattle.isa_model.specs.declared.registers.Reg.TheVariants.{R1, R2}
-use Rattle.isa_model.specs.declared.instructions.AluOp.{AluOp}
-use Rattle.isa_model.specs.declared.instructions.AluOp.TheVariants.{Mov}
-use Rattle.isa_model.specs.declared.instructions.Cond.{Cond}
-use Rattle.isa_model.specs.declared.instructions.Operand.{Operand}
-use Rattle.isa_model.specs.declared.instructions.Operand.TheVariants.{Constant, Register}
-use Rattle.isa_model.specs.declared.instructions.Insn.{Insn}
-use Rattle.isa_model.specs.declared.instructions.Insn.TheVariants.{Alu, Neg, MovSx, ByteSwap, LoadNumber, Load, LoadSx, Jump, JumpLong, JumpIf, Exit}
-use Rattle.isa_model.specs.Code.Instructions.{Program, fetch, slots_filled, operand_reads, alu_reads, reads, writes}
-use Rattle.isa_model.specs.Machine.Steps.{destination}
-use Rattle.isa_model.specs.Machine.Successors.{falls_through, Follows, FallsTo}
-use Rattle.isa_model.specs.MustAccept.Paths.{IsPlainForm, Each, IsOneOf, needs, written_too, PathTo}
-use Rattle.isa_model.specs.MustAccept.Guarded.{IsFree, IsFreeOperand, IsBodyForm, IsGuarded}
-use Rattle.reg_state.specs.declared.kinds.Kind.{Kind}
-use Rattle.stack_state.specs.declared.states.State.{State}
-use Rattle.stack_state.specs.Places.{kind_of, with_register, go_to}
-use Rattle.stack_state.proofs.PlaceLaws.{kind_of-with_other}
-use Rattle.branch_refine.specs.Refining.{IsNumberKind, NamesRegister}
-use Rattle.transfer.specs.declared.Ways.{Ways}
-use Rattle.transfer.specs.Exact.{StepsToWays, SetsRegister}
-use Rattle.control_flow.specs.Liveness.{IsLive}
-use Rattle.walks.specs.Walks.{IsAmong}
+use Rattle.walks.proofs.Common.{◌≡◌, ◌≤◌, ◌+◌, ◌<◌, ◌∷◌, ℕ, suc, Some, true, List, arith, refl, sym, ap, ◌∙◌, subst, inl, inr, MapDef, Reg, R1, R2, AluOp, Mov, Cond, Operand, Constant, Register, Insn, Alu, Neg, MovSx, ByteSwap, LoadNumber, Load, LoadSx, Jump, JumpLong, JumpIf, Exit, Program, fetch, slots_filled, operand_reads, alu_reads, reads, writes, destination, falls_through, Follows, FallsTo, IsPlainForm, Each, IsOneOf, needs, written_too, PathTo, IsFree, IsFreeOperand, IsBodyForm, IsGuarded, Kind, State, kind_of, with_register, go_to, kind_of-with_other, IsNumberKind, NamesRegister, Ways, StepsToWays, SetsRegister, IsLive, IsAmong}
 use Rattle.walks.proofs.Accepted.{Each-all, Each-one}
 use Rattle.walks.proofs.Living.{needs_live, live_before, known_further}
 use Rattle.walks.proofs.Forward.{StepsToWays-follows, follows_up}

@@ -1,14 +1,5 @@
 -- The parts of a guarded program, and which instruction is at each.
-use Rattle.std.proofs.Common.{◌≡◌, ◌≤◌, ◌+◌, ◌<◌, ℕ, zero, suc, Some, None, arith, refl, sym, ap, ◌∙◌, subst, inl, inr}
-use Rattle.std.specs.Prelude.{ℤ}
-use Rattle.std.proofs.lemmas.Bool.{cases_order}
-use Rattle.isa_model.specs.declared.instructions.Insn.{Insn}
-use Rattle.isa_model.specs.declared.instructions.Insn.TheVariants.{CallHelper, CallLocal}
-use Rattle.isa_model.specs.Code.Instructions.{Program, fetch}
-use Rattle.isa_model.specs.MustAccept.Guarded.{IsBodyForm, IsGuarded}
-use Rattle.isa_model.specs.Machine.Successors.{jump_distance}
-use Rattle.control_flow.specs.Flows.{IsJoin}
-use Rattle.control_flow.proofs.FlowLaws.{BeginsInsn-inside, fetch-BeginsInsn}
+use Rattle.walks.proofs.Common.{◌≡◌, ◌≤◌, ◌+◌, ◌<◌, ℕ, zero, suc, Some, None, arith, refl, sym, ap, ◌∙◌, subst, inl, inr, ℤ, cases_order, Insn, CallHelper, CallLocal, Program, fetch, IsBodyForm, IsGuarded, jump_distance, IsJoin, BeginsInsn-inside, fetch-BeginsInsn}
 use Rattle.walks.proofs.Accepted.{HasNoCalls, Jumped, jump_to-by}
 use Rattle.walks.proofs.Living.{CallsNothing, none_called}
 

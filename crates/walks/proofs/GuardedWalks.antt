@@ -1,29 +1,6 @@
 -- Walks through a guarded program.
-use Rattle.std.proofs.Common.{◌≡◌, ◌≤◌, ◌+◌, ◌<◌, [], ℕ, zero, suc, Some, arith, refl, sym, ap, ◌∙◌, subst, inl, inr, ◌⊎◌}
-use Rattle.std.specs.Prelude.{pos}
-use Rattle.isa_model.specs.declared.sizes.Width.TheVariants.{Full64}
-use Rattle.isa_model.specs.declared.sizes.Size.TheVariants.{U32}
-use Rattle.isa_model.specs.Code.Sizes.{size_bytes, unsigned_size}
-use Rattle.isa_model.specs.declared.registers.Reg.{Reg}
-use Rattle.isa_model.specs.declared.registers.Reg.TheVariants.{R0, R1, R2, R3, R4}
-use Rattle.isa_model.specs.declared.instructions.AluOp.TheVariants.{Mov, Add}
-use Rattle.isa_model.specs.declared.instructions.Operand.TheVariants.{Constant, Register}
-use Rattle.isa_model.specs.declared.instructions.Place.{Place}
-use Rattle.isa_model.specs.declared.instructions.Insn.{Insn}
-use Rattle.isa_model.specs.declared.instructions.Insn.TheVariants.{Alu, Neg, MovSx, ByteSwap, LoadNumber, Load, LoadSx, Jump, JumpLong, JumpIf, Exit}
-use Rattle.isa_model.specs.Code.Instructions.{Program, fetch}
-use Rattle.isa_model.specs.Machine.Steps.{destination}
-use Rattle.isa_model.specs.Machine.Successors.{FallsTo, JumpsTo}
-use Rattle.isa_model.specs.MustAccept.Paths.{IsPlainForm, Each, needs, PathTo}
-use Rattle.isa_model.specs.MustAccept.Guarded.{IsFree, IsLoadBefore, IsBodyForm, IsGuarded}
+use Rattle.walks.proofs.Common.{◌≡◌, ◌≤◌, ◌+◌, ◌<◌, [], ℕ, zero, suc, Some, arith, refl, sym, ap, ◌∙◌, subst, inl, inr, ◌⊎◌, pos, Full64, U32, size_bytes, unsigned_size, Reg, R0, R1, R2, R3, R4, Mov, Add, Constant, Register, Place, Insn, Alu, Neg, MovSx, ByteSwap, LoadNumber, Load, LoadSx, Jump, JumpLong, JumpIf, Exit, Program, fetch, destination, FallsTo, JumpsTo, IsPlainForm, Each, needs, PathTo, IsFree, IsLoadBefore, IsBodyForm, IsGuarded, State, kind_of, start, Ways, StepsToWays, IsLive, IsAmong, StepsTo, HasSteps, WalksTo, Coarse}
 use Rattle.reg_state.specs.declared.kinds.Kind.TheVariants as kind
-use Rattle.stack_state.specs.declared.states.State.{State}
-use Rattle.stack_state.specs.Places.{kind_of}
-use Rattle.stack_state.specs.Starts.{start}
-use Rattle.transfer.specs.declared.Ways.{Ways}
-use Rattle.transfer.specs.Exact.{StepsToWays}
-use Rattle.control_flow.specs.Liveness.{IsLive}
-use Rattle.walks.specs.Walks.{IsAmong, StepsTo, HasSteps, WalksTo}
 use Rattle.walks.proofs.Accepted.{needs_reads}
 use Rattle.walks.proofs.Forward.{StepsToWays-follows, follows_up}
 use Rattle.walks.proofs.Living.{needs_live, live_before}
@@ -33,7 +10,6 @@ use Rattle.walks.proofs.OnPackets.{packet_from, GivesKind, packet_gives, packet_
 use Rattle.walks.proofs.Plain.{PathTo-more}
 use Rattle.walks.proofs.GuardedParts.{AtPacket, AtEnd, AtCopy, AtAhead, AtTest, InBody, AtAnswer, AtExit, GuardedPart, part_at, one_insn, IsGuarded-no_calls}
 use Rattle.walks.proofs.Guards.{put_of, known_aside, Guards, start_guards, none_known, prologue, Guards-forgets}
-use Rattle.walks.specs.Forgetting.{Coarse}
 use Rattle.walks.proofs.GuardedBody.{numbers_needed, body_needs, body_free, plain_step, load_step, body_keeps}
 
 -- ---- steps

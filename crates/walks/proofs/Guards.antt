@@ -1,24 +1,6 @@
 -- What is known at each slot of a guarded program, and that it stays so.
-use Rattle.std.proofs.Common.{◌≡◌, ◌≤◌, ◌+◌, ◌<◌, ◌∷◌, [], ℕ, suc, Some, List, arith, refl, sym, ap, ◌∙◌, subst, inl, inr}
-use Rattle.std.specs.Prelude.{◌≢◌}
-use Rattle.isa_model.specs.declared.registers.Reg.{Reg}
-use Rattle.isa_model.specs.declared.registers.Reg.TheVariants.{R1, R2, R3, R4, R10}
-use Rattle.isa_model.specs.declared.instructions.Insn.{Insn}
-use Rattle.isa_model.specs.Code.Instructions.{Program, fetch, writes}
-use Rattle.isa_model.specs.Machine.Successors.{FallsTo}
-use Rattle.isa_model.specs.MustAccept.Paths.{IsOneOf, written_too, PathTo}
-use Rattle.isa_model.specs.MustAccept.Guarded.{IsFree, IsGuarded}
-use Rattle.reg_state.specs.declared.kinds.Kind.{Kind}
+use Rattle.walks.proofs.Common.{◌≡◌, ◌≤◌, ◌+◌, ◌<◌, ◌∷◌, [], ℕ, suc, Some, List, arith, refl, sym, ap, ◌∙◌, subst, inl, inr, ◌≢◌, Reg, R1, R2, R3, R4, R10, Insn, Program, fetch, writes, FallsTo, IsOneOf, written_too, PathTo, IsFree, IsGuarded, Kind, State, kind_of, with_register, go_to, kind_of-with_other, start, IsNumberKind, Ways, IsLive, Coarse, Forgets, IsAmong}
 use Rattle.reg_state.specs.declared.kinds.Kind.TheVariants as kind
-use Rattle.stack_state.specs.declared.states.State.{State}
-use Rattle.stack_state.specs.Places.{kind_of, with_register, go_to}
-use Rattle.stack_state.proofs.PlaceLaws.{kind_of-with_other}
-use Rattle.stack_state.specs.Starts.{start}
-use Rattle.branch_refine.specs.Refining.{IsNumberKind}
-use Rattle.transfer.specs.declared.Ways.{Ways}
-use Rattle.control_flow.specs.Liveness.{IsLive}
-use Rattle.walks.specs.Forgetting.{Coarse, Forgets}
-use Rattle.walks.specs.Walks.{IsAmong}
 use Rattle.walks.proofs.Forgotten.{Forgets-slot, Forgets-pointer, Forgets-alone}
 use Rattle.walks.proofs.Living.{live_before, KnowsNumbers-forgets}
 use Rattle.walks.proofs.OnNumbers.{kind_of-go_to, kind_of-with_own, room-with, one_among}

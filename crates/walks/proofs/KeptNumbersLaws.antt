@@ -1,19 +1,6 @@
 -- What is forgotten where only some numbers are kept, and what is known then.
-use Rattle.std.proofs.Common.{◌<◌, ℕ, List, refl, sym, subst, inl, inr}
-use Rattle.isa_model.specs.Code.Registers.{reg_number}
-use Rattle.isa_model.specs.Code.Instructions.{Program}
-use Rattle.isa_model.specs.declared.registers.Reg.{Reg}
-use Rattle.reg_state.specs.declared.kinds.Kind.{Kind}
-use Rattle.stack_state.specs.declared.slots.StackSlot.{StackSlot}
-use Rattle.stack_state.specs.declared.states.State.{State}
-use Rattle.stack_state.specs.Slots.{slot_at}
-use Rattle.stack_state.specs.Meaning.{kind_at, registers_of}
+use Rattle.walks.proofs.Common.{◌<◌, ℕ, List, refl, sym, subst, inl, inr, reg_number, Program, Reg, Kind, StackSlot, State, slot_at, kind_at, registers_of, SlotMask, HasRegister, HasSlot, IsJoin, HasInput, slots_in, Coarse, IsKept, IsSlotKept, DeadForgotten, Forgets, KnowsNumbersOf, KeepsNumbersOf, ForgetsNumbersBeside, ForgetsNumbersIn}
 use Rattle.control_flow.specs.declared.masks.RegisterMask.{RegisterMask}
-use Rattle.control_flow.specs.declared.slot_masks.SlotMask.{SlotMask}
-use Rattle.control_flow.specs.Masks.{HasRegister, HasSlot}
-use Rattle.control_flow.specs.Flows.{IsJoin}
-use Rattle.control_flow.specs.TestedNumbers.{HasInput}
-use Rattle.walks.specs.Forgetting.{slots_in, Coarse, IsKept, IsSlotKept, DeadForgotten, Forgets, KnowsNumbersOf, KeepsNumbersOf, ForgetsNumbersBeside, ForgetsNumbersIn}
 use Rattle.walks.proofs.NumberLoops.{AreNumbersKept-beside, AreSpilledNumbersKept-in, any_left, none_left, with_frame}
 
 -- what is dead is forgotten, and then all numbers but those that are kept

@@ -1,24 +1,6 @@
 -- Registers that hold numbers still do after a step.
-use Rattle.std.proofs.Common.{◌≡◌, ◌+◌, ◌∷◌, ℕ, true, false, List, length, sym, ap, ◌∙◌, subst, inl, inr}
-use Rattle.std.specs.Prelude.{◌≢◌, ℤ}
-use Rattle.isa_model.specs.declared.map_defs.MapDef.{MapDef}
-use Rattle.isa_model.specs.declared.registers.Reg.{Reg}
-use Rattle.isa_model.specs.declared.registers.Reg.TheVariants.{R10}
-use Rattle.isa_model.specs.declared.instructions.Insn.{Insn}
-use Rattle.isa_model.specs.declared.instructions.Insn.TheVariants.{Alu, Neg, MovSx, ByteSwap, LoadNumber, Jump, JumpLong, JumpIf, Exit}
-use Rattle.isa_model.specs.Code.Instructions.{Program, slots_filled, reads, writes}
-use Rattle.isa_model.specs.Machine.Steps.{destination}
-use Rattle.isa_model.specs.MustAccept.Paths.{IsPlainForm, Each, IsOneOf, written_too}
-use Rattle.reg_state.specs.declared.kinds.Kind.{Kind}
-use Rattle.stack_state.specs.declared.states.State.{State}
-use Rattle.stack_state.specs.Meaning.{depth, registers_of}
-use Rattle.stack_state.specs.Places.{with_register, go_to}
-use Rattle.stack_state.proofs.PlaceLaws.{same_or_other, kind_of-with_other}
-use Rattle.branch_refine.specs.Refining.{IsNumberKind}
-use Rattle.transfer.specs.declared.Ways.{Ways}
+use Rattle.walks.proofs.Common.{◌≡◌, ◌+◌, ◌∷◌, ℕ, true, false, List, length, sym, ap, ◌∙◌, subst, inl, inr, ◌≢◌, ℤ, MapDef, Reg, R10, Insn, Alu, Neg, MovSx, ByteSwap, LoadNumber, Jump, JumpLong, JumpIf, Exit, Program, slots_filled, reads, writes, destination, IsPlainForm, Each, IsOneOf, written_too, Kind, State, depth, registers_of, with_register, go_to, same_or_other, kind_of-with_other, IsNumberKind, Ways, SetsRegister, StepsToWays, IsAmong}
 use Rattle.transfer.specs.declared.Ways.TheVariants as ways
-use Rattle.transfer.specs.Exact.{SetsRegister, StepsToWays}
-use Rattle.walks.specs.Walks.{IsAmong}
 use Rattle.walks.proofs.OnNumbers.{Made, StepsToWays-made, kind_of-go_to, kind_of-with_own, room-with, NumbersIn, puts_number, are_compared, Remains, Refines-remains, one_among, none_among, side_among}
 
 -- ---- registers that hold numbers

@@ -1,15 +1,7 @@
 -- The last jumps of a walk, one step at a time.
-use Rattle.std.proofs.Common.{◌≡◌, ◌≢◌, ◌∙◌, ℕ, zero, suc, ◌+◌, ◌-◌, ◌<◌, ◌≤◌, [], ◌∷◌, ◌++◌, List, length, drop, Some, if◌then◌else◌, Bool, ◌⊎◌, inl, inr, arith, refl, sym, ap, subst}
-use Rattle.std.proofs.lemmas.Bool.{ne_eqb, eq-eqb}
-use Rattle.std.proofs.lemmas.List.{append-nil, length-append, length-drop, drop-append-le, drop-drop}
-use Rattle.isa_model.specs.declared.instructions.Insn.{Insn}
-use Rattle.isa_model.specs.Code.Instructions.{Program, fetch, slots_filled}
-use Rattle.stack_state.specs.declared.states.State.{State}
-use Rattle.stack_state.specs.Starts.{start}
+use Rattle.walks.proofs.Common.{◌≡◌, ◌≢◌, ◌∙◌, ℕ, zero, suc, ◌+◌, ◌-◌, ◌<◌, ◌≤◌, [], ◌∷◌, ◌++◌, List, length, drop, Some, if◌then◌else◌, Bool, ◌⊎◌, inl, inr, arith, refl, sym, ap, subst, ne_eqb, eq-eqb, append-nil, length-append, length-drop, drop-append-le, drop-drop, Insn, Program, fetch, slots_filled, State, start, Precision, Forgets, StepsTo}
 use Rattle.walks.specs.declared.explained.Jump.{Jump}
 use Rattle.walks.specs.declared.explained.TheConstants.{MOST_JUMPS}
-use Rattle.walks.specs.Forgetting.{Precision, Forgets}
-use Rattle.walks.specs.Walks.{StepsTo}
 use Rattle.walks.specs.Explained.{jump_of, IsStart, OneMore, last, IsLed}
 
 -- no jump leads to a state with which a walk begins

@@ -1,3 +1,4 @@
+mod Common
 pub mod PrecisionLaws
 pub mod Accepted
 pub mod DeadForgottenLaws

@@ -1,21 +1,6 @@
 -- Registers that are live along a walk of a program that calls nothing.
-use Rattle.std.proofs.Common.{◌≡◌, ◌≢◌, ◌∷◌, [], ℕ, Some, None, Option, List, refl, sym, ap, ◌∙◌, subst, inl, inr, ◌⊎◌}
-use Rattle.std.specs.Option.{option_to_list}
-use Rattle.isa_model.specs.declared.registers.Reg.{Reg}
-use Rattle.isa_model.specs.declared.registers.Reg.TheVariants.{R10}
-use Rattle.isa_model.specs.declared.instructions.Insn.{Insn}
-use Rattle.isa_model.specs.declared.instructions.Insn.TheVariants.{CallHelper, CallLocal, Exit}
-use Rattle.isa_model.specs.Code.Instructions.{Program, fetch, reads, writes}
-use Rattle.isa_model.specs.Machine.Successors.{Follows}
-use Rattle.isa_model.specs.MustAccept.Paths.{IsPlainForm, IsOneOf, needs, written_too}
-use Rattle.isa_model.proofs.InstructionLaws.{IsOneOf-option}
-use Rattle.stack_state.specs.declared.states.State.{State}
-use Rattle.stack_state.proofs.PlaceLaws.{same_or_other}
-use Rattle.control_flow.specs.Graph.{call_distance}
+use Rattle.walks.proofs.Common.{◌≡◌, ◌≢◌, ◌∷◌, [], ℕ, Some, None, Option, List, refl, sym, ap, ◌∙◌, subst, inl, inr, ◌⊎◌, option_to_list, Reg, R10, Insn, CallHelper, CallLocal, Exit, Program, fetch, reads, writes, Follows, IsPlainForm, IsOneOf, needs, written_too, IsOneOf-option, State, same_or_other, call_distance, IsLive, IsLive-read, IsLive-back, Coarse, Forgets}
 use Rattle.control_flow.specs.Accesses.{read_registers, written_registers}
-use Rattle.control_flow.specs.Liveness.{IsLive}
-use Rattle.control_flow.proofs.LivenessLaws.{IsLive-read, IsLive-back}
-use Rattle.walks.specs.Forgetting.{Coarse, Forgets}
 use Rattle.walks.proofs.Forgotten.{Forgets-depth, Forgets-number}
 use Rattle.walks.proofs.OnNumbers.{NumbersIn}
 use Rattle.walks.proofs.KnowsNumbers.{KnowsNumbers}

@@ -1,46 +1,14 @@
 -- Walks through a determined program stay beside its run: exploring takes no more steps than the
 -- run, and no step is refused.
-use Rattle.std.proofs.Common.{◌≡◌, ◌≤◌, ◌+◌, ◌<◌, ℕ, suc, Some, Err, Bool, true, false, length, arith, refl, sym, ap, ◌∙◌, subst, inl}
-use Rattle.std.specs.Prelude.{◌==◌, List, if◌then◌else◌}
+use Rattle.walks.proofs.Common.{◌≡◌, ◌≤◌, ◌+◌, ◌<◌, ℕ, suc, Some, Err, Bool, true, false, length, arith, refl, sym, ap, ◌∙◌, subst, inl, ◌==◌, List, if◌then◌else◌, MapDef, U64, Full64, Reg, R0, Place, Insn, Alu, Neg, MovSx, ByteSwap, LoadNumber, Load, StoreConstant, Store, Jump, JumpLong, JumpIf, Exit, Value, unsigned, Program, fetch, reads, reg, Finished, Trapped, is_answer, finishes, exits, act, step, IsProgram, Each, stack_slot_place, IsStackSlotPlace, IsDeterminedForm, operands, IsDetermined, below_steps, no_trap, load_acts, Kind, State, kind_of, start, IsNumberKind, IsJust, Ways, LeadsTo, ResultKind, StepsForm, StepsToWays, StoresAt, IsLive, IsHomeLive, IsSlotLive-read, Coarse, Forgets, WalksTo, IsStuck, Takes, Nothing, ItsOwn, OneMore, BothMore}
 use Rattle.std.proofs.lemmas.Bool.Decides.{nat_tests}
-use Rattle.isa_model.specs.declared.map_defs.MapDef.{MapDef}
-use Rattle.isa_model.specs.declared.sizes.Size.TheVariants.{U64}
-use Rattle.isa_model.specs.declared.sizes.Width.TheVariants.{Full64}
-use Rattle.isa_model.specs.declared.registers.Reg.{Reg}
-use Rattle.isa_model.specs.declared.registers.Reg.TheVariants.{R0}
-use Rattle.isa_model.specs.declared.instructions.Place.{Place}
-use Rattle.isa_model.specs.declared.instructions.Insn.{Insn}
-use Rattle.isa_model.specs.declared.instructions.Insn.TheVariants.{Alu, Neg, MovSx, ByteSwap, LoadNumber, Load, StoreConstant, Store, Jump, JumpLong, JumpIf, Exit}
-use Rattle.isa_model.specs.declared.values.Value.{Value}
 use Rattle.isa_model.specs.declared.values.Value.TheVariants.{Unset, Num, Ptr}
 use Rattle.isa_model.specs.declared.ends.TrapReason.TheVariants.{NoResult, BadAction}
-use Rattle.isa_model.specs.Code.Numbers.{unsigned}
-use Rattle.isa_model.specs.Code.Instructions.{Program, fetch, reads}
 use Rattle.isa_model.specs.Machine.States as Machine
-use Rattle.isa_model.specs.Machine.States.{reg}
-use Rattle.isa_model.specs.Machine.Steps.{Finished, Trapped, is_answer, finishes, exits, act, step}
-use Rattle.isa_model.specs.Machine.MachineStates.{IsProgram}
-use Rattle.isa_model.specs.MustAccept.Paths.{Each}
-use Rattle.isa_model.specs.MustAccept.Determined.{stack_slot_place, IsStackSlotPlace, IsDeterminedForm, operands, IsDetermined}
-use Rattle.isa_model.proofs.RunSteps.{below_steps, no_trap}
-use Rattle.isa_model.proofs.StackSlotLaws.{load_acts}
-use Rattle.reg_state.specs.declared.kinds.Kind.{Kind}
-use Rattle.stack_state.specs.declared.states.State.{State}
-use Rattle.stack_state.specs.Places.{kind_of}
-use Rattle.stack_state.specs.Starts.{start}
-use Rattle.branch_refine.specs.Refining.{IsNumberKind, IsJust}
-use Rattle.transfer.specs.declared.Ways.{Ways}
 use Rattle.transfer.specs.declared.Ways.TheVariants as ways
 use Rattle.transfer.specs.declared.refusals.Refusal.{Refusal as StepRefusal}
-use Rattle.transfer.specs.Leading.{LeadsTo}
 use Rattle.transfer.specs.Refusing.{is_unset as is_unset_kind}
-use Rattle.transfer.specs.Exact.{ResultKind, StepsForm, StepsToWays, StoresAt}
 use Rattle.transfer.proofs.ExactLaws.{Steps-leads}
-use Rattle.control_flow.specs.Liveness.{IsLive, IsHomeLive}
-use Rattle.control_flow.proofs.LivenessLaws.{IsSlotLive-read}
-use Rattle.walks.specs.Forgetting.{Coarse, Forgets}
-use Rattle.walks.specs.Walks.{WalksTo, IsStuck}
-use Rattle.walks.specs.Counts.{Takes, Nothing, ItsOwn, OneMore, BothMore}
 use Rattle.walks.proofs.Accepted.{Each-more, sets_pass, number_set}
 use Rattle.walks.proofs.Living.{needs_live}
 use Rattle.walks.proofs.Exits.{constant_goes}

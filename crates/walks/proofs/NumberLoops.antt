@@ -1,30 +1,8 @@
 -- The loops that forget numbers: what is forgotten after some turns, and after all; and what that
 -- is at a join.
-use Rattle.std.proofs.Common.{◌≡◌, ◌≢◌, ◌<◌, ◌≤◌, ◌+◌, ◌↔◌, ℕ, List, length, get_or, set, refl, sym, ap, ◌∙◌, subst, arith, inl, inr}
-use Rattle.std.specs.Int.{bit_at}
-use Rattle.std.proofs.lemmas.Bool.{cases_eq}
+use Rattle.walks.proofs.Common.{◌≡◌, ◌≢◌, ◌<◌, ◌≤◌, ◌+◌, ◌↔◌, ℕ, List, length, get_or, set, refl, sym, ap, ◌∙◌, subst, arith, inl, inr, bit_at, cases_eq, length-set, get_or-set_same, get_or-set_other, get_or_default, Reg, R10, reg_number, Program, same_number, Kind, Unset, StackSlot, Written, State, AreKnownFrom, slot_at, kind_in, IsAnyNumber, kind_at, registers_of, IsNumberKind, SlotMask, HasRegister, HasSlot, no_registers, IsJoin, InRegister, InSlot, IsSlotLive, MayForgetNumbers, IsNumberTested, slots_in, IsSlotDeadAt, MayForgetAll, Precision, Exact, MayForgetNumber, AreNumbersKept, AreSpilledNumbersKept, DeadForgotten, NumbersForgotten, Forgets, KnowsTestedNumbers, KnowsNoNumber, ForgetsNumber, ForgetsSpilled, ForgetsUnless, ForgetsIf, ForgetsNumbersBeside, ForgetsNumbersIn}
 use Rattle.std.proofs.lemmas.Nat.Bits.{bit_at-zero}
-use Rattle.std.proofs.lemmas.List.{length-set, get_or-set_same, get_or-set_other, get_or_default}
-use Rattle.isa_model.specs.declared.registers.Reg.{Reg}
-use Rattle.isa_model.specs.declared.registers.Reg.TheVariants.{R10}
-use Rattle.isa_model.specs.Code.Registers.{reg_number}
-use Rattle.isa_model.specs.Code.Instructions.{Program}
-use Rattle.isa_model.proofs.RegisterLaws.{same_number}
-use Rattle.reg_state.specs.declared.kinds.Kind.{Kind}
-use Rattle.reg_state.specs.declared.kinds.Kind.TheVariants.{Unset}
-use Rattle.stack_state.specs.declared.slots.StackSlot.{StackSlot}
-use Rattle.stack_state.specs.declared.slots.StackSlot.TheVariants.{Written}
-use Rattle.stack_state.specs.declared.states.State.{State}
-use Rattle.stack_state.specs.Slots.{AreKnownFrom, slot_at, kind_in, IsAnyNumber}
-use Rattle.stack_state.specs.Meaning.{kind_at, registers_of}
-use Rattle.branch_refine.specs.Refining.{IsNumberKind}
 use Rattle.control_flow.specs.declared.masks.RegisterMask.{RegisterMask}
-use Rattle.control_flow.specs.declared.slot_masks.SlotMask.{SlotMask}
-use Rattle.control_flow.specs.Masks.{HasRegister, HasSlot, no_registers}
-use Rattle.control_flow.specs.Flows.{IsJoin}
-use Rattle.control_flow.specs.Liveness.{InRegister, InSlot, IsSlotLive}
-use Rattle.control_flow.specs.TestedNumbers.{MayForgetNumbers, IsNumberTested}
-use Rattle.walks.specs.Forgetting.{slots_in, IsSlotDeadAt, MayForgetAll, Precision, Exact, MayForgetNumber, AreNumbersKept, AreSpilledNumbersKept, DeadForgotten, NumbersForgotten, Forgets, KnowsTestedNumbers, KnowsNoNumber, ForgetsNumber, ForgetsSpilled, ForgetsUnless, ForgetsIf, ForgetsNumbersBeside, ForgetsNumbersIn}
 use Rattle.walks.proofs.DeadForgottenLaws.{DeadForgotten-forgotten}
 use Rattle.walks.proofs.NumbersForgottenLaws.{numbers_stay}
 

@@ -1,34 +1,11 @@
 -- What forgetting numbers that do not matter does to a state: it means more, and all else stays.
-use Rattle.std.proofs.Common.{◌≡◌, ◌≢◌, ◌<◌, ◌∷◌, [], ℕ, List, length, get_or, refl, sym, ap, ◌∙◌, subst, arith, inl, inr}
-use Rattle.std.proofs.lemmas.List.{map-append}
-use Rattle.isa_model.specs.declared.registers.Reg.{Reg}
-use Rattle.isa_model.specs.declared.registers.Reg.TheVariants.{R10}
-use Rattle.isa_model.specs.declared.values.Value.{Value}
+use Rattle.walks.proofs.Common.{◌≡◌, ◌≢◌, ◌<◌, ◌∷◌, [], ℕ, List, length, get_or, refl, sym, ap, ◌∙◌, subst, arith, inl, inr, map-append, Reg, R10, Value, reg_number, Program, Kind, Number, StackSlot, Written, Spilled, slot_at, kind_in, IsAnyNumber, AbstractFrame, State, abstract_frame_at, depth, registers_of, kind_at, no_frame, Means, kind_of, abstract_frame_at-caller, FrameKeeps, MeansBy-change, kind_of-registers, IsNumberKind, IsJoin, Home, InRegister, InSlot, IsLive, HasInput, IsNumberTested, returns_of, IsNumberKept, IsSpilledNumberKept, slots_in, MayForgetAll, Precision, Exact, Coarse, MayForgetIn, MayBeLost, MayForgetNumber, NumbersForgotten}
 use Rattle.isa_model.specs.declared.values.Cell.{Cell}
-use Rattle.isa_model.specs.Code.Registers.{reg_number}
-use Rattle.isa_model.specs.Code.Instructions.{Program}
 use Rattle.isa_model.specs.Machine.States as Machine
-use Rattle.reg_state.specs.declared.kinds.Kind.{Kind}
-use Rattle.reg_state.specs.declared.kinds.Kind.TheVariants.{Number}
 use Rattle.reg_state.specs.Kinds.{Assigned, Allows}
-use Rattle.stack_state.specs.declared.slots.StackSlot.{StackSlot}
-use Rattle.stack_state.specs.declared.slots.StackSlot.TheVariants.{Written, Spilled}
-use Rattle.stack_state.specs.Slots.{slot_at, kind_in, IsAnyNumber}
 use Rattle.stack_state.specs.StackMeaning.{SlotMeans, stored_cells}
-use Rattle.stack_state.specs.declared.states.AbstractFrame.{AbstractFrame}
-use Rattle.stack_state.specs.declared.states.State.{State}
-use Rattle.stack_state.specs.Meaning.{abstract_frame_at, depth, registers_of, kind_at, no_frame, Means}
-use Rattle.stack_state.specs.Places.{kind_of}
 use Rattle.stack_state.proofs.CellLaws.{marked_number}
-use Rattle.stack_state.proofs.MeaningLaws.{abstract_frame_at-caller, FrameKeeps, MeansBy-change}
-use Rattle.stack_state.proofs.PlaceLaws.{kind_of-registers}
-use Rattle.branch_refine.specs.Refining.{IsNumberKind}
-use Rattle.control_flow.specs.Flows.{IsJoin}
 use Rattle.control_flow.specs.Endings.{EndsPlainly}
-use Rattle.control_flow.specs.Liveness.{Home, InRegister, InSlot, IsLive}
-use Rattle.control_flow.specs.TestedNumbers.{HasInput, IsNumberTested}
-use Rattle.transfer.specs.Following.{returns_of}
-use Rattle.walks.specs.Forgetting.{IsNumberKept, IsSpilledNumberKept, slots_in, MayForgetAll, Precision, Exact, Coarse, MayForgetIn, MayBeLost, MayForgetNumber, NumbersForgotten}
 use Rattle.walks.proofs.DeadForgottenLaws.{frame_keeps, frames_keep}
 
 -- ---- what stays

@@ -1,43 +1,10 @@
 -- Abstract steps on numbers: what is left, and that they are not refused.
-use Rattle.std.proofs.Common.{◌≡◌, ◌<◌, ◌∷◌, ℕ, None, Ok, Err, Bool, true, false, List, length, arith, refl, sym, ap, ◌∙◌, subst, inl, inr}
-use Rattle.std.specs.Prelude.{◌≢◌}
-use Rattle.std.proofs.lemmas.List.{length-set, get_or-set_same}
-use Rattle.isa_model.specs.declared.map_defs.MapDef.{MapDef}
+use Rattle.walks.proofs.Common.{◌≡◌, ◌<◌, ◌∷◌, ℕ, None, Ok, Err, Bool, true, false, List, length, arith, refl, sym, ap, ◌∙◌, subst, inl, inr, ◌≢◌, length-set, get_or-set_same, MapDef, Low32, Full64, Reg, R0, R10, reg_number, AluOp, Mov, Cond, Operand, Constant, Register, Insn, Alu, Neg, MovSx, ByteSwap, LoadNumber, Jump, JumpLong, JumpIf, Exit, Program, operand_reads, alu_reads, reads, writes, is_frame_pointer, destination, unsigned, IsPlainForm, Each, needs, Kind, Unset, Number, Scalar, State, depth, registers_of, kind_of, with_register, go_to, same_or_other, kind_of-registers, kind_of-with_same, kind_of-with_other, IsNumberKind, IsJust, IsNumberOperand, AreCompared, Refines, Ways, Refusal, UnsetRegister, ReadOnlyRegister, register_refusal, reads_unset, OfNumber, NumberAnd, Combined, Copied, Arithmetic, OperandKind, ResultKind, SetsRegister, Sides, Branches, StepsForm, Tested, StepsToWays, RefusesStep, IsAmong}
 use Rattle.isa_model.specs.declared.sizes.Width.{Width}
-use Rattle.isa_model.specs.declared.sizes.Width.TheVariants.{Low32, Full64}
-use Rattle.isa_model.specs.declared.registers.Reg.{Reg}
-use Rattle.isa_model.specs.declared.registers.Reg.TheVariants.{R0, R10}
-use Rattle.isa_model.specs.Code.Registers.{reg_number}
-use Rattle.isa_model.specs.declared.instructions.AluOp.{AluOp}
-use Rattle.isa_model.specs.declared.instructions.AluOp.TheVariants.{Mov}
-use Rattle.isa_model.specs.declared.instructions.Cond.{Cond}
-use Rattle.isa_model.specs.declared.instructions.Operand.{Operand}
-use Rattle.isa_model.specs.declared.instructions.Operand.TheVariants.{Constant, Register}
-use Rattle.isa_model.specs.declared.instructions.Insn.{Insn}
-use Rattle.isa_model.specs.declared.instructions.Insn.TheVariants.{Alu, Neg, MovSx, ByteSwap, LoadNumber, Jump, JumpLong, JumpIf, Exit}
-use Rattle.isa_model.specs.Code.Instructions.{Program, operand_reads, alu_reads, reads, writes, is_frame_pointer}
-use Rattle.isa_model.specs.Machine.Steps.{destination}
-use Rattle.isa_model.specs.Code.Numbers.{unsigned}
-use Rattle.isa_model.specs.MustAccept.Paths.{IsPlainForm, Each, needs}
-use Rattle.reg_state.specs.declared.kinds.Kind.{Kind}
-use Rattle.reg_state.specs.declared.kinds.Kind.TheVariants.{Unset, Number}
-use Rattle.reg_state.specs.declared.scalars.Scalar.{Scalar}
-use Rattle.stack_state.specs.declared.states.State.{State}
-use Rattle.stack_state.specs.Meaning.{depth, registers_of}
-use Rattle.stack_state.specs.Places.{kind_of, with_register, go_to}
-use Rattle.stack_state.proofs.PlaceLaws.{same_or_other, kind_of-registers, kind_of-with_same, kind_of-with_other}
 use Rattle.branch_refine.specs.Comparing.{operand_by, IsDefined}
 use Rattle.branch_refine.specs.Numbers.{with_operand}
-use Rattle.branch_refine.specs.Refining.{IsNumberKind, IsJust, IsNumberOperand, AreCompared, Refines}
-use Rattle.transfer.specs.declared.Ways.{Ways}
 use Rattle.transfer.specs.declared.Ways.TheVariants as ways
-use Rattle.transfer.specs.declared.refusals.Refusal.{Refusal}
-use Rattle.transfer.specs.declared.refusals.Refusal.TheVariants.{UnsetRegister, ReadOnlyRegister}
-use Rattle.transfer.specs.Refusing.{register_refusal, reads_unset}
-use Rattle.transfer.specs.Results.{OfNumber, NumberAnd, Combined, Copied, Arithmetic}
-use Rattle.transfer.specs.Exact.{OperandKind, ResultKind, SetsRegister, Sides, Branches, StepsForm, Tested, StepsToWays, RefusesStep}
 use Rattle.transfer.proofs.ExactLaws.{tested_rest}
-use Rattle.walks.specs.Walks.{IsAmong}
 use Rattle.walks.proofs.Accepted.{number_is}
 use Rattle.walks.proofs.Exits.{exited_none, ShowsNoAction, exit_goes}
 

@@ -1,54 +1,22 @@
 -- Abstract steps on the packet's first byte and its end: what is left, and that they are not
 -- refused.
-use Rattle.std.proofs.Common.{◌≡◌, ◌≤◌, ◌+◌, ℕ, Some, Ok, Err, true, false, length, map, arith, refl, sym, ap, ◌∙◌, subst, inl, inr, ◌⊎◌}
-use Rattle.std.specs.Prelude.{◌≢◌, ℤ, pos, ◌+ℤ◌, FitsSigned, unsigned_abs, max, slice_index_or, List}
-use Rattle.std.specs.Int.{w32, w64}
-use Rattle.std.proofs.lemmas.Int.{ints, to_z-of_z}
-use Rattle.std.proofs.lemmas.List.{length-map}
+use Rattle.walks.proofs.Common.{◌≡◌, ◌≤◌, ◌+◌, ℕ, Some, Ok, Err, true, false, length, map, arith, refl, sym, ap, ◌∙◌, subst, inl, inr, ◌⊎◌, ◌≢◌, ℤ, pos, ◌+ℤ◌, FitsSigned, unsigned_abs, max, slice_index_or, List, w32, w64, ints, to_z-of_z, length-map, MapDef, Full64, U32, size_bytes, unsigned_size, signed, unsigned, Reg, R10, reg_number, Mov, Add, Cond, Constant, Register, Place, Insn, Alu, Load, LoadSx, JumpIf, Program, slots_filled, writes, destination, Kind, Scalar, State, depth, registers_of, kind_of, with_register, go_to, kind_of-registers, IsNumberKind, IsJust, LearnsOf, Ways, Refusal, packet_pointer, Arithmetic, ResultKind, SetsRegister, Branches, StepsToWays, StepsForm, IsAmong}
 use Rattle.std.proofs.Math.ListN.{get_or-map as get_or-map_default}
-use Rattle.isa_model.specs.declared.map_defs.MapDef.{MapDef}
-use Rattle.isa_model.specs.declared.sizes.Width.TheVariants.{Full64}
 use Rattle.isa_model.specs.declared.sizes.Size.{Size}
-use Rattle.isa_model.specs.declared.sizes.Size.TheVariants.{U32}
 use Rattle.isa_model.specs.declared.sizes.SignedSize.{SignedSize}
-use Rattle.isa_model.specs.Code.Sizes.{size_bytes, unsigned_size}
-use Rattle.isa_model.specs.Code.Numbers.{signed, unsigned}
-use Rattle.isa_model.specs.declared.registers.Reg.{Reg}
-use Rattle.isa_model.specs.declared.registers.Reg.TheVariants.{R10}
-use Rattle.isa_model.specs.Code.Registers.{reg_number}
-use Rattle.isa_model.specs.declared.instructions.AluOp.TheVariants.{Mov, Add}
 use Rattle.isa_model.specs.declared.instructions.Comparison.TheVariants.{Greater}
-use Rattle.isa_model.specs.declared.instructions.Cond.{Cond}
-use Rattle.isa_model.specs.declared.instructions.Operand.TheVariants.{Constant, Register}
-use Rattle.isa_model.specs.declared.instructions.Place.{Place}
-use Rattle.isa_model.specs.declared.instructions.Insn.{Insn}
-use Rattle.isa_model.specs.declared.instructions.Insn.TheVariants.{Alu, Load, LoadSx, JumpIf}
-use Rattle.isa_model.specs.Code.Instructions.{Program, slots_filled, writes}
 use Rattle.isa_model.specs.Code.Limits.{offset_limit, max_guarded_length}
-use Rattle.isa_model.specs.Machine.Steps.{destination}
-use Rattle.reg_state.specs.declared.kinds.Kind.{Kind}
 use Rattle.reg_state.specs.declared.kinds.Kind.TheVariants as kind
-use Rattle.reg_state.specs.declared.scalars.Scalar.{Scalar}
 use Rattle.reg_state.specs.Scalars.{Has, IsConstant}
 use Rattle.reg_state.proofs.ConstantsLaws.{IsNumber-only}
-use Rattle.stack_state.specs.declared.states.State.{State}
-use Rattle.stack_state.specs.Meaning.{depth, registers_of}
-use Rattle.stack_state.specs.Places.{kind_of, with_register, go_to}
-use Rattle.stack_state.proofs.PlaceLaws.{kind_of-registers}
 use Rattle.stack_state.specs.Effects.{map_kinds, proved_kind}
 use Rattle.branch_refine.specs.declared.comparing.Compared.TheVariants as compared
 use Rattle.branch_refine.specs.Comparing.{compared_by, IsDefined}
-use Rattle.branch_refine.specs.Refining.{IsNumberKind, IsJust, LearnsOf}
-use Rattle.transfer.specs.declared.Ways.{Ways}
 use Rattle.transfer.specs.declared.Ways.TheVariants as ways
-use Rattle.transfer.specs.declared.refusals.Refusal.{Refusal}
 use Rattle.transfer.specs.declared.packets.PacketPointer.{PacketPointer}
-use Rattle.transfer.specs.Results.{packet_pointer, Arithmetic}
 use Rattle.transfer.specs.Packets.{AreInPacket, IsNumberOf, IsMovedFixed, IsMovedBy, IsFreshPointer, PacketMoves, MovesBy, moved_by, lowest, highest}
 use Rattle.transfer.specs.ContextLoads.{IsField, IsFieldKind, FieldLoads}
 use Rattle.transfer.specs.Accesses.{LoadsKind, LoadsSigned}
-use Rattle.transfer.specs.Exact.{ResultKind, SetsRegister, Branches, StepsToWays, StepsForm}
-use Rattle.walks.specs.Walks.{IsAmong}
 use Rattle.walks.proofs.OnNumbers.{StepsToWays-performs, kind_of-go_to, side_among}
 
 -- at this offset from the packet's first byte, with no variable part; the proved bytes are there

@@ -1,14 +1,5 @@
 -- What forgetting does to a state whose callers all stay, it does whatever these callers are.
-use Rattle.std.proofs.Common.{◌≡◌, ℕ, refl, sym, ap, ◌∙◌, arith, inl, inr}
-use Rattle.isa_model.specs.declared.registers.Reg.{Reg}
-use Rattle.isa_model.specs.Code.Instructions.{Program}
-use Rattle.reg_state.specs.declared.kinds.Kind.{Kind}
-use Rattle.stack_state.specs.declared.slots.StackSlot.{StackSlot}
-use Rattle.stack_state.specs.declared.states.AbstractFrame.{AbstractFrame}
-use Rattle.stack_state.specs.declared.states.State.{State}
-use Rattle.control_flow.specs.Liveness.{Home}
-use Rattle.walks.specs.Forgetting.{IsCallerKept, AreCallersKept, DeadForgotten, Precision, Exact, Coarse, MayBeLost, IsNumberKept, IsSpilledNumberKept, NumbersForgotten, Forgets}
-use Rattle.stack_state.proofs.MeaningLaws.{abstract_frame_at-caller}
+use Rattle.walks.proofs.Common.{◌≡◌, ℕ, refl, sym, ap, ◌∙◌, arith, inl, inr, Reg, Program, Kind, StackSlot, AbstractFrame, State, Home, IsCallerKept, AreCallersKept, DeadForgotten, Precision, Exact, Coarse, MayBeLost, IsNumberKept, IsSpilledNumberKept, NumbersForgotten, Forgets, abstract_frame_at-caller}
 
 -- a state with the callers of another one
 abbrev pub with_callers : State → State → State

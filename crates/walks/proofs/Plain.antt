@@ -1,22 +1,8 @@
 -- Plain programs are accepted.
-use Rattle.std.proofs.Common.{◌≡◌, ◌≤◌, [], ℕ, zero, suc, Some, List, length, arith, refl, sym, ap, subst, inl, inr, ◌⊎◌}
-use Rattle.isa_model.specs.declared.registers.Reg.{Reg}
-use Rattle.isa_model.specs.declared.instructions.Insn.{Insn}
-use Rattle.isa_model.specs.Code.Instructions.{Program, fetch, writes}
-use Rattle.isa_model.specs.Machine.Successors.{Follows, FallsTo, JumpsTo}
-use Rattle.isa_model.specs.MustAccept.Paths.{Each, IsOneOf, needs, written_too, PathTo}
+use Rattle.walks.proofs.Common.{◌≡◌, ◌≤◌, [], ℕ, zero, suc, Some, List, length, arith, refl, sym, ap, subst, inl, inr, ◌⊎◌, Reg, Insn, Program, fetch, writes, Follows, FallsTo, JumpsTo, Each, IsOneOf, needs, written_too, PathTo, State, start, Step, StepsTo, HasSteps, IsStuck, HasNumber, IsRefused, IsOutOfMemory, IsUnanswered, IsLive, Coarse, Forgets}
 use Rattle.isa_model.specs.MustAccept.Plain.{IsPlain}
-use Rattle.stack_state.specs.declared.states.State.{State}
-use Rattle.stack_state.specs.Starts.{start}
 use Rattle.transfer.specs.declared.refusals.Refusal.{Refusal as StepRefusal}
 use Rattle.walks.specs.declared.refusals.Refusal.{Refusal}
-use Rattle.walks.specs.declared.refusals.Refusal.TheVariants.{Step}
-use Rattle.walks.specs.Walks.{StepsTo, HasSteps, IsStuck}
-use Rattle.walks.specs.Counts.{HasNumber}
-use Rattle.walks.specs.Refused.{IsRefused}
-use Rattle.walks.specs.Accepting.{IsOutOfMemory, IsUnanswered}
-use Rattle.control_flow.specs.Liveness.{IsLive}
-use Rattle.walks.specs.Forgetting.{Coarse, Forgets}
 use Rattle.walks.proofs.Forgotten.{Forgets-slot}
 use Rattle.walks.proofs.Living.{plain_calls, needs_live, live_before, KnowsNumbers-forgets, known_further}
 use Rattle.walks.proofs.Forward.{StepsToWays-follows, one_frame-start, HasNumber-forward, StartTakes-few, ComesBack-forward}

@@ -1,14 +1,5 @@
 -- Coarse walks may forget all that exact ones forget.
-use Rattle.std.proofs.Common.{inl, inr, ℕ, zero, suc}
-use Rattle.isa_model.specs.declared.registers.Reg.{Reg}
-use Rattle.isa_model.specs.Code.Instructions.{Program}
-use Rattle.reg_state.specs.declared.kinds.Kind.{Kind}
-use Rattle.stack_state.specs.declared.slots.StackSlot.{StackSlot}
-use Rattle.stack_state.specs.declared.states.State.{State}
-use Rattle.control_flow.specs.Liveness.{Home, InRegister, InSlot}
-use Rattle.transfer.specs.declared.refusals.Refusal.{Refusal}
-use Rattle.walks.specs.Forgetting.{Precision, Exact, Coarse, IsNoFiner, MayForgetIn, MayBeLost, IsNumberKept, IsSpilledNumberKept, NumbersForgotten, Forgets}
-use Rattle.walks.specs.Walks.{StepsTo, HasSteps, WalksTo, IsStuck, ComesBack}
+use Rattle.walks.proofs.Common.{inl, inr, ℕ, zero, suc, Reg, Program, Kind, StackSlot, State, Home, InRegister, InSlot, Refusal, Precision, Exact, Coarse, IsNoFiner, MayForgetIn, MayBeLost, IsNumberKept, IsSpilledNumberKept, NumbersForgotten, Forgets, StepsTo, HasSteps, WalksTo, IsStuck, ComesBack}
 
 -- no walks are finer than exact ones
 pub no_finer_than_exact : (how : Precision) → IsNoFiner how Exact

@@ -1,29 +1,10 @@
 -- Numbers in the stack slots of a state, loaded and stored whole.
-use Rattle.std.proofs.Common.{◌≡◌, ◌*◌, ◌<◌, ℕ, Some, None, Ok, Err, true, List, length, arith, refl, sym, ap, ◌∙◌, subst, inl}
-use Rattle.std.specs.Prelude.{◌≢◌, ◌/◌, pos, ◌+ℤ◌, ◌==◌, slice_set}
+use Rattle.walks.proofs.Common.{◌≡◌, ◌*◌, ◌<◌, ℕ, Some, None, Ok, Err, true, List, length, arith, refl, sym, ap, ◌∙◌, subst, inl, ◌≢◌, ◌/◌, pos, ◌+ℤ◌, ◌==◌, slice_set, ints, length-set, get_or-set_same, get_or-set_other, U64, Reg, R10, stack_slot_offset, Kind, Number, StackSlot, Written, Spilled, State, registers_of, stack_slots_of, abstract_frame_at-innermost, slot_at, kind_in, IsSpill, IsFill, kind_of, IsNumberKind, IsJust, Refusal, StackPlace, StackBytes}
 use Rattle.std.proofs.lemmas.Bool.Decides.{nat_tests}
-use Rattle.std.proofs.lemmas.Int.{ints}
-use Rattle.std.proofs.lemmas.List.{length-set, get_or-set_same, get_or-set_other}
 use Rattle.isa_model.specs.Code.Limits.{stack_size}
-use Rattle.isa_model.specs.declared.sizes.Size.TheVariants.{U64}
-use Rattle.isa_model.specs.declared.registers.Reg.{Reg}
-use Rattle.isa_model.specs.declared.registers.Reg.TheVariants.{R10}
-use Rattle.isa_model.specs.MustAccept.Determined.{stack_slot_offset}
-use Rattle.reg_state.specs.declared.kinds.Kind.{Kind}
-use Rattle.reg_state.specs.declared.kinds.Kind.TheVariants.{Number}
 use Rattle.reg_state.proofs.ConstantsLaws.{IsNumber-only}
-use Rattle.stack_state.specs.declared.slots.StackSlot.{StackSlot}
-use Rattle.stack_state.specs.declared.slots.StackSlot.TheVariants.{Written, Spilled}
-use Rattle.stack_state.specs.declared.states.State.{State}
-use Rattle.stack_state.specs.Meaning.{registers_of, stack_slots_of}
-use Rattle.stack_state.proofs.MeaningLaws.{abstract_frame_at-innermost}
-use Rattle.stack_state.specs.Slots.{slot_at, kind_in, IsSpill, IsFill}
 use Rattle.stack_state.specs.FramePlaces.{IsPlace}
 use Rattle.stack_state.specs.Effects.{with_slots, with_frame_slots}
-use Rattle.stack_state.specs.Places.{kind_of}
-use Rattle.branch_refine.specs.Refining.{IsNumberKind, IsJust}
-use Rattle.transfer.specs.declared.refusals.Refusal.{Refusal}
-use Rattle.transfer.specs.declared.refusals.Refusal.TheVariants.{StackPlace, StackBytes}
 use Rattle.transfer.specs.StackAccesses.{IsFramePlace, store_refusal, StackLoads, StackStores, IsStoreRefused}
 
 -- stack slot j of the innermost call frame holds this number, known as a constant

@@ -1,40 +1,9 @@
 -- What stays beside a machine state: the same state at another slot, or with a number in a
 -- register; what is live before a step; jumps, and forms that set a register.
-use Rattle.std.proofs.Common.{◌≡◌, ◌+◌, ℕ, suc, Some, None, true, length, arith, refl, sym, ap, ◌∙◌, subst, inl, inr, ◌⊎◌}
-use Rattle.std.specs.Prelude.{◌≢◌, ℤ}
-use Rattle.std.proofs.lemmas.Bool.{cases_lt}
-use Rattle.std.proofs.lemmas.List.{length-set, get_or-set_same, get_or-set_other}
-use Rattle.isa_model.specs.declared.registers.Reg.{Reg}
-use Rattle.isa_model.specs.declared.registers.Reg.TheVariants.{R1, R10}
-use Rattle.isa_model.specs.Code.Registers.{reg_number}
-use Rattle.isa_model.specs.declared.instructions.Insn.{Insn}
-use Rattle.isa_model.specs.declared.instructions.Insn.TheVariants.{StoreConstant, Store, Jump, JumpLong, Exit}
-use Rattle.isa_model.specs.declared.values.Value.{Value}
+use Rattle.walks.proofs.Common.{◌≡◌, ◌+◌, ℕ, suc, Some, None, true, length, arith, refl, sym, ap, ◌∙◌, subst, inl, inr, ◌⊎◌, ◌≢◌, ℤ, cases_lt, length-set, get_or-set_same, get_or-set_other, Reg, R1, R10, reg_number, Insn, StoreConstant, Store, Jump, JumpLong, Exit, Value, Program, fetch, slots_filled, writes, reg, set_reg, Next, destination, act, step, falls_through, jump_distance, FallsTo, JumpsTo, Reaches, Reaches-then, WritesIn, IsDetermined, no_trap, step_acts, HasKnownStackSlots-keep, Kind, State, kind_of, with_register, go_to, same_number, reg_number-below, is_frame_pointer-other, same_or_other, kind_of-with_other, slot_at, kind_in, IsJust, Ways, SetsRegister, Home, InRegister, InSlot, IsLive, IsSlotLive, IsHomeLive, WritesSlot, IsSlotLive-read, IsSlotLive-back}
 use Rattle.isa_model.specs.declared.values.Value.TheVariants.{Unset, Num, Ptr}
-use Rattle.isa_model.specs.Code.Instructions.{Program, fetch, slots_filled, writes}
 use Rattle.isa_model.specs.Machine.States as Machine
-use Rattle.isa_model.specs.Machine.States.{reg, set_reg}
-use Rattle.isa_model.specs.Machine.Steps.{Next, destination, act, step}
-use Rattle.isa_model.specs.Machine.Successors.{falls_through, jump_distance, FallsTo, JumpsTo}
-use Rattle.isa_model.specs.Running.Runs.{Reaches}
-use Rattle.isa_model.proofs.EndsLaws.{Reaches-then}
-use Rattle.isa_model.specs.MustAccept.Determined.{WritesIn, IsDetermined}
-use Rattle.isa_model.proofs.RunSteps.{no_trap, step_acts}
-use Rattle.isa_model.proofs.StackSlotLaws.{HasKnownStackSlots-keep}
-use Rattle.reg_state.specs.declared.kinds.Kind.{Kind}
-use Rattle.stack_state.specs.declared.states.State.{State}
-use Rattle.stack_state.specs.Places.{kind_of, with_register, go_to}
-use Rattle.isa_model.proofs.RegisterLaws.{same_number, reg_number-below}
-use Rattle.isa_model.proofs.InstructionLaws.{is_frame_pointer-other}
-use Rattle.stack_state.proofs.PlaceLaws.{same_or_other, kind_of-with_other}
-use Rattle.stack_state.specs.Slots.{slot_at, kind_in}
-use Rattle.branch_refine.specs.Refining.{IsJust}
-use Rattle.transfer.specs.declared.Ways.{Ways}
 use Rattle.transfer.specs.declared.Ways.TheVariants as ways
-use Rattle.transfer.specs.Exact.{SetsRegister}
-use Rattle.control_flow.specs.Liveness.{Home, InRegister, InSlot, IsLive, IsSlotLive, IsHomeLive}
-use Rattle.control_flow.specs.StackUse.{WritesSlot}
-use Rattle.control_flow.proofs.LivenessLaws.{IsSlotLive-read, IsSlotLive-back}
 use Rattle.walks.proofs.Living.{live_before}
 use Rattle.walks.proofs.OnNumbers.{Remains, kind_of-go_to, kind_of-with_own, room-with}
 use Rattle.walks.proofs.Beside.{HoldsIf, Mirrored, IsNoPointer, Mirrors, first, Along, none_unset, determined_calls, read_numbers, computed}

@@ -1,3 +1,4 @@
+mod Common
 pub mod Tops
 pub mod FrameActs
 pub mod AtomicPlaces

@@ -1,11 +1,6 @@
 -- What some arguments ask for, computed.
-use Rattle.std.specs.Prelude.{◌≡◌, [], ◌∷◌, Some, None, codes}
-use Rattle.std.proofs.Common.{refl}
+use Rattle.words.proofs.Common.{◌≡◌, [], ◌∷◌, Some, None, codes, refl, max_steps, program, asm, dis, verify, run, trace, prove, recheck, explain, Trace, Run, Verify, Prove, Recheck, asked}
 use Rattle.clap.proofs.OnLiterals.{clap_on_literals}
-use Rattle.isa_model.specs.Code.Limits.{max_steps}
-use Rattle.words.specs.CommandLine.{program, asm, dis, verify, run, trace, prove, recheck, explain}
-use Rattle.words.specs.Requests.{Trace, Run, Verify, Prove, Recheck}
-use Rattle.words.specs.Asked.{asked}
 
 -- ---- the commands
 

@@ -1,16 +1,8 @@
 -- What each command asks for with any paths, as its help says it.
-use Rattle.std.specs.Prelude.{◌≡◌, ℕ, true, false, List, [], ◌∷◌, Some, None, codes, find, option_map}
+use Rattle.words.proofs.Common.{◌≡◌, ℕ, true, false, List, [], ◌∷◌, Some, None, codes, find, option_map, refl, ap, ap₂, ◌∙◌, Shape, argument_words, built, built_leaf, entered, label_of, names_of, or_else, built_fault, check_fault, defaults_fault, level_fault, settle_fault, max_steps, program, asm, dis, verify, run, trace, prove, recheck, explain, Assemble, Disassemble, Explain, Prove, Recheck, Run, Trace, Verify, asked, limit_of, request_by, request_met, unless_wrong}
 use Rattle.std.specs.Str.{bytes_eq}
-use Rattle.std.proofs.Common.{refl, ap, ap₂, ◌∙◌}
 use Rattle.clap.specs.Walk.{Text, Walk, answers_to, finished, idle, nothing_held, rows_after, settled, stop_after, subcommand_met, walk_from}
-use Rattle.clap.specs.Simple.{Shape, argument_words, built, built_leaf, entered, label_of, names_of}
-use Rattle.clap.specs.Kinds.{or_else}
-use Rattle.clap.specs.Faults.{built_fault, check_fault, defaults_fault, level_fault, settle_fault}
 use Rattle.clap.proofs.OnLiterals.{clap_on_literals}
-use Rattle.isa_model.specs.Code.Limits.{max_steps}
-use Rattle.words.specs.CommandLine.{program, asm, dis, verify, run, trace, prove, recheck, explain}
-use Rattle.words.specs.Requests.{Assemble, Disassemble, Explain, Prove, Recheck, Run, Trace, Verify}
-use Rattle.words.specs.Asked.{asked, limit_of, request_by, request_met, unless_wrong}
 use Rattle.words.proofs.WalkLaws.{ReadsTo, end_fault, fault-command, is_plain, level_fault-read, met-command, reads-none, reads-option, reads-plain, reads-value}
 
 -- the words after the program's name

@@ -1,24 +1,16 @@
 -- That clap's parse of xdpvm_filter's command line leads to what the arguments ask for.
-use Rattle.std.proofs.Common.{◌≡◌, ◌∙◌, ◌⊎◌, ℕ, true, List, [], ◌∷◌, Option, None, refl, ap, sym, subst, inl, inr}
-use Rattle.std.specs.Prelude.{Result, Ok, Err, IfErr}
-use Rattle.clap.specs.Faults.{fault_of, is_simple_and_free}
-use Rattle.clap.specs.Simple.{is_simple, matches_of}
-use Rattle.clap.specs.Kinds.{HasKind, IsAmong, Kinds}
-use Rattle.clap.specs.Words.{App, HasMatchesOf, found_of, kind_of, rows_of}
+use Rattle.words.proofs.Common.{◌≡◌, ◌∙◌, ◌⊎◌, ℕ, true, List, [], ◌∷◌, Option, None, refl, ap, sym, subst, inl, inr, Result, Ok, Err, IfErr, fault_of, is_simple_and_free, is_simple, matches_of, HasKind, IsAmong, Kinds, App, HasMatchesOf, found_of, kind_of, rows_of, ArgMatches, app_by, convert_program, filter_program, show_program, unless_wrong}
 use Rattle.clap.specs.declared.error.Error.{Error}
 use Rattle.clap.specs.declared.error.kind.ErrorKind.{ErrorKind}
 use Rattle.clap.specs.declared.error.kind.ErrorKind.TheVariants as kind
-use Rattle.clap.specs.declared.parser.matches.ArgMatches.{ArgMatches}
 use Rattle.words.specs.declared.filter_commands.FilterCommand.{FilterCommand}
 use Rattle.words.specs.declared.filter_commands.FilterCommand.TheVariants.{Filter, Convert, Show}
 use Rattle.words.specs.declared.filter_tasks.OperatorTask.{OperatorTask}
 use Rattle.words.specs.declared.filter_tasks.FilterWordsError.{FilterWordsError}
 use Rattle.words.specs.declared.filter_tasks.FilterWordsError.TheVariants.{Shown, Wrong, Memory}
-use Rattle.words.specs.FilterLine.{app_by, convert_program, filter_program, show_program}
 use Rattle.words.specs.FilterCommands.{command_of, words_by}
 use Rattle.words.specs.FilterRequests.{OperatorRequest}
 use Rattle.words.specs.FilterAsked.{AsksForTextOn, FilterAsksFor, FilterTellsOf, IsUnshown, HasText, ShowsTextOn, asked_by, asked_on, filter_asked}
-use Rattle.words.specs.Asked.{unless_wrong}
 
 -- for these command lines clap's contracts say what a parse finds, and how it fails
 is_simple-by : (c : FilterCommand) → is_simple (app_by c) ≡ true

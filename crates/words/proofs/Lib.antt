@@ -1,3 +1,4 @@
+mod Common
 mod Words
 mod Parsed
 mod FilterParsed

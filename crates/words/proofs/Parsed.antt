@@ -1,20 +1,11 @@
 -- That clap's parse of the command line leads to what the arguments ask for.
-use Rattle.std.proofs.Common.{◌≡◌, ◌∙◌, ℕ, true, List, [], ◌∷◌, Option, Some, None, refl, ap, ap₂, sym, subst, inl, inr}
-use Rattle.std.specs.Prelude.{option_map, Result, Err}
-use Rattle.clap.specs.Faults.{fault_of, is_simple_and_free}
-use Rattle.clap.specs.Simple.{is_simple, subcommand_of}
-use Rattle.clap.specs.Kinds.{HasKind, IsAmong, Kinds}
-use Rattle.clap.specs.Words.{App, HasMatchesOf, Row, kind_of, subcommand_name_of, subcommand_rows_of}
+use Rattle.words.proofs.Common.{◌≡◌, ◌∙◌, ℕ, true, List, [], ◌∷◌, Option, Some, None, refl, ap, ap₂, sym, subst, inl, inr, option_map, Result, Err, fault_of, is_simple_and_free, is_simple, subcommand_of, HasKind, IsAmong, Kinds, App, HasMatchesOf, Row, kind_of, subcommand_name_of, subcommand_rows_of, ArgMatches, program, asm, dis, verify, run, trace, prove, recheck, explain, TaskRequest, AsksFor, TellsOf, asked, request_by, request_met, unless_wrong}
 use Rattle.clap.specs.declared.error.Error.{Error}
 use Rattle.clap.specs.declared.error.kind.ErrorKind.{ErrorKind}
 use Rattle.clap.specs.declared.error.kind.ErrorKind.TheVariants as kind
-use Rattle.clap.specs.declared.parser.matches.ArgMatches.{ArgMatches}
 use Rattle.words.specs.declared.tasks.Task.{Task}
 use Rattle.words.specs.declared.tasks.WordsError.{WordsError}
 use Rattle.words.specs.declared.tasks.WordsError.TheVariants.{Wrong, NotUnicode, Memory}
-use Rattle.words.specs.CommandLine.{program, asm, dis, verify, run, trace, prove, recheck, explain}
-use Rattle.words.specs.Requests.{TaskRequest}
-use Rattle.words.specs.Asked.{AsksFor, TellsOf, asked, request_by, request_met, unless_wrong}
 
 -- for this command line clap's contracts say what a parse finds, and how it fails
 is_simple-program : is_simple program ≡ true

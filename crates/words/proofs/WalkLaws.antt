@@ -1,13 +1,10 @@
 -- How clap's walk reads a command's name and plain words.
-use Rattle.std.specs.Prelude.{◌≡◌, ℕ, ◌==◌, ◌++◌, Bool, true, false, not, nat_lt, List, [], ◌∷◌, Option, Some, None, codes, find, fold, option_map}
+use Rattle.words.proofs.Common.{◌≡◌, ℕ, ◌==◌, ◌++◌, Bool, true, false, not, nat_lt, List, [], ◌∷◌, Option, Some, None, codes, find, fold, option_map, refl, ap, ap₂, ◌∙◌, append_assoc, append-nil, Kinds, or_else, built_fault, check_fault, defaults_fault, level_fault, positional_fault, settle_fault, stray_fault, turn_fault, walk_fault}
 use Rattle.std.specs.Option.{option_map_or}
 use Rattle.std.specs.Str.{bytes_eq}
-use Rattle.std.proofs.Common.{refl, ap, ap₂, ◌∙◌, append_assoc, append-nil}
 use Rattle.clap.specs.Lexer.{long_of}
 use Rattle.clap.specs.Walk.{Held, Names, Rule, Text, Walk, answers_to, arg_by_id, arg_by_index, arg_by_long, finished, idle, most_values, nothing_held, option, pending_count, pushed, rows_after, settled, stop_after, subcommand_met, takes_values, to_positional, walk, walk_from, walked}
 use Rattle.clap.specs.Simple.{App, Shape, entered, label_of, names_of, rows_at}
-use Rattle.clap.specs.Kinds.{Kinds, or_else}
-use Rattle.clap.specs.Faults.{built_fault, check_fault, defaults_fault, level_fault, positional_fault, settle_fault, stray_fault, turn_fault, walk_fault}
 
 -- clap's walk is at a positional, after no option
 abbrev pub walk_at : Held → ℕ → Walk

@@ -1,6 +1,5 @@
 -- The values of arguments, limits, and command lines with more arguments and commands.
-use Rattle.std.proofs.Common.{◌≡◌, ◌∙◌, ◌<◌, ◌≤◌, ℕ, Bool, true, false, List, [], ◌∷◌, Option, Some, None, length, take, get_or, ◌+◌, map, refl, ap, ap₂, sym, arith, cond, ◌^◌, lt-ltb, le-ltb}
-use Rattle.std.specs.Prelude.{◌&&◌, not, option_map, option_and_then, slice_get, nat_le, nat_lt, Result, Ok, Err, IfOk, IsOkAnd}
+use Rattle.words.proofs.Common.{◌≡◌, ◌∙◌, ◌<◌, ◌≤◌, ℕ, Bool, true, false, List, [], ◌∷◌, Option, Some, None, length, take, get_or, ◌+◌, map, refl, ap, ap₂, sym, arith, cond, ◌^◌, lt-ltb, le-ltb, ◌&&◌, not, option_map, option_and_then, slice_get, nat_le, nat_lt, Result, Ok, Err, IfOk, IsOkAnd, max_steps, limit_of, with_wanted, with_command, AddsSubcommand, App, Row, app_of, first_of, first_value, found_of, rows_of, ArgMatches}
 use Rattle.std.specs.List.{list_all, fold}
 use Rattle.std.specs.Int.{IsInRange}
 use Rattle.std.specs.Char.{is_ascii_digit}
@@ -9,17 +8,12 @@ use Rattle.std.proofs.lemmas.Str.Parse.{without_leading_plus_none}
 use Rattle.std.proofs.lemmas.Str.{digit_value_digit}
 use Rattle.std.proofs.lemmas.Bool.{leb-true, le-leb, lt-leb}
 use Rattle.std.proofs.Math.Bool.{and-false}
-use Rattle.isa_model.specs.Code.Limits.{max_steps}
-use Rattle.words.specs.Asked.{limit_of}
 use Rattle.words.specs.FilterAsked.{number_of}
 use Rattle.std.specs.Borrow.{Bor}
 use Rattle.std.proofs.lemmas.List.Folds.{fold-map}
 use Rattle.std.proofs.lemmas.List.Sums.{fold_more}
-use Rattle.words.specs.CommandLine.{with_wanted, with_command}
 use Rattle.clap.specs.declared.builder.command.Command.{Command}
-use Rattle.clap.specs.Words.{AddsSubcommand, App, Row, app_of, first_of, first_value, found_of, rows_of}
 use Rattle.clap.proofs.WalkLemmas.{find_row}
-use Rattle.clap.specs.declared.parser.matches.ArgMatches.{ArgMatches}
 use Rattle.clap.specs.declared.parser.matches.MatchedArg.{MatchedArg}
 
 -- the first text of a list

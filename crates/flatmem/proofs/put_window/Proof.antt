@@ -1,49 +1,36 @@
 -- `put_window` writes N bytes at an index as one array, for every N.
 use mathlib.Core.Path.{◌≡◌, refl, sym, ap, ◌∙◌, subst}
-use Prim.Native.Nat.{ℕ, ◌+◌, ◌-◌, ◌≤◌, ◌<◌, ◌^◌}
+use Rattle.flatmem.proofs.Common.{ℕ, ◌+◌, ◌-◌, ◌≤◌, ◌<◌, ◌^◌, Ura, Args, Body, Fn, named, w64, w8, a_number, seq, assign, place, rv_opd, opd_unit, return, Val, vint, vunit, SProp, ent, Lft, GName, Share, ftrue, flft, Logic, ‵, ◌⊛◌, raw, given, at_ret, ◌$◌, ◌∵◌, !, qed, by, move, keep, use1, group, drop, split, split3, join, learn, rewrite, fsplit, fjoin, feq_i, suffices, frame, done, array_vals, Array-Tells, Array-Lawful, u8, usize, row, opens_slice, closes_slice, uint_vals, uint_Tells, uint_Lawful, nothing, at, at_byte, length-take-le, length_app}
 use native.Mathlib.Omega.{arith}
 use mathlib.Core.List.{List, [], ◌∷◌, ◌++◌}
 use lib.Seq.{drop-drop}
 use lib.ListN.{length, take, drop as drop_l, take-append-drop, length-drop}
-use seplogic.Ra.Ura.{Ura}
-use mir.Syntax.{Args, Body, Fn, named, w64, w8, a_number, seq, assign, place, rv_opd, opd_unit, return}
 use mir.MapTy.{inst_fn}
-use mir.Val.{Val, vint, vunit}
-use base.Logic.{SProp, ent}
-use base.Fml.{Lft, GName, Share, ftrue, flft}
 use base.Fraction.{full_share}
 use prog.Memory.{Memory, size}
 use prog.Routine.{Routine}
 use prog.Wp.{Env, Calls, Loops, WpFn, Tables}
-use types.Logic.{Logic}
 use contract.BorrowLft.{◌⊑◌}
 use contract.Lifetimes.{AllOutlive}
 use contract.Monad.{Fun}
 use contract.Running.{tables, tables_of}
 use sound.WpLaws.{WpFn-mono}
-use types.Kit.{‵, ◌⊛◌, raw, given, at_ret, ◌$◌, ◌∵◌, !, qed, by, move, keep, use1, group, drop, split, split3, join, learn, rewrite, fsplit, fjoin, feq_i, suffices, frame, done}
 use types.Part.{whole, sub}
 use types.Run.{stop, fld, hop, from, addr, bin, store, unit_lit, assigns_last, of_opd, first, blocks, exec, returns, enter}
 use types.ByLocal.{alloc_all, pass_all, free_all, look_at, look_in_at, get, through, sets, env}
-use denote.Array.{array_vals, Array-Tells, Array-Lawful}
 use denote.Laws.{Is}
 use denote.Shadow.{pure_i}
-use denote.Builtin.{u8, usize}
 use denote.Exit.{yes}
-use denote.Index.{row, opens_slice, closes_slice}
 use denote.Param.{param, number, layouts, layout, ArrayAt}
-use denote.Plain.{uint_vals, uint_Tells, uint_Lawful}
 use denote.RattleType.{RattleType, owns}
 use denote.Ref.{MutBor}
 use denote.Signature.{plain}
 use denote.Slice.{MutSlice, Room, slice_val, mut_slice_vals, mut_slice_Tells, mut_slice_at}
-use denote.Steps.{nothing}
 use denote.Triple.Clauses.{Clauses, Ended, closing}
 use denote.Triple.Entry.{on_entry}
 use denote.Triple.Spec.{Meets, triple_of}
 use denote.Triple.Table.{entered}
 use denote.Triple.Walked.{says, Stays, stay_dropped, stay_slice, Goes-slice, walk_of, ends_at, walked, Goes-dropped, walk_Meets}
-use borrow.Table.Elements.{at, at_byte, length-take-le, length_app}
 use Rattle.flatmem.proofs.Arrays.{bytes_val, array_at, has, array_out, array_in}
 use Rattle.flatmem.specs.contracts.put_window as F
 use Rattle.flatmem.specs.contracts.put_window.Key.{name as #self}

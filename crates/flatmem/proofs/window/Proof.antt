@@ -1,46 +1,33 @@
 -- `window` reads N bytes at an index as one array, for every N.
 use mathlib.Core.Path.{◌≡◌, refl, sym, ap, ◌∙◌}
-use Prim.Native.Nat.{ℕ, ◌+◌, ◌-◌, ◌≤◌, ◌<◌, ◌^◌}
+use Rattle.flatmem.proofs.Common.{ℕ, ◌+◌, ◌-◌, ◌≤◌, ◌<◌, ◌^◌, Ura, Args, Body, Fn, named, w64, w8, a_number, seq, assign, place, rv_opd, copy, return, Val, vint, SProp, ent, Lft, Share, ftrue, flft, Logic, ‵, ◌⊛◌, raw, given, at_ret, ◌$◌, ◌∵◌, !, qed, by, move, keep, use1, group, drop, split, split3, join, learn, rewrite, fsplit, fjoin, suffices, frame, done, array_copy, u8, usize, row, looks_slice, shuts_slice, uint_vals, uint_Tells, uint_copy, nothing, at, at_byte, length-take-le}
 use native.Mathlib.Omega.{arith}
 use mathlib.Core.List.{List, [], ◌∷◌, ◌++◌}
 use lib.ListN.{length, take, drop as drop_l, take-append-drop, length-drop}
-use seplogic.Ra.Ura.{Ura}
-use mir.Syntax.{Args, Body, Fn, named, w64, w8, a_number, seq, assign, place, rv_opd, copy, return}
 use mir.MapTy.{inst_fn}
-use mir.Val.{Val, vint}
-use base.Logic.{SProp, ent}
-use base.Fml.{Lft, Share, ftrue, flft}
 use prog.Memory.{Memory, size}
 use prog.Routine.{Routine}
 use prog.Wp.{Env, Calls, Loops, WpFn, Tables}
-use types.Logic.{Logic}
 use contract.BorrowLft.{◌⊑◌}
 use contract.Lifetimes.{AllOutlive}
 use contract.Monad.{Fun}
 use contract.Running.{tables, tables_of}
 use sound.WpLaws.{WpFn-mono}
-use types.Kit.{‵, ◌⊛◌, raw, given, at_ret, ◌$◌, ◌∵◌, !, qed, by, move, keep, use1, group, drop, split, split3, join, learn, rewrite, fsplit, fjoin, suffices, frame, done}
 use types.Part.{whole, sub}
 use types.Run.{stop, fld, hop, from, addr, bin, load, look, of_opd, first, blocks, exec, returns, enter, well_typed}
 use types.ByLocal.{alloc_all, pass_all, free_all, look_at, look_in_at, get, through, sets, sets_last, env}
-use denote.Array.{array_copy}
-use denote.Builtin.{u8, usize}
 use denote.Copied.{uint_Copied}
 use denote.Exit.{yes}
-use denote.Index.{row, looks_slice, shuts_slice}
 use denote.Param.{param, number, layouts, layout, ArrayAt}
-use denote.Plain.{uint_vals, uint_Tells, uint_copy}
 use denote.RattleType.{owns}
 use denote.Ref.{Bor}
 use denote.Signature.{plain, shr_slice_of}
 use denote.Slice.{ShrSlice, Room, slice_val, shr_slice_vals, shr_slice_Tells}
-use denote.Steps.{nothing}
 use denote.Triple.Clauses.{Clauses, Ended, closing}
 use denote.Triple.Entry.{on_entry}
 use denote.Triple.Spec.{Meets, triple_of}
 use denote.Triple.Table.{entered}
 use denote.Triple.Walked.{says, Stays, stay_dropped, walk_of, ends_at, walked, Goes-dropped, walk_Meets}
-use borrow.Table.Elements.{at, at_byte, length-take-le}
 use Rattle.flatmem.proofs.Arrays.{bytes_val, array_at, has, array_out, array_in}
 use Rattle.flatmem.specs.contracts.window as F
 use Rattle.flatmem.specs.contracts.window.Key.{name as #self}

@@ -1,8 +1,4 @@
-use Rattle.std.proofs.Common.{◌≡◌, ℕ, ◌∙◌, Result, IfOk, take, ap, sym, subst, refl, arith}
-use Rattle.isa_model.specs.declared.instructions.Insn.{Insn}
-use Rattle.isa_model.specs.Code.Spelling.{spelling_of, InsnFits}
-use Rattle.insn_codec.specs.declared.errors.CodecError.{CodecError}
-use Rattle.insn_codec.specs.Decoding.{decoded, sized}
+use Rattle.insn_codec.proofs.Common.{◌≡◌, ℕ, ◌∙◌, Result, IfOk, take, ap, sym, subst, refl, arith, Insn, spelling_of, InsnFits, CodecError, decoded, sized}
 use Rattle.insn_codec.proofs.Whole.{sized-found, sized-fits, decoded-spelling_of}
 use Rattle.insn_codec.proofs.decode.Goals as goal
 

@@ -1,6 +1,4 @@
-use Rattle.std.proofs.Common.{ℕ, bit_and, subst, refl, arith}
-use Rattle.std.specs.Prelude.{IsTrue, ◌↔◌, nat_eq}
-use Rattle.state_cover.specs.FrameCover.{AreAmong}
+use Rattle.state_cover.proofs.Common.{ℕ, bit_and, subst, refl, arith, IsTrue, ◌↔◌, nat_eq, AreAmong}
 use Rattle.state_cover.proofs.Marks.{none-among, among-test}
 use Rattle.state_cover.proofs.are_written.Goals as goal
 

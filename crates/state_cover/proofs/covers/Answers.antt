@@ -1,6 +1,4 @@
-use Rattle.std.proofs.Common.{◌≡◌, ◌<◌, length, false, refl, arith}
-use Rattle.std.specs.Prelude.{IsTrue}
-use Rattle.state_cover.specs.Names.{packet_name, null_name}
+use Rattle.state_cover.proofs.Common.{◌≡◌, ◌<◌, length, false, refl, arith, IsTrue, packet_name, null_name}
 use Rattle.state_cover.proofs.Inclusion.{AllCover-from, AllCover-push, Covers-from}
 use Rattle.state_cover.proofs.FoundFrames.{callers-same, caller_found, innermost_found, own_found}
 use Rattle.state_cover.proofs.covers.Goals as goal

@@ -1,7 +1,4 @@
-use Rattle.std.proofs.Common.{ℕ, ◌<◌, get_or}
-use Rattle.stack_state.specs.declared.states.AbstractFrame.{AbstractFrame}
-use Rattle.state_cover.specs.Names.{packet_name, null_name}
-use Rattle.state_cover.specs.FrameCover.{FrameCovers}
+use Rattle.state_cover.proofs.Common.{ℕ, ◌<◌, get_or, AbstractFrame, packet_name, null_name, FrameCovers}
 use Rattle.state_cover.proofs.covers.Given as goal
 
 -- each caller's call frame before it covers the other's

@@ -1,5 +1,4 @@
-use Rattle.std.proofs.Common.{arith}
-use Rattle.state_cover.specs.Names.{packet_name, null_name}
+use Rattle.state_cover.proofs.Common.{arith, packet_name, null_name}
 use Rattle.state_cover.proofs.Inclusion.{KindsCover-from}
 use Rattle.state_cover.proofs.registers_cover.Goals as goal
 

@@ -1,7 +1,4 @@
-use Rattle.std.proofs.Common.{ℕ, ◌<◌}
-use Rattle.reg_state.specs.KindCover.{KindCovers}
-use Rattle.stack_state.specs.Meaning.{kind_at}
-use Rattle.state_cover.specs.Names.{packet_name, null_name}
+use Rattle.state_cover.proofs.Common.{ℕ, ◌<◌, KindCovers, kind_at, packet_name, null_name}
 use Rattle.state_cover.proofs.registers_cover.Given as goal
 
 -- each register before it covers the other's

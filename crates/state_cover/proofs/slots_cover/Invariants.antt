@@ -1,7 +1,4 @@
-use Rattle.std.proofs.Common.{ℕ, ◌<◌}
-use Rattle.stack_state.specs.Slots.{slot_at}
-use Rattle.state_cover.specs.Names.{packet_name, null_name}
-use Rattle.state_cover.specs.FrameCover.{SlotCovers}
+use Rattle.state_cover.proofs.Common.{ℕ, ◌<◌, slot_at, packet_name, null_name, SlotCovers}
 use Rattle.state_cover.proofs.slots_cover.Given as goal
 
 -- each slot before it covers the other's

@@ -1,9 +1,5 @@
-use Rattle.std.proofs.Common.{rules, ◌≡◌, ◌∙◌, sym, subst, Ok, Some}
-use Rattle.isa_model.specs.declared.instructions.Insn.TheVariants.{JumpIf}
-use Rattle.isa_model.specs.Code.Instructions.{fetch}
+use Rattle.transfer.proofs.Common.{rules, ◌≡◌, ◌∙◌, sym, subst, Ok, Some, JumpIf, fetch, Steps, beside}
 use Rattle.image.proofs.Programs.{IsProgram-IsImage}
-use Rattle.transfer.specs.Exact.{Steps}
-use Rattle.transfer.specs.Beside.{beside}
 use Rattle.transfer.proofs.BesideLaws.{Steps-one, Steps-beside}
 use Rattle.transfer.proofs.ExactLaws.{Steps-leads}
 use Rattle.transfer.proofs.FollowLaws.{Steps-follows}

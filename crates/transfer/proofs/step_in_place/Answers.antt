@@ -1,7 +1,5 @@
-use Rattle.std.proofs.Common.{◌≡◌, ◌∙◌, sym, false}
-use Rattle.isa_model.specs.Code.Instructions.{writes, is_frame_pointer}
+use Rattle.transfer.proofs.Common.{◌≡◌, ◌∙◌, sym, false, writes, is_frame_pointer, reads_unset}
 use Rattle.image.proofs.Programs.{IsProgram-IsImage}
-use Rattle.transfer.specs.Refusing.{reads_unset}
 use Rattle.transfer.proofs.ValuePointerLaws.{NamesFit-fetch}
 use Rattle.transfer.proofs.ExactLaws.{Steps-leads}
 use Rattle.transfer.proofs.FollowLaws.{Steps-follows}

@@ -1,8 +1,4 @@
-use Rattle.std.proofs.Common.{◌≡◌, ap, ◌∙◌, sym, Result, Ok, Err, inl, inr}
-use Rattle.isa_model.specs.Code.Instructions.{Program}
-use Rattle.assembler.specs.declared.errors.AsmError.{AsmError}
-use Rattle.assembler.specs.declared.refusals.Refusal.{Refusal}
-use Rattle.assembler.specs.Assembling.{assembled, program_in, error_in}
+use Rattle.assembler.proofs.Common.{◌≡◌, ap, ◌∙◌, sym, Result, Ok, Err, inl, inr, Program, AsmError, Refusal, assembled, program_in, error_in}
 use Rattle.assembler.proofs.TextReads.{program_in-canonical_text}
 use Rattle.assembler.proofs.assembly.assemble.Goals as goal
 

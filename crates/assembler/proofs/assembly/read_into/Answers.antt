@@ -1,11 +1,5 @@
-use Rattle.std.proofs.Common.{◌≡◌, ◌+◌, ◌<◌, ◌≤◌, ◌-◌, ◌^◌, ℕ, List, ap, ap₂, ◌∙◌, sym, length, take, rules, Some, None, Result, Ok, Err, arith, inr, subst}
-use Rattle.std.proofs.lemmas.List.{take_min}
-use Rattle.assembler.specs.Lexing.{lexeme_at, unknown_at}
+use Rattle.assembler.proofs.Common.{◌≡◌, ◌+◌, ◌<◌, ◌≤◌, ◌-◌, ◌^◌, ℕ, List, ap, ap₂, ◌∙◌, sym, length, take, rules, Some, None, Result, Ok, Err, arith, inr, subst, take_min, lexeme_at, unknown_at, UnknownByte, Refusal, ReadSoFar, IsAsWanted, read_on, progress_of, accept_short}
 use Rattle.assembler.proofs.LexingLaws.{unknown_at-within}
-use Rattle.assembler.specs.declared.errors.AsmErrorKind.TheVariants.{UnknownByte}
-use Rattle.assembler.specs.declared.refusals.Refusal.{Refusal}
-use Rattle.assembler.specs.Assembling.{ReadSoFar, IsAsWanted, read_on}
-use Rattle.assembler.specs.Drafts.{progress_of, accept_short}
 use Rattle.assembler.proofs.PassedLexemes.{loop_turn-passed}
 use Rattle.assembler.proofs.ReadingLoop.{loop_turn-none, loop_turn-taken, loop_turn-end}
 use Rattle.assembler.proofs.assembly.read_into.Goals as goal

@@ -1,6 +1,4 @@
-use Rattle.std.proofs.Common.{◌≡◌, ◌≤◌, ◌-◌, length}
-use Rattle.assembler.specs.Assembling.{read_on}
-use Rattle.assembler.specs.Drafts.{progress_of}
+use Rattle.assembler.proofs.Common.{◌≡◌, ◌≤◌, ◌-◌, length, read_on, progress_of}
 use Rattle.assembler.proofs.assembly.read_into.Given as goal
 
 abbrev pub invariant-loop-rest : goal.invariant-loop-rest

@@ -1,5 +1,4 @@
-use Rattle.std.proofs.Common.{◌≡◌, ◌≤◌, ◌-◌, inr, ◌∙◌, ap, length, drop, take, arith}
-use Rattle.assembler.specs.Drafts.{progress_of}
+use Rattle.assembler.proofs.Common.{◌≡◌, ◌≤◌, ◌-◌, inr, ◌∙◌, ap, length, drop, take, arith, progress_of}
 use Rattle.assembler.proofs.FrontLaws.{onward-passed, goes-on-there}
 use Rattle.assembler.proofs.fronts.idle_end.Goals as goal
 

@@ -1,6 +1,4 @@
-use Rattle.std.proofs.Common.{◌≡◌, ◌≤◌, ◌-◌, ◌⊎◌, length, drop, take}
-use Rattle.assembler.specs.Drafts.{progress_of}
-use Rattle.assembler.specs.Fronts.{ReadsOn}
+use Rattle.assembler.proofs.Common.{◌≡◌, ◌≤◌, ◌-◌, ◌⊎◌, length, drop, take, progress_of, ReadsOn}
 use Rattle.assembler.proofs.fronts.idle_end.Given as goal
 
 abbrev pub invariant-loop-rest : goal.invariant-loop-rest

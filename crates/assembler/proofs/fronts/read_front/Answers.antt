@@ -1,9 +1,5 @@
-use Rattle.std.proofs.Common.{◌≡◌, ◌<◌, ◌≤◌, ◌-◌, ◌∙◌, ℕ, List, ap, sym, subst, length, take, drop, Some, Option, Ok, arith, inl, inr}
-use Rattle.assembler.specs.declared.tokens.Lexeme.{Lexeme}
-use Rattle.assembler.specs.Lexing.{lexeme_at}
-use Rattle.assembler.specs.Drafts.{progress_of, accept_short}
+use Rattle.assembler.proofs.Common.{◌≡◌, ◌<◌, ◌≤◌, ◌-◌, ◌∙◌, ℕ, List, ap, sym, subst, length, take, drop, Some, Option, Ok, arith, inl, inr, Lexeme, lexeme_at, progress_of, accept_short, ReadsOn, IsBelow}
 use Rattle.assembler.specs.Settled.{TakesAll}
-use Rattle.assembler.specs.Fronts.{ReadsOn, IsBelow}
 use Rattle.assembler.proofs.SettledTexts.{settled-none, settled-refused, goes-on, stays-within}
 use Rattle.assembler.proofs.PassedLexemes.{goes-on-passed}
 use Rattle.assembler.proofs.FrontLaws.{ends-next, below-more, below-taken}

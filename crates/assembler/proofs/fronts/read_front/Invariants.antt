@@ -1,6 +1,4 @@
-use Rattle.std.proofs.Common.{◌≡◌, ◌≤◌, ◌-◌, length, drop}
-use Rattle.assembler.specs.Drafts.{progress_of}
-use Rattle.assembler.specs.Fronts.{ReadsOn, IsBelow}
+use Rattle.assembler.proofs.Common.{◌≡◌, ◌≤◌, ◌-◌, length, drop, progress_of, ReadsOn, IsBelow}
 use Rattle.assembler.proofs.SettledTexts.{BeginsWithin}
 use Rattle.assembler.proofs.fronts.read_front.Given as goal
 

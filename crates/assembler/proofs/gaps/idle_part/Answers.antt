@@ -1,7 +1,4 @@
-use Rattle.std.proofs.Common.{◌≡◌, ◌<◌, ◌≤◌, ◌-◌, ◌∙◌, ap, sym, subst, length, drop, take, arith, inl, inr}
-use Rattle.std.proofs.lemmas.List.{length-take-le}
-use Rattle.assembler.specs.Drafts.{progress_of}
-use Rattle.assembler.specs.Fronts.{ReadsOn, IsBelow, IsTextFront}
+use Rattle.assembler.proofs.Common.{◌≡◌, ◌<◌, ◌≤◌, ◌-◌, ◌∙◌, ap, sym, subst, length, drop, take, arith, inl, inr, length-take-le, progress_of, ReadsOn, IsBelow, IsTextFront}
 use Rattle.assembler.proofs.FrontLaws.{goes-on-whole}
 use Rattle.assembler.proofs.IdleParts.{idle}
 use Rattle.assembler.proofs.gaps.idle_part.Goals as goal

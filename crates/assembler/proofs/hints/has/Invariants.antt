@@ -1,5 +1,4 @@
-use Rattle.std.proofs.Common.{◌≡◌, drop}
-use Rattle.assembler.specs.Hints.{has}
+use Rattle.assembler.proofs.Common.{◌≡◌, drop, has}
 use Rattle.assembler.proofs.hints.has.Given as goal
 
 abbrev pub invariant-loop-at : goal.invariant-loop-at

@@ -1,6 +1,4 @@
-use Rattle.std.proofs.Common.{◌≡◌, drop}
-use Rattle.std.specs.Prelude.{map}
-use Rattle.assembler.specs.Hints.{has_any, lent_word}
+use Rattle.assembler.proofs.Common.{◌≡◌, drop, map, has_any, lent_word}
 use Rattle.assembler.proofs.hints.has_any.Given as goal
 
 abbrev pub invariant-loop-word : goal.invariant-loop-word

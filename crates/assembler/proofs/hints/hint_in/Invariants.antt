@@ -1,6 +1,4 @@
-use Rattle.std.proofs.Common.{◌≡◌, drop}
-use Rattle.std.specs.Prelude.{map}
-use Rattle.assembler.specs.Hints.{hint_in, lent_row}
+use Rattle.assembler.proofs.Common.{◌≡◌, drop, map, hint_in, lent_row}
 use Rattle.assembler.proofs.hints.hint_in.Given as goal
 
 abbrev pub invariant-loop-row : goal.invariant-loop-row

@@ -1,5 +1,4 @@
-use Rattle.std.proofs.Common.{◌∙◌, ℕ, List, Bool, sym, ap}
-use Rattle.assembler.specs.Hints.{by_beginning, without_form}
+use Rattle.assembler.proofs.Common.{◌∙◌, ℕ, List, Bool, sym, ap, by_beginning, without_form}
 use Rattle.assembler.proofs.hints.no_form.Goals as goal
 
 pub returns-then-has_any : goal.returns-then-has_any

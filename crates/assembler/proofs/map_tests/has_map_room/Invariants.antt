@@ -1,5 +1,4 @@
-use Rattle.std.proofs.Common.{◌≡◌, ◌+◌, take}
-use Rattle.std.specs.Prelude.{sum_by}
+use Rattle.std.proofs.Common.{◌≡◌, ◌+◌, take, sum_by}
 use Rattle.image.specs.Images.{room_of}
 use Rattle.isa_model.specs.declared.limits.TheConstants.{MAX_MAP_ROOM}
 use Rattle.assembler.proofs.map_tests.has_map_room.Given as goal

@@ -1,5 +1,4 @@
-use Rattle.std.proofs.Common.{◌≡◌, ap, ◌∙◌, sym, map, None, Ok}
-use Rattle.assembler.specs.Labels.{label_of, slot_in}
+use Rattle.assembler.proofs.Common.{◌≡◌, ap, ◌∙◌, sym, map, None, Ok, label_of, slot_in}
 use Rattle.assembler.proofs.LabelLookups.{insert_label}
 use Rattle.assembler.proofs.names.define.Goals as goal
 

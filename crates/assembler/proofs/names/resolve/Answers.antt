@@ -1,7 +1,4 @@
-use Rattle.std.proofs.Common.{◌≡◌, ◌≤◌, length, map, slice_get, slice_index_or, sym, ◌∙◌, rules, [], Some}
-use Rattle.std.proofs.lemmas.Option.{slice_get_past, slice_get_read}
-use Rattle.assembler.specs.Labels.{label_of, slot_in}
-use Rattle.assembler.specs.declared.names.Use.{Use}
+use Rattle.assembler.proofs.Common.{◌≡◌, ◌≤◌, length, map, slice_get, slice_index_or, sym, ◌∙◌, rules, [], Some, slice_get_past, slice_get_read, label_of, slot_in, Use}
 use Rattle.assembler.proofs.NameUses.{use_missing, use_refused, use_aimed}
 use Rattle.assembler.proofs.names.resolve.Goals as goal
 

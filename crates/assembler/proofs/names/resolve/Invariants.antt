@@ -1,6 +1,4 @@
-use Rattle.std.proofs.Common.{◌≡◌, drop, map}
-use Rattle.assembler.specs.Labels.{label_of, slot_in}
-use Rattle.assembler.specs.Naming.{use_of, resolved}
+use Rattle.assembler.proofs.Common.{◌≡◌, drop, map, label_of, slot_in, use_of, resolved}
 use Rattle.assembler.proofs.names.resolve.Given as goal
 
 abbrev pub invariant-loop-used : goal.invariant-loop-used

@@ -1,6 +1,4 @@
-use Rattle.std.proofs.Common.{◌≡◌, ◌+◌, drop}
-use Rattle.std.specs.List.{prefix_len}
-use Rattle.std.specs.Char.{is_digit}
+use Rattle.assembler.proofs.Common.{◌≡◌, ◌+◌, drop, prefix_len, is_digit}
 use Rattle.assembler.proofs.numbers.digits_len.Given as goal
 
 abbrev pub invariant-loop-i : goal.invariant-loop-i

@@ -1,6 +1,4 @@
-use Rattle.std.proofs.Common.{◌+◌, ap, ◌∙◌, sym, drop}
-use Rattle.std.proofs.lemmas.List.{drop_more}
-use Rattle.assembler.specs.Lexing.{digits_number}
+use Rattle.assembler.proofs.Common.{◌+◌, ap, ◌∙◌, sym, drop, drop_more, digits_number}
 use Rattle.assembler.proofs.numbers.digits_number.Goals as goal
 
 pub loop-c-preserved : goal.loop-c-preserved

@@ -1,5 +1,4 @@
-use Rattle.std.proofs.Common.{◌≡◌, ◌<◌, ◌^◌, drop}
-use Rattle.assembler.specs.Lexing.{digits_number}
+use Rattle.assembler.proofs.Common.{◌≡◌, ◌<◌, ◌^◌, drop, digits_number}
 use Rattle.assembler.proofs.numbers.digits_number.Given as goal
 
 abbrev pub invariant-loop-c : goal.invariant-loop-c

@@ -1,6 +1,4 @@
-use Rattle.std.proofs.Common.{◌≡◌, ◌+◌, drop}
-use Rattle.std.specs.List.{prefix_len}
-use Rattle.assembler.specs.Lexing.{is_line_byte}
+use Rattle.assembler.proofs.Common.{◌≡◌, ◌+◌, drop, prefix_len, is_line_byte}
 use Rattle.assembler.proofs.numbers.line_len.Given as goal
 
 abbrev pub invariant-loop-i : goal.invariant-loop-i

@@ -1,9 +1,4 @@
-use Rattle.std.proofs.Common.{◌≡◌, ap, ◌∙◌, subst}
-use Rattle.std.specs.Prelude.{IfErr}
-use Rattle.std.specs.List.{prefix_len}
-use Rattle.std.specs.Char.{is_digit}
-use Rattle.std.proofs.lemmas.List.{take_rest}
-use Rattle.assembler.specs.Lexing.{number_after, number_end}
+use Rattle.assembler.proofs.Common.{◌≡◌, ap, ◌∙◌, subst, IfErr, prefix_len, is_digit, take_rest, number_after, number_end}
 use Rattle.assembler.proofs.numbers.number_at.Goals as goal
 
 pub returns-clause-found : goal.returns-clause-found

@@ -1,8 +1,4 @@
-use Rattle.std.proofs.Common.{ap, ◌∙◌}
-use Rattle.std.specs.List.{prefix_len}
-use Rattle.std.specs.Char.{is_digit}
-use Rattle.std.proofs.lemmas.List.{take_rest}
-use Rattle.assembler.specs.Lexing.{number_after, token_length}
+use Rattle.assembler.proofs.Common.{ap, ◌∙◌, prefix_len, is_digit, take_rest, number_after, token_length}
 use Rattle.assembler.proofs.numbers.number_len_at.Goals as goal
 
 pub returns : goal.returns

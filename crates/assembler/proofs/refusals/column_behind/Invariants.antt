@@ -1,5 +1,4 @@
-use Rattle.std.proofs.Common.{◌≡◌, ◌+◌, ◌≤◌, take}
-use Rattle.assembler.specs.Positions.{column_behind}
+use Rattle.assembler.proofs.Common.{◌≡◌, ◌+◌, ◌≤◌, take, column_behind}
 use Rattle.assembler.proofs.refusals.column_behind.Given as goal
 
 abbrev pub invariant-loop-byte : goal.invariant-loop-byte

@@ -1,5 +1,4 @@
-use Rattle.std.proofs.Common.{◌≡◌, ◌+◌, ◌≤◌, take}
-use Rattle.assembler.specs.Positions.{line_behind}
+use Rattle.assembler.proofs.Common.{◌≡◌, ◌+◌, ◌≤◌, take, line_behind}
 use Rattle.assembler.proofs.refusals.line_behind.Given as goal
 
 abbrev pub invariant-loop-byte : goal.invariant-loop-byte

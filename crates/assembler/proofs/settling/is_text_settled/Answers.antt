@@ -1,5 +1,4 @@
-use Rattle.std.proofs.Common.{◌-◌, length}
-use Rattle.assembler.specs.Drafts.{progress_of}
+use Rattle.assembler.proofs.Common.{◌-◌, length, progress_of}
 use Rattle.assembler.proofs.settling.is_text_settled.Goals as goal
 
 pub returns-in-Ok-clause-open : goal.returns-in-Ok-clause-open

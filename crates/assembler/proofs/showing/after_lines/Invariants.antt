@@ -1,5 +1,4 @@
-use Rattle.std.proofs.Common.{◌≡◌}
-use Rattle.assembler.specs.Shown.{after_lines}
+use Rattle.assembler.proofs.Common.{◌≡◌, after_lines}
 use Rattle.assembler.proofs.showing.after_lines.Given as goal
 
 abbrev pub invariant-loop-skipped : goal.invariant-loop-skipped

@@ -1,5 +1,4 @@
-use Rattle.std.proofs.Common.{◌≡◌, map, take, string_bytes}
-use Rattle.assembler.specs.Shown.{padding_byte}
+use Rattle.assembler.proofs.Common.{◌≡◌, map, take, string_bytes, padding_byte}
 use Rattle.assembler.proofs.showing.padding.Given as goal
 
 abbrev pub invariant-loop-byte : goal.invariant-loop-byte

@@ -1,5 +1,4 @@
-use Rattle.std.proofs.Common.{ℕ, take, ap, ◌∙◌}
-use Rattle.std.proofs.lemmas.List.{take_min}
+use Rattle.assembler.proofs.Common.{ℕ, take, ap, ◌∙◌, take_min}
 use Rattle.assembler.specs.declared.showing.TheConstants.{MAX_SEARCHED}
 use Rattle.assembler.proofs.showing.searched.Goals as goal
 

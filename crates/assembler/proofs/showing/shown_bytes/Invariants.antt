@@ -1,5 +1,4 @@
-use Rattle.std.proofs.Common.{◌≡◌, map, take, string_bytes}
-use Rattle.assembler.specs.Shown.{shown_byte}
+use Rattle.assembler.proofs.Common.{◌≡◌, map, take, string_bytes, shown_byte}
 use Rattle.assembler.proofs.showing.shown_bytes.Given as goal
 
 abbrev pub invariant-loop-byte : goal.invariant-loop-byte

@@ -1,5 +1,4 @@
-use Rattle.std.proofs.Common.{ℕ, ◌<◌, ◌^◌, subst, rules, arith}
-use Rattle.std.specs.Prelude.{FitsSigned}
+use Rattle.std.proofs.Common.{ℕ, ◌<◌, ◌^◌, subst, rules, arith, FitsSigned}
 use Rattle.std.specs.Int.{w32}
 use Rattle.std.proofs.lemmas.Int.{ints, to_z-of_z}
 use Rattle.reg_state.specs.Constants.{bits_constant_has, range_constant_has}

@@ -1,6 +1,5 @@
-use Rattle.std.proofs.Common.{ℕ, arith, sym, subst}
+use Rattle.calls.proofs.Common.{ℕ, arith, sym, subst, IsVerified}
 use Rattle.isa_model.specs.Code.Instructions.{Program}
-use Rattle.bounds.specs.Bounds.{IsVerified}
 use Rattle.stack_state.specs.Starts.{start}
 use Rattle.walks.specs.Refused.{IsRefused}
 use Rattle.walks.specs.Accepting.{BoundsAll}

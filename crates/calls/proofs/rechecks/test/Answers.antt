@@ -1,6 +1,5 @@
-use Rattle.std.proofs.Common.{ℕ, List, length, ap, ◌∙◌, sym, subst}
+use Rattle.calls.proofs.Common.{ℕ, List, length, ap, ◌∙◌, sym, subst, IsVerified}
 use Rattle.isa_model.specs.Code.Instructions.{Program}
-use Rattle.bounds.specs.Bounds.{IsVerified}
 use Rattle.rechecking.specs.Refusing.{ShowsBound}
 use Rattle.messages.specs.Texts.{IsTableText}
 use Rattle.calls.specs.Crossing.{filled}

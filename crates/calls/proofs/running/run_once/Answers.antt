@@ -1,6 +1,4 @@
-use Rattle.std.proofs.Common.{ℕ, sym, subst}
-use Rattle.isa_model.specs.declared.frames.FrameHead.{FrameHead}
-use Rattle.machine.specs.Running.{ReturnsOutcome}
+use Rattle.calls.proofs.Common.{ℕ, sym, subst, FrameHead, ReturnsOutcome}
 use Rattle.calls.proofs.running.run_once.Goals as goal
 
 pub returns-clause-ran : goal.returns-clause-ran

@@ -1,6 +1,4 @@
-use Rattle.std.proofs.Common.{◌∙◌, ℕ, Some, arith, sym, ap, subst}
-use Rattle.isa_model.specs.declared.frames.FrameHead.{FrameHead}
-use Rattle.machine.specs.Running.{Running, ReturnsOutcome}
+use Rattle.calls.proofs.Common.{◌∙◌, ℕ, Some, arith, sym, ap, subst, FrameHead, Running, ReturnsOutcome}
 use Rattle.calls.proofs.session_runs.run_session.Goals as goal
 
 pub run-exit-requires : goal.run-exit-requires

@@ -1,6 +1,5 @@
-use Rattle.std.proofs.Common.{◌≡◌, ℕ, ap, ◌∙◌, subst}
+use Rattle.calls.proofs.Common.{◌≡◌, ℕ, ap, ◌∙◌, subst, FrameHead}
 use Rattle.isa_model.specs.declared.ends.End.{End}
-use Rattle.isa_model.specs.declared.frames.FrameHead.{FrameHead}
 use Rattle.isa_model.specs.Running.Runs.{turn}
 use Rattle.checked_vm.specs.Machines.{LoadedProgram}
 use Rattle.calls.specs.Traces.{end_of}

@@ -1,5 +1,4 @@
-use Rattle.std.proofs.Common.{arith, false, true, ◌==◌, ◌≡◌, ◌%◌, sym, ◌∙◌, subst, ◌<◌, ◌≤◌}
-use Rattle.std.proofs.lemmas.Bool.Decides.{nat_tests}
+use Rattle.captures.proofs.Common.{arith, false, true, ◌==◌, ◌≡◌, ◌%◌, sym, ◌∙◌, subst, ◌<◌, ◌≤◌, nat_tests}
 use Rattle.captures.proofs.PcapngLaws.{block_size-none, block_size-few, block_size-uneven, block_size-long, block_size-fits}
 use Rattle.captures.proofs.blocks.block_size.Goals as goal
 

@@ -1,5 +1,4 @@
-use Rattle.std.proofs.Common.{◌≡◌, ◌+◌, ◌-◌, take, drop, slice_range, sym, ap, ◌∙◌, arith}
-use Rattle.captures.specs.Links.{link_of, interface_of, ethernet_frame}
+use Rattle.captures.proofs.Common.{◌≡◌, ◌+◌, ◌-◌, take, drop, slice_range, sym, ap, ◌∙◌, arith, link_of, interface_of, ethernet_frame}
 use Rattle.captures.proofs.PacketLaws.{packet_by-parts}
 use Rattle.captures.proofs.blocks.packet_by.Goals as goal
 

@@ -1,9 +1,5 @@
-use Rattle.std.proofs.Common.{◌≡◌, ◌-◌, ◌==◌, ◌≤◌, [], Ok, false, true, length, sym, ap, subst, ◌∙◌, arith}
-use Rattle.std.proofs.lemmas.Bool.Decides.{nat_tests}
+use Rattle.captures.proofs.Common.{◌≡◌, ◌-◌, ◌==◌, ◌≤◌, [], Ok, false, true, length, sym, ap, subst, ◌∙◌, arith, nat_tests, field, least_size, said_in, said_of_block}
 use Rattle.captures.specs.declared.forms.CaptureFormat.TheVariants as formats
-use Rattle.captures.specs.Pcap.{field}
-use Rattle.captures.specs.Pcapng.{least_size, said_in}
-use Rattle.captures.specs.Captured.{said_of_block}
 use Rattle.captures.proofs.PcapngLaws.{block_size-least, least-inside, block_said-none, block_said-unlike, block_said-section, block_said-other}
 use Rattle.captures.proofs.blocks.take_block.Goals as goal
 

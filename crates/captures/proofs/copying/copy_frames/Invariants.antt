@@ -1,5 +1,4 @@
-use Rattle.std.proofs.Common.{◌-◌, List}
-use Rattle.isa_model.specs.Reporting.Streams.{PacketFrame}
+use Rattle.captures.proofs.Common.{◌-◌, List, PacketFrame}
 use Rattle.captures.proofs.CopiesLaws.{CopiedSoFar}
 use Rattle.captures.proofs.copying.copy_frames.Given as goal
 

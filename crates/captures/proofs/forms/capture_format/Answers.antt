@@ -1,5 +1,4 @@
-use Rattle.std.proofs.Common.{sym, ap, ◌∙◌}
-use Rattle.captures.specs.Captured.{begun_by}
+use Rattle.captures.proofs.Common.{sym, ap, ◌∙◌, begun_by}
 use Rattle.captures.proofs.CapturedLaws.{begun-short, begun-section, begun-other}
 use Rattle.captures.proofs.forms.capture_format.Goals as goal
 

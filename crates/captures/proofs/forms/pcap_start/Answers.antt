@@ -1,6 +1,4 @@
-use Rattle.std.proofs.Common.{arith}
-use Rattle.std.proofs.lemmas.Bool.Decides.{nat_tests}
-use Rattle.captures.specs.Pcap.{pcap_start}
+use Rattle.captures.proofs.Common.{arith, nat_tests, pcap_start}
 use Rattle.captures.proofs.forms.pcap_start.Goals as goal
 
 pub returns-then-high : goal.returns-then-high

@@ -1,6 +1,4 @@
-use Rattle.std.proofs.Common.{◌≡◌, max, arith, ap, sym, ◌∙◌}
-use Rattle.std.proofs.lemmas.List.{length-take-le}
-use Rattle.captures.specs.Captured.{head_size}
+use Rattle.captures.proofs.Common.{◌≡◌, max, arith, ap, sym, ◌∙◌, length-take-le, head_size}
 use Rattle.captures.proofs.GatheringLaws.{was_whole, was_ended, was_failed, gathered_none, gathered_some, gathered_bad, gathered_part, gathered_whole, gathered_unread, head_read, headless_part, still_says}
 use Rattle.captures.proofs.CapturedLaws.{record_size-most}
 use Rattle.captures.proofs.gathering.gather.Goals as goal

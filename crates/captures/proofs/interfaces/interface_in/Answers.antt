@@ -1,5 +1,4 @@
-use Rattle.std.proofs.Common.{ap, ◌∙◌}
-use Rattle.captures.specs.Pcapng.{option_value, scale_by, offset_by}
+use Rattle.captures.proofs.Common.{ap, ◌∙◌, option_value, scale_by, offset_by}
 use Rattle.captures.proofs.PacketLaws.{interface_options-is, interface_in-parts}
 use Rattle.captures.proofs.interfaces.interface_in.Goals as goal
 

@@ -1,5 +1,4 @@
-use Rattle.std.proofs.Common.{◌++◌, drop, ap, ◌∙◌}
-use Rattle.captures.specs.Links.{ethernet_head}
+use Rattle.captures.proofs.Common.{◌++◌, drop, ap, ◌∙◌, ethernet_head}
 use Rattle.captures.proofs.LinkLaws.{headed_moved}
 use Rattle.captures.proofs.links.headed.Goals as goal
 

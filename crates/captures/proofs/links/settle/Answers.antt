@@ -1,6 +1,4 @@
-use Rattle.std.proofs.Common.{◌++◌, slice_range, sym, ap, ◌∙◌}
-use Rattle.captures.specs.declared.forms.LinkType.{LinkType}
-use Rattle.captures.specs.Links.{ethernet_frame, ethernet_head, null_type, loop_type}
+use Rattle.captures.proofs.Common.{◌++◌, slice_range, sym, ap, ◌∙◌, LinkType, ethernet_frame, ethernet_head, null_type, loop_type}
 use Rattle.captures.proofs.LinkLaws.{length-range, frame_settled, behind_family}
 use Rattle.captures.proofs.links.settle.Goals as goal
 

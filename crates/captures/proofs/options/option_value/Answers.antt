@@ -1,6 +1,4 @@
-use Rattle.std.proofs.Common.{◌+◌, ◌/◌, ◌*◌, length, min, refl, sym, ap, ◌∙◌, arith, length-drop}
-use Rattle.std.proofs.lemmas.Bool.Decides.{nat_tests}
-use Rattle.captures.specs.Pcapng.{option_value}
+use Rattle.captures.proofs.Common.{◌+◌, ◌/◌, ◌*◌, length, min, refl, sym, ap, ◌∙◌, arith, length-drop, nat_tests, option_value}
 use Rattle.captures.proofs.PcapngLaws.{option_value-none, option_value-end, option_value-found, option_value-later, option_cut, option_next}
 use Rattle.captures.proofs.options.option_value.Goals as goal
 

@@ -1,5 +1,4 @@
-use Rattle.std.proofs.Common.{◌≡◌, length}
-use Rattle.captures.specs.Pcapng.{option_value}
+use Rattle.captures.proofs.Common.{◌≡◌, length, option_value}
 use Rattle.captures.proofs.options.option_value.Given as goal
 
 abbrev pub invariant-loop-rest : goal.invariant-loop-rest

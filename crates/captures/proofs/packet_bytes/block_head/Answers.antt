@@ -1,5 +1,4 @@
-use Rattle.std.proofs.Common.{refl}
-use Rattle.captures.specs.CaptureBytes.{block_head}
+use Rattle.captures.proofs.Common.{refl, block_head}
 use Rattle.captures.proofs.packet_bytes.block_head.Goals as goal
 
 pub returns : goal.returns

@@ -1,5 +1,4 @@
-use Rattle.std.proofs.Common.{refl}
-use Rattle.captures.specs.CaptureBytes.{packet_head}
+use Rattle.captures.proofs.Common.{refl, packet_head}
 use Rattle.captures.proofs.packet_bytes.packet_head.Goals as goal
 
 pub returns : goal.returns

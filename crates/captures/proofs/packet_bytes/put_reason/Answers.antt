@@ -1,7 +1,4 @@
-use Rattle.std.proofs.Common.{◌≡◌, ◌∙◌, ℕ, ◌+◌, List, ◌++◌, length, take, ap, sym, append_assoc, length-append, arith, rules}
-use Rattle.std.specs.Prelude.{codes, decimal, replicate}
-use Rattle.byteorder.specs.Endian.{little_bytes}
-use Rattle.captures.specs.CaptureBytes.{padding, reason_comment, reason_options}
+use Rattle.captures.proofs.Common.{◌≡◌, ◌∙◌, ℕ, ◌+◌, List, ◌++◌, length, take, ap, sym, append_assoc, length-append, arith, rules, codes, decimal, replicate, little_bytes, padding, reason_comment, reason_options}
 use Rattle.captures.proofs.PieceLaws.{five_pieces, same-piece, zeros-take, front-length}
 use Rattle.captures.proofs.packet_bytes.put_reason.Goals as goal
 

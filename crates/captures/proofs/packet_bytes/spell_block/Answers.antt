@@ -1,8 +1,4 @@
-use Rattle.std.proofs.Common.{◌≡◌, ◌∙◌, ℕ, ◌+◌, List, ◌++◌, length, take, ap, arith}
-use Rattle.std.specs.Prelude.{replicate}
-use Rattle.byteorder.specs.Endian.{little_bytes}
-use Rattle.isa_model.specs.Reporting.Streams.{PacketFrame}
-use Rattle.captures.specs.CaptureBytes.{block_head, block_length, named_interface, packet_options, padding}
+use Rattle.captures.proofs.Common.{◌≡◌, ◌∙◌, ℕ, ◌+◌, List, ◌++◌, length, take, ap, arith, replicate, little_bytes, PacketFrame, block_head, block_length, named_interface, packet_options, padding}
 use Rattle.captures.proofs.PieceLaws.{five_pieces, same-piece, zeros-take}
 use Rattle.captures.proofs.packet_bytes.spell_block.Goals as goal
 

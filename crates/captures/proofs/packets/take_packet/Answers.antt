@@ -1,5 +1,4 @@
-use Rattle.std.proofs.Common.{sym, ap, ◌∙◌}
-use Rattle.captures.specs.Links.{interface_of, ethernet_frame}
+use Rattle.captures.proofs.Common.{sym, ap, ◌∙◌, interface_of, ethernet_frame}
 use Rattle.captures.proofs.PacketLaws.{packet_bytes-whole, packet_of-parts}
 use Rattle.captures.proofs.packets.take_packet.Goals as goal
 

@@ -1,8 +1,5 @@
-use Rattle.std.proofs.Common.{[], ◌∷◌, take, Ok, refl, sym, ap, ◌∙◌, arith}
-use Rattle.std.proofs.lemmas.List.{length-take-le}
-use Rattle.captures.specs.Captured.{record_size, record_said}
+use Rattle.captures.proofs.Common.{[], ◌∷◌, take, Ok, refl, sym, ap, ◌∙◌, arith, length-take-le, record_size, record_said, FoundPacket, Unread}
 use Rattle.captures.specs.Packets.{framed_packet, said_with}
-use Rattle.captures.specs.Reading.{FoundPacket, Unread}
 use Rattle.captures.proofs.FindingLaws.{finds_end, finds_fault, finds_said, was_record, was_stopped, was_unread}
 use Rattle.captures.proofs.reader.find_record.Goals as goal
 

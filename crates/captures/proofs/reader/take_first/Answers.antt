@@ -1,9 +1,5 @@
-use Rattle.std.proofs.Common.{◌≡◌, ◌++◌, Ok, length, take, drop, sym, ap, subst, ◌∙◌, arith}
-use Rattle.std.proofs.lemmas.List.{length-take-le, take_at}
-use Rattle.captures.specs.declared.forms.CaptureFormat.{CaptureFormat}
+use Rattle.captures.proofs.Common.{◌≡◌, ◌++◌, Ok, length, take, drop, sym, ap, subst, ◌∙◌, arith, length-take-le, take_at, CaptureFormat, first_offset, IsRecordPart}
 use Rattle.captures.specs.declared.forms.CaptureFormat.TheVariants as formats
-use Rattle.captures.specs.Captured.{first_offset}
-use Rattle.captures.specs.Reading.{IsRecordPart}
 use Rattle.captures.proofs.OpeningLaws.{begun_part}
 use Rattle.captures.proofs.reader.take_first.Goals as goal
 

@@ -1,6 +1,4 @@
-use Rattle.std.proofs.Common.{◌+◌, ◌-◌, ◌/◌, ◌*◌, drop, take, length, min, refl, sym, ap, ◌∙◌, arith, length-drop}
-use Rattle.std.proofs.lemmas.Bool.Decides.{nat_tests}
-use Rattle.captures.specs.Pcapng.{option_reason, padded, reason_in, short_field}
+use Rattle.captures.proofs.Common.{◌+◌, ◌-◌, ◌/◌, ◌*◌, drop, take, length, min, refl, sym, ap, ◌∙◌, arith, length-drop, nat_tests, option_reason, padded, reason_in, short_field}
 use Rattle.captures.proofs.PcapngLaws.{option_next}
 use Rattle.captures.proofs.ReasonLaws.{reason_in-end, reason_in-found, reason_in-later, reason_in-none, value_cut}
 use Rattle.captures.proofs.reasons.reason_in.Goals as goal

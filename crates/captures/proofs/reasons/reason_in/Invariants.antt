@@ -1,5 +1,4 @@
-use Rattle.std.proofs.Common.{◌≡◌, length}
-use Rattle.captures.specs.Pcapng.{reason_in}
+use Rattle.captures.proofs.Common.{◌≡◌, length, reason_in}
 use Rattle.captures.proofs.reasons.reason_in.Given as goal
 
 abbrev pub invariant-loop-rest : goal.invariant-loop-rest

@@ -1,6 +1,4 @@
-use Rattle.std.proofs.Common.{◌≡◌, ◌+◌, ◌*◌, ◌++◌, take}
-use Rattle.std.specs.List.{flat_map}
-use Rattle.captures.specs.Texts.{byte_column}
+use Rattle.captures.proofs.Common.{◌≡◌, ◌+◌, ◌*◌, ◌++◌, take, flat_map, byte_column}
 use Rattle.captures.proofs.rows.put_columns.Given as goal
 
 abbrev pub invariant-loop-byte : goal.invariant-loop-byte

@@ -1,9 +1,5 @@
-use Rattle.std.proofs.Common.{◌≡◌, ◌∙◌, ◌*◌, ◌-◌, ◌/◌, ◌%◌, [], ◌∷◌, length, take, codes, arith}
-use Rattle.std.specs.Prelude.{replicate}
-use Rattle.std.specs.List.{flat_map}
-use Rattle.std.proofs.lemmas.List.{take-replicate}
+use Rattle.captures.proofs.Common.{◌≡◌, ◌∙◌, ◌*◌, ◌-◌, ◌/◌, ◌%◌, [], ◌∷◌, length, take, codes, arith, replicate, flat_map, take-replicate, blank_columns, byte_column, byte_digits, row_line, shown_byte}
 use Rattle.captures.proofs.PieceLaws.{same-piece}
-use Rattle.captures.specs.Texts.{blank_columns, byte_column, byte_digits, row_line, shown_byte}
 use Rattle.captures.proofs.TextsLaws.{nine-pieces, then-piece}
 use Rattle.captures.proofs.rows.spell_row.Goals as goal
 

@@ -1,5 +1,4 @@
-use Rattle.std.proofs.Common.{refl}
-use Rattle.isa_model.specs.Reporting.Streams.{head_bytes}
+use Rattle.captures.proofs.Common.{refl, head_bytes}
 use Rattle.captures.proofs.spelling.record_head.Goals as goal
 
 pub returns : goal.returns

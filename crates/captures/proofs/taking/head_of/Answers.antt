@@ -1,7 +1,4 @@
-use Rattle.std.proofs.Common.{◌≡◌, arith, ◌∙◌, rules}
-use Rattle.byteorder.specs.Endian.{little_from}
-use Rattle.isa_model.specs.declared.versions.Version.TheVariants.{One, Two}
-use Rattle.isa_model.specs.Reporting.Streams.{head_bytes}
+use Rattle.captures.proofs.Common.{◌≡◌, arith, ◌∙◌, rules, little_from, One, Two, head_bytes}
 use Rattle.isa_model.specs.Code.EachByte.{EachByte}
 use Rattle.frames.proofs.HeadNumbers.{little_from-behind, little_bytes-four, little_bytes-five}
 use Rattle.captures.proofs.taking.head_of.Goals as goal

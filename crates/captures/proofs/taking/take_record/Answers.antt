@@ -1,6 +1,4 @@
-use Rattle.std.proofs.Common.{◌≡◌, ◌∙◌, ℕ, ◌-◌, List, ◌++◌, length, take, drop, ap, sym, arith, length-drop, take-append-drop}
-use Rattle.std.proofs.lemmas.List.{take_all}
-use Rattle.isa_model.specs.Reporting.Streams.{head_bytes}
+use Rattle.captures.proofs.Common.{◌≡◌, ◌∙◌, ℕ, ◌-◌, List, ◌++◌, length, take, drop, ap, sym, arith, length-drop, take-append-drop, take_all, head_bytes}
 use Rattle.captures.proofs.WritingLaws.{fails-unwritten, takes-record}
 use Rattle.captures.proofs.taking.take_record.Goals as goal
 

@@ -1,7 +1,4 @@
-use Rattle.std.proofs.Common.{◌≡◌, ◌∙◌, ℕ, ◌+◌, ap}
-use Rattle.std.specs.Prelude.{max}
-use Rattle.isa_model.specs.Reporting.Streams.{PacketFrame}
-use Rattle.captures.specs.CaptureBytes.{named_interface, packet_block}
+use Rattle.captures.proofs.Common.{◌≡◌, ◌∙◌, ℕ, ◌+◌, ap, max, PacketFrame, named_interface, packet_block}
 use Rattle.captures.proofs.WritingLaws.{failed-block, written-block}
 use Rattle.captures.proofs.taking.write_block.Goals as goal
 

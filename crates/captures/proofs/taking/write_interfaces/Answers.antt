@@ -1,7 +1,4 @@
-use Rattle.std.proofs.Common.{subst, arith}
-use Rattle.std.specs.Io.KnownBytes.{Appends}
-use Rattle.std.proofs.KnownBytes.{Appends-nil, Appends-trans}
-use Rattle.captures.specs.CaptureBytes.{interface_block, interface_blocks}
+use Rattle.captures.proofs.Common.{subst, arith, Appends, Appends-nil, Appends-trans, interface_block, interface_blocks}
 use Rattle.captures.proofs.PieceLaws.{interface_blocks-next, interface_blocks-part}
 use Rattle.captures.proofs.taking.write_interfaces.Goals as goal
 

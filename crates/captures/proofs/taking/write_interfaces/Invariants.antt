@@ -1,5 +1,4 @@
-use Rattle.std.specs.Io.KnownBytes.{Appends}
-use Rattle.captures.specs.CaptureBytes.{interface_blocks}
+use Rattle.captures.proofs.Common.{Appends, interface_blocks}
 use Rattle.captures.proofs.taking.write_interfaces.Given as goal
 
 abbrev pub invariant-loop : goal.invariant-loop

@@ -1,7 +1,5 @@
-use Rattle.std.proofs.Common.{◌∙◌, codes}
-use Rattle.std.specs.Prelude.{decimal}
+use Rattle.captures.proofs.Common.{◌∙◌, codes, decimal, head_line, reason_text}
 use Rattle.captures.proofs.PieceLaws.{same-piece}
-use Rattle.captures.specs.Texts.{head_line, reason_text}
 use Rattle.captures.proofs.TextsLaws.{eight-pieces, then-piece}
 use Rattle.captures.proofs.texts.spell_head.Goals as goal
 

@@ -1,7 +1,4 @@
-use Rattle.std.proofs.Common.{◌∙◌, ◌*◌, ap, arith, refl, subst, sym}
-use Rattle.std.specs.Io.KnownBytes.{Appends}
-use Rattle.std.proofs.KnownBytes.{Appends-nil}
-use Rattle.captures.specs.Texts.{row_count, row_line}
+use Rattle.captures.proofs.Common.{◌∙◌, ◌*◌, ap, arith, refl, subst, sym, Appends, Appends-nil, row_count, row_line}
 use Rattle.captures.proofs.TextsLaws.{row-piece, rows-more, rows-part, rows_text-none}
 use Rattle.captures.proofs.texts.write_rows.Goals as goal
 

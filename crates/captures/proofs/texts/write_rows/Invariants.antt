@@ -1,5 +1,4 @@
-use Rattle.std.specs.Io.KnownBytes.{Appends}
-use Rattle.captures.specs.Texts.{rows_text}
+use Rattle.captures.proofs.Common.{Appends, rows_text}
 use Rattle.captures.proofs.texts.write_rows.Given as goal
 
 abbrev pub invariant-rows : goal.invariant-rows

@@ -1,6 +1,5 @@
-use Rattle.std.proofs.Common.{◌≡◌, drop}
+use Rattle.checked_vm.proofs.Common.{◌≡◌, drop, is_piece}
 use Rattle.std.specs.List.{list_all, enumerate_from}
-use Rattle.isa_model.specs.Machine.Memory.{is_piece}
 use Rattle.checked_vm.proofs.cells.has_only_pieces.Given as goal
 
 abbrev pub invariant-loop-k : goal.invariant-loop-k

@@ -1,6 +1,4 @@
-use Rattle.std.proofs.Common.{◌≡◌, ◌<◌, ℕ, length, map}
-use Rattle.std.specs.Prelude.{slice_index, slice_index_or}
-use Rattle.isa_model.specs.Machine.Memory.{byte_in}
+use Rattle.checked_vm.proofs.Common.{◌≡◌, ◌<◌, ℕ, length, map, slice_index, slice_index_or, byte_in}
 use Rattle.checked_vm.proofs.cells.put_number_bytes.Given as goal
 
 abbrev pub invariant-loop-k : goal.invariant-loop-k

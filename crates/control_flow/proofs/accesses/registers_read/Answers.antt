@@ -1,9 +1,4 @@
-use Rattle.std.proofs.Common.{List, ◌∙◌, sym, subst, rules}
-use Rattle.std.specs.Prelude.{◌↔◌}
-use Rattle.isa_model.specs.declared.registers.Reg.{Reg}
-use Rattle.isa_model.specs.MustAccept.Paths.{IsOneOf}
-use Rattle.control_flow.specs.declared.masks.RegisterMask.{RegisterMask}
-use Rattle.control_flow.specs.Masks.{HasRegister}
+use Rattle.control_flow.proofs.Common.{List, ◌∙◌, sym, subst, rules, ◌↔◌, Reg, IsOneOf, RegisterMask, HasRegister}
 use Rattle.control_flow.proofs.MaskLemmas.{none_has}
 use Rattle.control_flow.proofs.Reading.{read_others, among-with}
 use Rattle.control_flow.proofs.accesses.registers_read.Goals as goal

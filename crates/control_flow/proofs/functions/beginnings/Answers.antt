@@ -1,5 +1,4 @@
-use Rattle.std.proofs.Common.{◌≡◌, length, arith, sym}
-use Rattle.control_flow.specs.Graph.{call_to}
+use Rattle.control_flow.proofs.Common.{◌≡◌, length, arith, sym, call_to}
 use Rattle.control_flow.proofs.FunctionsLaws.{MarksFunctions-below}
 use Rattle.control_flow.proofs.TargetTests.{call-inside}
 use Rattle.control_flow.proofs.MarkLemmas.{marks_more_none, marks_more_some}

@@ -1,5 +1,4 @@
-use Rattle.std.proofs.Common.{◌≡◌, length}
-use Rattle.control_flow.specs.Graph.{call_to}
+use Rattle.control_flow.proofs.Common.{◌≡◌, length, call_to}
 use Rattle.control_flow.proofs.MarkLemmas.{MarksBelow}
 use Rattle.control_flow.proofs.functions.beginnings.Given as goal
 

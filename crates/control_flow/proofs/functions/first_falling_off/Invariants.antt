@@ -1,6 +1,4 @@
-use Rattle.std.proofs.Common.{ℕ, ◌<◌}
-use Rattle.control_flow.specs.declared.errors.FlowError.TheVariants.{FallsOff}
-use Rattle.control_flow.specs.Flows.{Fails}
+use Rattle.control_flow.proofs.Common.{ℕ, ◌<◌, FallsOff, Fails}
 use Rattle.control_flow.proofs.functions.first_falling_off.Given as goal
 
 abbrev pub invariant-loop-slot : goal.invariant-loop-slot

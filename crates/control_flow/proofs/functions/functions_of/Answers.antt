@@ -1,5 +1,4 @@
-use Rattle.std.proofs.Common.{◌≡◌, ◌<◌, false, length, get_or, ◌∙◌, arith}
-use Rattle.std.proofs.lemmas.Bool.{both_ways}
+use Rattle.control_flow.proofs.Common.{◌≡◌, ◌<◌, false, length, get_or, ◌∙◌, arith, both_ways}
 use Rattle.control_flow.proofs.MarkLemmas.{read_at}
 use Rattle.control_flow.proofs.FunctionsLaws.{functions_more_new, functions_more_old}
 use Rattle.control_flow.proofs.functions.functions_of.Goals as goal

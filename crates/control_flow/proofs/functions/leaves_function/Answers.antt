@@ -1,6 +1,5 @@
-use Rattle.std.proofs.Common.{◌<◌, ◌≤◌, length, sym, arith, get_or, not, nat_eq}
+use Rattle.control_flow.proofs.Common.{◌<◌, ◌≤◌, length, sym, arith, get_or, not, nat_eq, SameFunction}
 use Rattle.isa_model.specs.Code.Limits.{max_slots}
-use Rattle.control_flow.specs.Functions.{SameFunction}
 use Rattle.control_flow.proofs.TargetTests.{from_some, jump-inside}
 use Rattle.control_flow.proofs.FunctionsLaws.{differ}
 use Rattle.control_flow.proofs.functions.leaves_function.Goals as goal

@@ -1,5 +1,4 @@
-use Rattle.std.proofs.Common.{arith}
-use Rattle.control_flow.specs.Nodes.{HasEdges}
+use Rattle.control_flow.proofs.Common.{arith, HasEdges}
 use Rattle.control_flow.proofs.Graphs.{nodes_more, nodes_all}
 use Rattle.control_flow.proofs.kept_numbers.keeping_nodes.Goals as goal
 

@@ -1,5 +1,4 @@
-use Rattle.control_flow.specs.Masks.{HasHome}
-use Rattle.std.proofs.Common.{subst}
+use Rattle.control_flow.proofs.Common.{HasHome, subst}
 use Rattle.control_flow.proofs.KeptMasks.{AreWithinBelow-start, AreWithinBelow-more}
 use Rattle.control_flow.proofs.Graphs.{jump_from-stays, nodes_near}
 use Rattle.control_flow.proofs.kept_numbers.kept_numbers.Goals as goal

@@ -1,4 +1,4 @@
-use Rattle.std.specs.Prelude.{IsTrue}
+use Rattle.std.proofs.Common.{IsTrue}
 use Rattle.control_flow.proofs.KeptMasks.{AreWithinBelow}
 use Rattle.control_flow.proofs.kept_numbers.kept_numbers.Given as goal
 

@@ -1,6 +1,4 @@
-use Rattle.std.proofs.lemmas.Result.{IfOk-weaker}
-use Rattle.control_flow.specs.Flows.{AreLiveMasks}
-use Rattle.control_flow.specs.Nodes.{AreWantedMasks}
+use Rattle.control_flow.proofs.Common.{IfOk-weaker, AreLiveMasks, AreWantedMasks}
 use Rattle.control_flow.proofs.Graphs.{reading_edges, jump_from-stays, nodes_near}
 use Rattle.control_flow.proofs.WantedPaths.{AreWantedMasks-live}
 use Rattle.control_flow.proofs.liveness.live_homes.Goals as goal

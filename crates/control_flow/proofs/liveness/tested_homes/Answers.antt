@@ -1,6 +1,4 @@
-use Rattle.std.proofs.lemmas.Result.{IfOk-weaker}
-use Rattle.control_flow.specs.Flows.{AreTestedMasks}
-use Rattle.control_flow.specs.Nodes.{AreWantedMasks}
+use Rattle.control_flow.proofs.Common.{IfOk-weaker, AreTestedMasks, AreWantedMasks}
 use Rattle.control_flow.proofs.Graphs.{testing_edges, jump_from-stays, nodes_near}
 use Rattle.control_flow.proofs.WantedPaths.{AreWantedMasks-tested}
 use Rattle.control_flow.proofs.liveness.tested_homes.Goals as goal

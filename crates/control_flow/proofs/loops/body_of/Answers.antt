@@ -1,5 +1,4 @@
-use Rattle.std.proofs.Common.{◌≡◌, Some}
-use Rattle.control_flow.specs.Nodes.{ComesFrom}
+use Rattle.control_flow.proofs.Common.{◌≡◌, Some, ComesFrom}
 use Rattle.control_flow.proofs.LoopBodies.{IsInside-extended, IsInside-rest, IsInside-top}
 use Rattle.control_flow.proofs.loops.body_of.Goals as goal
 use Rattle.control_flow.proofs.loops.body_of.Goals.{then-leads_back_to+in_ok-find-2, else-leads_back_to}

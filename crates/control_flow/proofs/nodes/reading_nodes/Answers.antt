@@ -1,5 +1,4 @@
-use Rattle.std.proofs.Common.{arith}
-use Rattle.control_flow.specs.Nodes.{ShowsReads}
+use Rattle.control_flow.proofs.Common.{arith, ShowsReads}
 use Rattle.control_flow.proofs.Graphs.{nodes_more, nodes_all}
 use Rattle.control_flow.proofs.nodes.reading_nodes.Goals as goal
 

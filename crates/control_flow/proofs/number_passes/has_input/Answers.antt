@@ -1,6 +1,4 @@
-use Rattle.std.proofs.Common.{arith}
-use Rattle.std.proofs.lemmas.Bool.{iff_false}
-use Rattle.control_flow.specs.TestedNumbers.{TakesInputAt}
+use Rattle.control_flow.proofs.Common.{arith, iff_false, TakesInputAt}
 use Rattle.control_flow.proofs.TargetTests.{none_more}
 use Rattle.control_flow.proofs.InputLaws.{none_takes_input}
 use Rattle.control_flow.proofs.number_passes.has_input.Goals as goal

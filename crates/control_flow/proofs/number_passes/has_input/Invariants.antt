@@ -1,5 +1,4 @@
-use Rattle.std.proofs.Common.{ℕ, ◌<◌}
-use Rattle.control_flow.specs.TestedNumbers.{TakesInputAt}
+use Rattle.control_flow.proofs.Common.{ℕ, ◌<◌, TakesInputAt}
 use Rattle.control_flow.proofs.number_passes.has_input.Given as goal
 
 abbrev pub invariant-loop-slot : goal.invariant-loop-slot

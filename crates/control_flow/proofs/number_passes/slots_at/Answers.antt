@@ -1,6 +1,4 @@
-use Rattle.std.proofs.Common.{rules}
-use Rattle.std.specs.Prelude.{IsTrue}
-use Rattle.control_flow.specs.Masks.{HasSlot}
+use Rattle.control_flow.proofs.Common.{rules, IsTrue, HasSlot}
 use Rattle.control_flow.proofs.StackPlaces.{within_below, based_slots}
 use Rattle.control_flow.proofs.number_passes.slots_at.Goals as goal
 

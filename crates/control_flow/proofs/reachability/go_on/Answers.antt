@@ -1,5 +1,4 @@
-use Rattle.std.proofs.Common.{sym, ◌∙◌, subst, ◌<◌, ℕ}
-use Rattle.control_flow.specs.Graph.{Falls, Jumps, Calls}
+use Rattle.control_flow.proofs.Common.{sym, ◌∙◌, subst, ◌<◌, ℕ, Falls, Jumps, Calls}
 use Rattle.control_flow.proofs.SlotSearch.{Extends-leads}
 use Rattle.control_flow.proofs.reachability.go_on.Goals as goal
 

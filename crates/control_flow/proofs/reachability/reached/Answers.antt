@@ -1,5 +1,4 @@
-use Rattle.std.proofs.Common.{◌≡◌, length, arith}
-use Rattle.control_flow.specs.Graph.{HasEdge, Reached}
+use Rattle.control_flow.proofs.Common.{◌≡◌, length, arith, HasEdge, Reached}
 use Rattle.control_flow.proofs.SlotSearch.{IsSearch-inside, IsReaching-start, IsReaching-next, IsReaching-end}
 use Rattle.control_flow.proofs.reachability.reached.Goals as goal
 

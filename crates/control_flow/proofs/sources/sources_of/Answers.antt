@@ -1,6 +1,4 @@
-use Rattle.std.proofs.Common.{◌≡◌, ◌<◌, Some, None, length, arith, sym, ◌∙◌}
-use Rattle.std.proofs.lemmas.Option.{slice_get-get_or}
-use Rattle.control_flow.specs.Nodes.{jump_from}
+use Rattle.control_flow.proofs.Common.{◌≡◌, ◌<◌, Some, None, length, arith, sym, ◌∙◌, slice_get-get_or, jump_from}
 use Rattle.control_flow.proofs.MarkLemmas.{read_at}
 use Rattle.control_flow.proofs.Graphs.{node-jump_from}
 use Rattle.control_flow.proofs.Chains.{sources_more_none, sources_more_some, AreSources-below}

@@ -1,7 +1,4 @@
-use Rattle.std.proofs.Common.{◌≡◌, ℕ, Some, sym, subst}
-use Rattle.std.specs.Prelude.{◌↔◌}
-use Rattle.isa_model.specs.declared.instructions.Insn.{Insn}
-use Rattle.control_flow.specs.StackUse.{ReadsSlot}
+use Rattle.control_flow.proofs.Common.{◌≡◌, ℕ, Some, sym, subst, ◌↔◌, Insn, ReadsSlot}
 use Rattle.control_flow.proofs.stack_accesses.slot_read.Goals as goal
 
 pub returns-in-Load : goal.returns-in-Load

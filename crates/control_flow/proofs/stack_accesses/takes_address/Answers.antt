@@ -1,6 +1,4 @@
-use Rattle.std.specs.Prelude.{IsTrue}
-use Rattle.isa_model.specs.declared.registers.Reg.TheVariants.{R10}
-use Rattle.control_flow.specs.Masks.{HasRegister}
+use Rattle.control_flow.proofs.Common.{IsTrue, R10, HasRegister}
 use Rattle.control_flow.proofs.StackUses.{others_take_address}
 use Rattle.control_flow.proofs.stack_accesses.takes_address.Goals as goal
 

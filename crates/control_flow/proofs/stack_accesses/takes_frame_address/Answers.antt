@@ -1,6 +1,4 @@
-use Rattle.std.proofs.Common.{arith}
-use Rattle.std.proofs.lemmas.Bool.{iff_false}
-use Rattle.control_flow.specs.StackUse.{TakesFrameAddressAt}
+use Rattle.control_flow.proofs.Common.{arith, iff_false, TakesFrameAddressAt}
 use Rattle.control_flow.proofs.TargetTests.{none_more}
 use Rattle.control_flow.proofs.StackUses.{none_takes}
 use Rattle.control_flow.proofs.stack_accesses.takes_frame_address.Goals as goal

@@ -1,5 +1,4 @@
-use Rattle.std.proofs.Common.{ℕ, ◌<◌}
-use Rattle.control_flow.specs.StackUse.{TakesFrameAddressAt}
+use Rattle.control_flow.proofs.Common.{ℕ, ◌<◌, TakesFrameAddressAt}
 use Rattle.control_flow.proofs.stack_accesses.takes_frame_address.Given as goal
 
 abbrev pub invariant-loop-slot : goal.invariant-loop-slot

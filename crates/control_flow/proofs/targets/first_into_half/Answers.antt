@@ -1,7 +1,4 @@
-use Rattle.std.proofs.Common.{arith}
-use Rattle.std.proofs.lemmas.Bool.{iff_false}
-use Rattle.control_flow.specs.declared.errors.FlowError.TheVariants.{SecondHalf}
-use Rattle.control_flow.specs.Flows.{Fails}
+use Rattle.control_flow.proofs.Common.{arith, iff_false, SecondHalf, Fails}
 use Rattle.control_flow.proofs.TargetTests.{none_more, none_at_all}
 use Rattle.control_flow.proofs.targets.first_into_half.Goals as goal
 

@@ -1,6 +1,4 @@
-use Rattle.std.proofs.Common.{ℕ, ◌<◌}
-use Rattle.control_flow.specs.declared.errors.FlowError.TheVariants.{SecondHalf}
-use Rattle.control_flow.specs.Flows.{Fails}
+use Rattle.control_flow.proofs.Common.{ℕ, ◌<◌, SecondHalf, Fails}
 use Rattle.control_flow.proofs.targets.first_into_half.Given as goal
 
 abbrev pub invariant-loop-slot : goal.invariant-loop-slot

@@ -1,6 +1,4 @@
-use Rattle.std.proofs.Common.{ℕ, ◌<◌}
-use Rattle.control_flow.specs.declared.errors.FlowError.TheVariants.{TargetOutside}
-use Rattle.control_flow.specs.Flows.{Fails}
+use Rattle.control_flow.proofs.Common.{ℕ, ◌<◌, TargetOutside, Fails}
 use Rattle.control_flow.proofs.targets.first_outside.Given as goal
 
 abbrev pub invariant-loop-slot : goal.invariant-loop-slot

@@ -1,5 +1,4 @@
-use Rattle.std.proofs.Common.{length, arith, sym}
-use Rattle.control_flow.specs.Graph.{jump_to}
+use Rattle.control_flow.proofs.Common.{length, arith, sym, jump_to}
 use Rattle.control_flow.proofs.TargetTests.{jump-inside}
 use Rattle.control_flow.proofs.MarkLemmas.{marks_more_none, marks_more_some, MarksJoins-below}
 use Rattle.control_flow.proofs.targets.joins_of.Goals as goal

@@ -1,5 +1,4 @@
-use Rattle.std.proofs.Common.{length}
-use Rattle.control_flow.specs.Graph.{jump_to}
+use Rattle.control_flow.proofs.Common.{length, jump_to}
 use Rattle.control_flow.proofs.MarkLemmas.{MarksBelow}
 use Rattle.control_flow.proofs.targets.joins_of.Given as goal
 

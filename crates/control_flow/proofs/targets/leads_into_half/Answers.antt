@@ -1,7 +1,4 @@
-use Rattle.std.proofs.Common.{arith, not, nat_lt}
-use Rattle.std.proofs.lemmas.Bool.{ltb-true}
-use Rattle.control_flow.specs.Graph.{IsSecondHalf}
-use Rattle.control_flow.specs.Flows.{HasTarget}
+use Rattle.control_flow.proofs.Common.{arith, not, nat_lt, ltb-true, IsSecondHalf, HasTarget}
 use Rattle.control_flow.proofs.TargetTests.{at_some, at_none, half_test}
 use Rattle.control_flow.proofs.targets.leads_into_half.Goals as goal
 

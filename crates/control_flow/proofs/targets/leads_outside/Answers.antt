@@ -1,6 +1,4 @@
-use Rattle.std.proofs.Common.{◌≤◌, length, arith, nat_le}
-use Rattle.std.proofs.lemmas.Bool.{leb-true, le-leb}
-use Rattle.control_flow.specs.Flows.{HasTarget}
+use Rattle.control_flow.proofs.Common.{◌≤◌, length, arith, nat_le, leb-true, le-leb, HasTarget}
 use Rattle.control_flow.proofs.TargetTests.{at_some, at_none}
 use Rattle.control_flow.proofs.targets.leads_outside.Goals as goal
 

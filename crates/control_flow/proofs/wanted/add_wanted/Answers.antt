@@ -1,6 +1,4 @@
-use Rattle.std.proofs.Common.{sym, ◌∙◌, arith}
-use Rattle.std.proofs.lemmas.Option.{slice_get-get_or}
-use Rattle.control_flow.specs.Masks.{mask_at}
+use Rattle.control_flow.proofs.Common.{sym, ◌∙◌, arith, slice_get-get_or, mask_at}
 use Rattle.control_flow.proofs.MaskUpdates.{mask_grown, masks_apart}
 use Rattle.control_flow.proofs.wanted.add_wanted.Goals as goal
 

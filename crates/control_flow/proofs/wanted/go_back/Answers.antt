@@ -1,5 +1,4 @@
-use Rattle.std.proofs.Common.{◌≡◌, ◌<◌, ℕ, Option, None, length, get_or, sym, subst, arith}
-use Rattle.std.proofs.lemmas.Option.{same_Some}
+use Rattle.control_flow.proofs.Common.{◌≡◌, ◌<◌, ℕ, Option, None, length, get_or, sym, subst, arith, same_Some}
 use Rattle.control_flow.specs.Sources.{IsLastBelow, HasJump}
 use Rattle.control_flow.proofs.MarkLemmas.{read_at}
 use Rattle.control_flow.proofs.Graphs.{jump_from-inside}

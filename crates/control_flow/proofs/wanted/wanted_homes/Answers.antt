@@ -1,7 +1,4 @@
-use Rattle.std.proofs.Common.{◌≡◌, ◌<◌, false, List, length, set, replicate, refl, sym, subst, arith, inl, inr}
-use Rattle.control_flow.specs.declared.homes.HomeMask.{HomeMask}
-use Rattle.control_flow.specs.Nodes.{AddsAt, ComesFrom}
-use Rattle.control_flow.specs.Searches.{Extends}
+use Rattle.control_flow.proofs.Common.{◌≡◌, ◌<◌, false, List, length, set, replicate, refl, sym, subst, arith, inl, inr, HomeMask, AddsAt, ComesFrom, Extends}
 use Rattle.control_flow.proofs.SlotSearch.{Extends-none}
 use Rattle.control_flow.proofs.Working.{IsWorking, working_start, working_inside, working_next, working_end, written_back}
 use Rattle.control_flow.proofs.wanted.wanted_homes.Goals as goal

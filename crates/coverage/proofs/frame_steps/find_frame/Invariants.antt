@@ -1,7 +1,4 @@
-use Rattle.std.proofs.Common.{◌≡◌, List, length}
-use Rattle.isa_model.specs.Reporting.Streams.{PacketFrame}
-use Rattle.isa_model.specs.Reporting.Reports.{checked_rule, contents_after}
-use Rattle.frames.proofs.InputsLaws.{HasBegun}
+use Rattle.coverage.proofs.Common.{◌≡◌, List, length, PacketFrame, checked_rule, contents_after, HasBegun}
 use Rattle.coverage.proofs.frame_steps.find_frame.Given as goal
 
 abbrev pub invariant-loop-before : goal.invariant-loop-before

@@ -1,6 +1,4 @@
-use Rattle.std.proofs.Common.{◌≡◌, ℕ, ◌+◌, List, nat_lt, count_by}
-use Rattle.coverage.specs.Counted.{CountsExactly}
-use Rattle.coverage.specs.Ranks.{is_number}
+use Rattle.coverage.proofs.Common.{◌≡◌, ℕ, ◌+◌, List, nat_lt, count_by, CountsExactly, is_number}
 use Rattle.coverage.proofs.ranks.ranked.Given as goal
 
 abbrev pub invariant-loop-number : goal.invariant-loop-number

@@ -1,6 +1,4 @@
-use Rattle.std.proofs.Common.{◌≡◌, ℕ, ◌-◌, ◌/◌, ◌<◌, length, subst, arith}
-use Rattle.std.proofs.lemmas.List.{nil_from_length}
-use Rattle.coverage.specs.Ranks.{HasRank}
+use Rattle.coverage.proofs.Common.{◌≡◌, ℕ, ◌-◌, ◌/◌, ◌<◌, length, subst, arith, nil_from_length, HasRank}
 use Rattle.coverage.proofs.ranks.step_numbers.Goals as goal
 
 pub returns-then-count-eq0 : goal.returns-then-count-eq0

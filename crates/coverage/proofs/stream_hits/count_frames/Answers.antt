@@ -1,8 +1,5 @@
-use Rattle.std.proofs.Common.{◌≡◌, [], ◌∷◌, ◌++◌, refl, sym, ap, ◌∙◌, subst, rules, arith}
+use Rattle.coverage.proofs.Common.{◌≡◌, [], ◌∷◌, ◌++◌, refl, sym, ap, ◌∙◌, subst, rules, arith, Program, stream_with, HasBegun-open, HasBegun-stopped}
 use Rattle.isa_model.specs.declared.streams.Finish.TheVariants as finish
-use Rattle.isa_model.specs.Code.Instructions.{Program}
-use Rattle.isa_model.specs.Reporting.Streams.{stream_with}
-use Rattle.frames.proofs.InputsLaws.{HasBegun-open, HasBegun-stopped}
 use Rattle.coverage.proofs.FrameLoop.{begun_by, more_begun, early_frame, more_numbered, more_carried}
 use Rattle.coverage.proofs.stream_hits.count_frames.Goals as goal
 

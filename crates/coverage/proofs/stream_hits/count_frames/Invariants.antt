@@ -1,9 +1,4 @@
-use Rattle.std.proofs.Common.{◌≡◌, ◌-◌, List, length}
-use Rattle.isa_model.specs.declared.versions.Version.{Version}
-use Rattle.isa_model.specs.Reporting.Streams.{PacketFrame}
-use Rattle.isa_model.specs.Reporting.Reports.{checked_rule, contents_after}
-use Rattle.frames.proofs.InputsLaws.{HasBegun}
-use Rattle.coverage.specs.Hits.{HasCountedFrames}
+use Rattle.coverage.proofs.Common.{◌≡◌, ◌-◌, List, length, Version, PacketFrame, checked_rule, contents_after, HasBegun, HasCountedFrames}
 use Rattle.coverage.proofs.stream_hits.count_frames.Given as goal
 
 abbrev pub invariant-frames : goal.invariant-frames

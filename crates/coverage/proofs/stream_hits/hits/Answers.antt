@@ -1,11 +1,6 @@
-use Rattle.std.proofs.Common.{◌≡◌, ℕ, ◌+◌, List, [], length, replicate, refl, sym, ap, ◌∙◌, subst}
-use Rattle.std.proofs.lemmas.List.{length-replicate}
-use Rattle.isa_model.specs.Code.Instructions.{Program}
-use Rattle.isa_model.specs.Machine.States.{KeyValues}
+use Rattle.coverage.proofs.Common.{◌≡◌, ℕ, ◌+◌, List, [], length, replicate, refl, sym, ap, ◌∙◌, subst, length-replicate, Program, KeyValues, CountsModulo, takes, ends_by}
 use Rattle.checked_vm.specs.Machines.{LoadedProgram}
 use Rattle.coverage.specs.Found.{HasCountedStream}
-use Rattle.coverage.specs.Counted.{CountsModulo}
-use Rattle.coverage.specs.Hits.{takes, ends_by}
 use Rattle.coverage.proofs.CountedLaws.{CountsModulo-none}
 use Rattle.coverage.proofs.HitsLaws.{CountsFrames-few}
 use Rattle.coverage.proofs.stream_hits.hits.Goals as goal

@@ -1,9 +1,5 @@
-use Rattle.std.proofs.Common.{◌≡◌, ℕ, [], ◌∷◌, ◌++◌, refl, sym, ap, ◌∙◌, subst}
-use Rattle.isa_model.specs.declared.ends.End.{End}
-use Rattle.checked_vm.specs.Watching.{begun_on}
+use Rattle.coverage.proofs.Common.{◌≡◌, ℕ, [], ◌∷◌, ◌++◌, refl, sym, ap, ◌∙◌, subst, End, begun_on, states_in, HasCounted}
 use Rattle.coverage.specs.declared.slot_hits.SlotHits.{SlotHits}
-use Rattle.coverage.specs.Runs.{states_in}
-use Rattle.coverage.specs.Hits.{HasCounted}
 use Rattle.coverage.proofs.HitsLaws.{HasCountedFrames-run}
 use Rattle.coverage.proofs.stream_hits.run_frame.Goals as goal
 

@@ -1,9 +1,5 @@
-use Rattle.std.proofs.Common.{◌≡◌, ℕ, [], ◌∷◌, ◌++◌, if◌then◌else◌, not, refl, sym, ap, subst}
+use Rattle.coverage.proofs.Common.{◌≡◌, ℕ, [], ◌∷◌, ◌++◌, if◌then◌else◌, not, refl, sym, ap, subst, PacketFrame, checked_rule, begun_on, HasCountedFrames}
 use Rattle.std.proofs.lemmas.Bool.{eq-eqb, ne_eqb}
-use Rattle.isa_model.specs.Reporting.Streams.{PacketFrame}
-use Rattle.isa_model.specs.Reporting.Reports.{checked_rule}
-use Rattle.checked_vm.specs.Watching.{begun_on}
-use Rattle.coverage.specs.Hits.{HasCountedFrames}
 use Rattle.coverage.proofs.HitsLaws.{HasCountedFrames-skip}
 use Rattle.coverage.proofs.stream_hits.take_frame.Goals as goal
 

@@ -1,8 +1,5 @@
 use Rattle.std.proofs.KnownBytes.{Appends-trans}
-use Rattle.isa_model.specs.Text.CanonicalText.{version_line, canonical_text}
-use Rattle.exact_io.proofs.TransferLaws.{AppendsBeginning-first, AppendsBeginning-second}
-use Rattle.disassembler.specs.SlotText.{unversioned_text}
-use Rattle.image.proofs.Writing.{on_err}
+use Rattle.disassembler.proofs.Common.{version_line, canonical_text, AppendsBeginning-first, AppendsBeginning-second, unversioned_text, on_err}
 use Rattle.disassembler.proofs.text.disassemble.Goals as goal
 
 pub returns-in_err-write_version-clause-err : goal.returns-in_err-write_version-clause-err

@@ -1,6 +1,4 @@
-use Rattle.disassembler.specs.SlotText.{slot_text}
-use Rattle.std.specs.Prelude.{Some, None}
-use Rattle.image.proofs.Writing.{on_err}
+use Rattle.disassembler.proofs.Common.{slot_text, Some, None, on_err}
 use Rattle.disassembler.proofs.Written.{text_failed}
 use Rattle.disassembler.proofs.text.write_code.Goals as goal
 

@@ -1,7 +1,4 @@
-use Rattle.std.proofs.Common.{take}
-use Rattle.std.specs.List.{flat_map}
-use Rattle.std.specs.Io.KnownBytes.{Appends}
-use Rattle.disassembler.specs.SlotText.{slot_text}
+use Rattle.disassembler.proofs.Common.{take, flat_map, Appends, slot_text}
 use Rattle.disassembler.proofs.text.write_code.Given as goal
 
 abbrev pub invariant-loop-slot : goal.invariant-loop-slot

@@ -1,8 +1,6 @@
 use Rattle.std.proofs.KnownBytes.{Appends-trans}
-use Rattle.isa_model.specs.Text.CanonicalText.{rows_text, code_text, instructions}
-use Rattle.exact_io.proofs.TransferLaws.{AppendsBeginning-first, AppendsBeginning-second}
+use Rattle.disassembler.proofs.Common.{rows_text, code_text, instructions, AppendsBeginning-first, AppendsBeginning-second, on_err}
 use Rattle.disassembler.proofs.SlotTextLaws.{slot_text-code}
-use Rattle.image.proofs.Writing.{on_err}
 use Rattle.disassembler.proofs.text.write_program.Goals as goal
 
 pub returns-in_err-write_rows-clause-err : goal.returns-in_err-write_rows-clause-err

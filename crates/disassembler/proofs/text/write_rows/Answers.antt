@@ -1,8 +1,6 @@
-use Rattle.std.proofs.Common.{refl, get_or}
+use Rattle.disassembler.proofs.Common.{refl, get_or, row_line, on_err}
 use Rattle.isa_model.specs.declared.map_defs.MapType.TheVariants.{Hash}
 use Rattle.isa_model.specs.declared.map_defs.MapDef.{MapDef}
-use Rattle.isa_model.specs.Text.CanonicalText.{row_line}
-use Rattle.image.proofs.Writing.{on_err}
 use Rattle.disassembler.proofs.Written.{text_failed}
 use Rattle.disassembler.proofs.text.write_rows.Goals as goal
 

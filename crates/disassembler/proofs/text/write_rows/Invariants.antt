@@ -1,6 +1,4 @@
-use Rattle.std.proofs.Common.{take}
-use Rattle.std.specs.Io.KnownBytes.{Appends}
-use Rattle.isa_model.specs.Text.CanonicalText.{rows_text}
+use Rattle.disassembler.proofs.Common.{take, Appends, rows_text}
 use Rattle.disassembler.proofs.text.write_rows.Given as goal
 
 abbrev pub invariant-loop-row : goal.invariant-loop-row

@@ -1,5 +1,4 @@
-use Rattle.std.proofs.Common.{length, take, ◌-◌, ◌≤◌}
-use Rattle.std.specs.Io.KnownBytes.{Consumes}
+use Rattle.exact_io.proofs.Common.{length, take, ◌-◌, ◌≤◌, Consumes}
 use Rattle.exact_io.proofs.reading.fill.Given as goal
 
 abbrev pub invariant-loop-at : goal.invariant-loop-at

@@ -1,5 +1,4 @@
-use Rattle.std.proofs.Common.{length, take, ◌-◌, ◌≤◌}
-use Rattle.std.specs.Io.KnownBytes.{Appends}
+use Rattle.exact_io.proofs.Common.{length, take, ◌-◌, ◌≤◌, Appends}
 use Rattle.exact_io.proofs.writing.write_bytes.Given as goal
 
 abbrev pub invariant-loop-at : goal.invariant-loop-at

@@ -1,6 +1,4 @@
-use Rattle.std.proofs.Common.{◌∙◌, codes, refl}
-use Rattle.std.specs.Prelude.{decimal}
-use Rattle.stack_state.specs.Meaning.{depth}
+use Rattle.explanations.proofs.Common.{◌∙◌, codes, refl, decimal, depth}
 use Rattle.explanations.proofs.EntryLaws.{differs_by}
 use Rattle.explanations.proofs.differences.frames_mismatch_lines.Goals as goal
 

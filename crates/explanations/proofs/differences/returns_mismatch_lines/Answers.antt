@@ -1,5 +1,4 @@
-use Rattle.std.proofs.Common.{◌∙◌, ◌++◌, ℕ, List, codes, ap}
-use Rattle.explanations.specs.Mismatches.{returns_words, up_words}
+use Rattle.explanations.proofs.Common.{◌∙◌, ◌++◌, ℕ, List, codes, ap, returns_words, up_words}
 use Rattle.explanations.proofs.EntryLaws.{differs_by}
 use Rattle.explanations.proofs.differences.returns_mismatch_lines.Goals as goal
 

@@ -1,5 +1,4 @@
-use Rattle.std.proofs.Common.{◌∙◌}
-use Rattle.explanations.specs.Mismatches.{stack_difference, stack_words}
+use Rattle.explanations.proofs.Common.{◌∙◌, stack_difference, stack_words}
 use Rattle.explanations.proofs.EntryLaws.{differs_by}
 use Rattle.explanations.proofs.differences.stack_mismatch_lines.Goals as goal
 

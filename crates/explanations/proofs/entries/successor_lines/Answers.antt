@@ -1,6 +1,4 @@
-use Rattle.std.proofs.Common.{◌∙◌, [], ap, sym}
-use Rattle.table_entries.specs.Tables.{entry_at}
-use Rattle.table_entries.specs.Entries.{list_of}
+use Rattle.explanations.proofs.Common.{◌∙◌, [], ap, sym, entry_at, list_of}
 use Rattle.explanations.proofs.EntryLaws.{tells_counts, tells_first, tells_second}
 use Rattle.explanations.proofs.entries.successor_lines.Goals as goal
 

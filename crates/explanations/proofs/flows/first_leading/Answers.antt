@@ -1,5 +1,4 @@
-use Rattle.std.proofs.Common.{arith, length}
-use Rattle.explanations.specs.Flows.{first_leading}
+use Rattle.explanations.proofs.Common.{arith, length, first_leading}
 use Rattle.explanations.proofs.Texts.{at_end}
 use Rattle.explanations.proofs.flows.first_leading.Goals as goal
 

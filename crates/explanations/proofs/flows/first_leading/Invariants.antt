@@ -1,5 +1,4 @@
-use Rattle.std.proofs.Common.{◌≡◌}
-use Rattle.explanations.specs.Flows.{first_leading}
+use Rattle.explanations.proofs.Common.{◌≡◌, first_leading}
 use Rattle.explanations.proofs.flows.first_leading.Given as goal
 
 abbrev pub invariant-loop-slot : goal.invariant-loop-slot

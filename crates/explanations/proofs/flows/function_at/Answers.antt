@@ -1,5 +1,4 @@
-use Rattle.std.proofs.Common.{arith, length}
-use Rattle.explanations.specs.Flows.{function_at}
+use Rattle.explanations.proofs.Common.{arith, length, function_at}
 use Rattle.explanations.proofs.Texts.{at_end}
 use Rattle.explanations.proofs.flows.function_at.Goals as goal
 

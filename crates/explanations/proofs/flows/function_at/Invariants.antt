@@ -1,5 +1,4 @@
-use Rattle.std.proofs.Common.{◌≡◌}
-use Rattle.explanations.specs.Flows.{function_at}
+use Rattle.explanations.proofs.Common.{◌≡◌, function_at}
 use Rattle.explanations.proofs.flows.function_at.Given as goal
 
 abbrev pub invariant-loop-from : goal.invariant-loop-from

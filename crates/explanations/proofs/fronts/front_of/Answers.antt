@@ -1,5 +1,4 @@
-use Rattle.std.proofs.Common.{◌≡◌, ℕ, length, ap, ◌∙◌, sym, arith}
-use Rattle.stack_state.specs.declared.states.State.{State}
+use Rattle.explanations.proofs.Common.{◌≡◌, ℕ, length, ap, ◌∙◌, sym, arith, State}
 use Rattle.explanations.proofs.FrontLaws.{front_begun, front_turn, front_whole}
 use Rattle.explanations.proofs.fronts.front_of.Goals as goal
 

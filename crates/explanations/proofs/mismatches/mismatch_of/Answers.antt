@@ -1,6 +1,4 @@
-use Rattle.std.proofs.Common.{refl}
-use Rattle.table_entries.specs.Entries.{entry_of}
-use Rattle.table_entries.specs.Tables.{entry_at}
+use Rattle.explanations.proofs.Common.{refl, entry_of, entry_at}
 use Rattle.explanations.proofs.EntryLaws.{mismatches_of}
 use Rattle.explanations.proofs.mismatches.mismatch_of.Goals as goal
 

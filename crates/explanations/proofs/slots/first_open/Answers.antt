@@ -1,7 +1,4 @@
-use Rattle.std.proofs.Common.{◌≡◌, ◌∙◌, suc, ◌+◌, ◌-◌, arith, sym, ap}
-use Rattle.stack_state.specs.Meaning.{stack_slots_of}
-use Rattle.stack_state.specs.Slots.{slot_at, marks_of}
-use Rattle.explanations.specs.Slots.{first_open}
+use Rattle.explanations.proofs.Common.{◌≡◌, ◌∙◌, suc, ◌+◌, ◌-◌, arith, sym, ap, stack_slots_of, slot_at, marks_of, first_open}
 use Rattle.explanations.proofs.Texts.{first_open-next}
 use Rattle.explanations.proofs.slots.first_open.Goals as goal
 

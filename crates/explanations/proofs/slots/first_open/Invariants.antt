@@ -1,6 +1,4 @@
-use Rattle.std.proofs.Common.{◌≡◌, ◌-◌, ◌+◌}
-use Rattle.stack_state.specs.Meaning.{stack_slots_of}
-use Rattle.explanations.specs.Slots.{first_open}
+use Rattle.explanations.proofs.Common.{◌≡◌, ◌-◌, ◌+◌, stack_slots_of, first_open}
 use Rattle.explanations.proofs.slots.first_open.Given as goal
 
 abbrev pub invariant-loop-at : goal.invariant-loop-at

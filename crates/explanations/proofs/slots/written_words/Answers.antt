@@ -1,6 +1,4 @@
-use Rattle.std.proofs.Common.{arith}
-use Rattle.std.specs.String.{string_bytes}
-use Rattle.explanations.specs.Slots.{written_words}
+use Rattle.explanations.proofs.Common.{arith, string_bytes, written_words}
 use Rattle.explanations.proofs.Texts.{at_end}
 use Rattle.explanations.proofs.slots.written_words.Goals as goal
 

@@ -1,6 +1,4 @@
-use Rattle.std.proofs.Common.{◌≡◌}
-use Rattle.std.specs.String.{string_bytes}
-use Rattle.explanations.specs.Slots.{written_words}
+use Rattle.explanations.proofs.Common.{◌≡◌, string_bytes, written_words}
 use Rattle.explanations.proofs.slots.written_words.Given as goal
 
 abbrev pub invariant-loop-count : goal.invariant-loop-count

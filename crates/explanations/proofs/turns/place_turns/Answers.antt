@@ -1,6 +1,4 @@
-use Rattle.std.proofs.Common.{arith}
-use Rattle.std.specs.String.{string_bytes}
-use Rattle.explanations.specs.Turns.{place_turns}
+use Rattle.explanations.proofs.Common.{arith, string_bytes, place_turns}
 use Rattle.explanations.proofs.Texts.{at_end}
 use Rattle.explanations.proofs.turns.place_turns.Goals as goal
 

@@ -1,6 +1,4 @@
-use Rattle.std.proofs.Common.{◌≡◌}
-use Rattle.std.specs.String.{string_bytes}
-use Rattle.explanations.specs.Turns.{place_turns}
+use Rattle.explanations.proofs.Common.{◌≡◌, string_bytes, place_turns}
 use Rattle.explanations.proofs.turns.place_turns.Given as goal
 
 abbrev pub invariant-loop-count : goal.invariant-loop-count

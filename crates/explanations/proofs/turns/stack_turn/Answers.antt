@@ -1,10 +1,5 @@
-use Rattle.std.proofs.Common.{◌≡◌, List, ℕ, ◌++◌, rules, subst, length}
-use Rattle.std.specs.Prelude.{IfOk, codes}
+use Rattle.explanations.proofs.Common.{◌≡◌, List, ℕ, ◌++◌, rules, subst, length, IfOk, codes, string_bytes, offset_of, stack_words, turn_line}
 use Rattle.std.specs.Fmt.{signed_decimal}
-use Rattle.std.specs.String.{string_bytes}
-use Rattle.explanations.specs.Slots.{offset_of}
-use Rattle.explanations.specs.Mismatches.{stack_words}
-use Rattle.explanations.specs.Turns.{turn_line}
 use Rattle.explanations.proofs.turns.stack_turn.Goals as goal
 
 pub returns : goal.returns

@@ -1,9 +1,5 @@
-use Rattle.std.proofs.Common.{◌∙◌, ap, length, refl, List, sym, subst, inr}
+use Rattle.explorer.proofs.Common.{◌∙◌, ap, length, refl, List, sym, subst, inr, AreParts, StoredState, IsCovered, IsRepeated, stored_too}
 use Rattle.state_index.specs.declared.keys.Key.{Key}
-use Rattle.state_index.specs.Parts.{AreParts}
-use Rattle.explorer.specs.declared.stored_states.StoredState.{StoredState}
-use Rattle.explorer.specs.StoredStates.{IsCovered, IsRepeated}
-use Rattle.explorer.specs.Search.{stored_too}
 use Rattle.explorer.proofs.arrivals.arrive.Goals as goal
 
 pub take_up-requires : goal.take_up-requires

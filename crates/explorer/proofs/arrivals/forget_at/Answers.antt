@@ -1,8 +1,4 @@
-use Rattle.std.proofs.Common.{rules}
-use Rattle.walks.specs.Forgetting.{Exact}
-use Rattle.walks.proofs.PrecisionLaws.{NumbersForgotten-as, no_finer_than_exact}
-use Rattle.explorer.specs.Search.{precision_in}
-use Rattle.walks.proofs.Forgotten.{Forgets-further, Forgets-forgotten}
+use Rattle.explorer.proofs.Common.{rules, Exact, NumbersForgotten-as, no_finer_than_exact, precision_in, Forgets-further, Forgets-forgotten}
 use Rattle.explorer.proofs.arrivals.forget_at.Goals as goal
 
 pub take_up-requires : goal.take_up-requires

@@ -1,7 +1,4 @@
-use Rattle.std.proofs.Common.{List, replicate, ap}
-use Rattle.reg_state.specs.declared.kinds.Kind.TheVariants.{Unset}
-use Rattle.stack_state.specs.declared.slots.StackSlot.{StackSlot}
-use Rattle.state_index.specs.Parts.{unset_frame}
+use Rattle.explorer.proofs.Common.{List, replicate, ap, Unset, StackSlot, unset_frame}
 use Rattle.explorer.proofs.blanks.clear_frame.Goals as goal
 
 pub returns : goal.returns

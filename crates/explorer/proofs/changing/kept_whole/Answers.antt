@@ -1,5 +1,4 @@
-use Rattle.std.proofs.Common.{◌∷◌, ap}
-use Rattle.explorer.specs.Pending.{states_from}
+use Rattle.explorer.proofs.Common.{◌∷◌, ap, states_from}
 use Rattle.explorer.proofs.changing.kept_whole.Goals as goal
 
 pub returns : goal.returns

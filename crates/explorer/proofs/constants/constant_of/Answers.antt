@@ -1,6 +1,4 @@
-use Rattle.std.proofs.Common.{refl, ◌∙◌, ap}
-use Rattle.reg_state.specs.declared.scalars.Scalar.{Scalar}
-use Rattle.reg_state.specs.declared.kinds.Kind.TheVariants.{Number}
+use Rattle.explorer.proofs.Common.{refl, ◌∙◌, ap, Scalar, Number}
 use Rattle.explorer.proofs.ConstantsLaws.{constant_numbers-is}
 use Rattle.explorer.proofs.constants.constant_of.Goals as goal
 

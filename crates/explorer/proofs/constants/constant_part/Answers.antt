@@ -1,7 +1,4 @@
-use Rattle.std.proofs.Common.{ap}
-use Rattle.reg_state.specs.declared.scalars.Scalar.{Scalar}
-use Rattle.reg_state.specs.declared.kinds.Kind.TheVariants.{Number}
-use Rattle.state_index.specs.declared.parts.Part.TheVariants.{InRegister}
+use Rattle.explorer.proofs.Common.{ap, Scalar, Number, InRegister}
 use Rattle.explorer.proofs.ConstantsLaws.{constant_numbers-is}
 use Rattle.explorer.proofs.constants.constant_part.Goals as goal
 

@@ -1,5 +1,4 @@
-use Rattle.std.proofs.Common.{◌∙◌, rules}
-use Rattle.explorer.specs.Groups.{whole}
+use Rattle.explorer.proofs.Common.{◌∙◌, rules, whole}
 use Rattle.explorer.proofs.GroupLaws.{whole_cut, whole_done}
 use Rattle.explorer.proofs.groups.cut.Goals as goal
 

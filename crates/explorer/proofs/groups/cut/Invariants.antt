@@ -1,5 +1,4 @@
-use Rattle.std.proofs.Common.{◌≡◌, ◌++◌}
-use Rattle.explorer.specs.Groups.{whole}
+use Rattle.explorer.proofs.Common.{◌≡◌, ◌++◌, whole}
 use Rattle.explorer.proofs.groups.cut.Given as goal
 
 -- the rest is still to be put into groups

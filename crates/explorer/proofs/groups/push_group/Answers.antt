@@ -1,5 +1,4 @@
-use Rattle.std.proofs.Common.{◌∙◌, ◌++◌, ap}
-use Rattle.explorer.specs.Groups.{whole}
+use Rattle.explorer.proofs.Common.{◌∙◌, ◌++◌, ap, whole}
 use Rattle.explorer.proofs.GroupLaws.{whole-more}
 use Rattle.explorer.proofs.groups.push_group.Goals as goal
 

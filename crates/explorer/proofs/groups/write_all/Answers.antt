@@ -1,6 +1,4 @@
-use Rattle.std.proofs.Common.{◌∙◌, ℕ, ◌+◌, drop, ap, sym, arith}
-use Rattle.state_index.specs.Parts.{all_written}
-use Rattle.state_index.proofs.PartLaws.{all_written-more, all_written-all}
+use Rattle.explorer.proofs.Common.{◌∙◌, ℕ, ◌+◌, drop, ap, sym, arith, all_written, all_written-more, all_written-all}
 use Rattle.explorer.proofs.groups.write_all.Goals as goal
 
 pub loop-index-preserved : goal.loop-index-preserved

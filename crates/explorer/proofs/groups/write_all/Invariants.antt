@@ -1,5 +1,4 @@
-use Rattle.std.proofs.Common.{◌≡◌, drop}
-use Rattle.state_index.specs.Parts.{all_written}
+use Rattle.explorer.proofs.Common.{◌≡◌, drop, all_written}
 use Rattle.explorer.proofs.groups.write_all.Given as goal
 
 -- the parts from here on are still to be written

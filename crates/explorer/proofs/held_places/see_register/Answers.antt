@@ -1,5 +1,4 @@
-use Rattle.std.proofs.Common.{◌∙◌}
-use Rattle.state_index.specs.declared.parts.Part.TheVariants.{InRegister}
+use Rattle.explorer.proofs.Common.{◌∙◌, InRegister}
 use Rattle.explorer.proofs.HeldLaws.{held_any, held_kept, held_none}
 use Rattle.explorer.proofs.held_places.see_register.Goals as goal
 

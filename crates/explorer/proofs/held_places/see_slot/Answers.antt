@@ -1,6 +1,4 @@
-use Rattle.std.proofs.Common.{◌∙◌, set, ap}
-use Rattle.stack_state.specs.declared.slots.StackSlot.TheVariants.{Written}
-use Rattle.state_index.specs.declared.parts.Part.TheVariants.{InSlot}
+use Rattle.explorer.proofs.Common.{◌∙◌, set, ap, Written, InSlot}
 use Rattle.explorer.proofs.HeldLaws.{held_any, held_kept, held_none}
 use Rattle.explorer.proofs.held_places.see_slot.Goals as goal
 

@@ -1,6 +1,4 @@
-use Rattle.std.proofs.Common.{◌≡◌, ◌++◌, List, drop}
-use Rattle.state_index.specs.declared.parts.Part.{Part}
-use Rattle.state_index.specs.Parts.{register_parts}
+use Rattle.explorer.proofs.Common.{◌≡◌, ◌++◌, List, drop, Part, register_parts}
 use Rattle.explorer.proofs.kept_frames.are_registers.Given as goal
 
 -- where the parts of what is left come first in the rest, all parts came first in it

@@ -1,6 +1,4 @@
-use Rattle.std.proofs.Common.{◌≡◌, ◌++◌, List, drop}
-use Rattle.state_index.specs.declared.parts.Part.{Part}
-use Rattle.state_index.specs.Parts.{slot_parts}
+use Rattle.explorer.proofs.Common.{◌≡◌, ◌++◌, List, drop, Part, slot_parts}
 use Rattle.explorer.proofs.kept_frames.are_slots.Given as goal
 
 -- where the rest begins with the parts of the stack slots from the index on, at the start it began

@@ -1,6 +1,4 @@
-use Rattle.std.proofs.Common.{◌∙◌, ℕ, ◌∷◌, ◌++◌, [], ap, get_or, sym, arith}
-use Rattle.std.proofs.lemmas.List.{take_more, take_all}
-use Rattle.stack_state.specs.declared.states.AbstractFrame.{AbstractFrame}
+use Rattle.explorer.proofs.Common.{◌∙◌, ℕ, ◌∷◌, ◌++◌, [], ap, get_or, sym, arith, take_more, take_all, AbstractFrame}
 use Rattle.explorer.proofs.kept_frames.keep_all.Goals as goal
 
 pub loop-index-preserved : goal.loop-index-preserved

@@ -1,6 +1,4 @@
-use Rattle.std.proofs.lemmas.Bool.{iff_false}
-use Rattle.std.proofs.Common.{refl}
-use Rattle.walks.specs.Forgetting.{Coarse}
+use Rattle.explorer.proofs.Common.{iff_false, refl, Coarse}
 use Rattle.explorer.proofs.Stopping.{closed_ends, open_told, not_open}
 use Rattle.explorer.proofs.listened.find_bound.Goals as goal
 

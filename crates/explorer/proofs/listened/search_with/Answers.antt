@@ -1,15 +1,7 @@
-use Rattle.std.proofs.Common.{◌≡◌, ℕ, Result, subst, sym}
-use Rattle.std.specs.Prelude.{Ok, Err, IfOk, IfErr}
-use Rattle.isa_model.specs.Code.Instructions.{Program}
+use Rattle.explorer.proofs.Common.{◌≡◌, ℕ, Result, subst, sym, Ok, Err, IfOk, IfErr, Program, IsImage, Within, start, HasNumber, IsNew, IfRefused, EndsAsPrecise}
 use Rattle.isa_model.specs.Running.Outcomes.{StartsEnd}
-use Rattle.image.specs.Images.{IsImage}
-use Rattle.stack_state.specs.Meaning.{Within}
-use Rattle.stack_state.specs.Starts.{start}
-use Rattle.walks.specs.Counts.{HasNumber}
 use Rattle.explorer.proofs.Starts.{starts_end}
 use Rattle.explorer.proofs.Stopping.{search_refused, search_stopped, outside_ends}
-use Rattle.explorer.specs.Search.{IsNew}
-use Rattle.explorer.specs.Listening.{IfRefused, EndsAsPrecise}
 use Rattle.explorer.proofs.listened.search_with.Goals as goal
 
 ends : {E : Type 0} (r : Result ℕ E) (p q : Program) → p ≡ q → IsImage q

@@ -1,6 +1,4 @@
-use Rattle.std.proofs.Common.{◌≡◌, ℕ, ◌<◌, get_or}
-use Rattle.reg_state.specs.declared.kinds.Kind.{Kind}
-use Rattle.stack_state.specs.Effects.{proved_kind}
+use Rattle.explorer.proofs.Common.{◌≡◌, ℕ, ◌<◌, get_or, Kind, proved_kind}
 use Rattle.explorer.proofs.proved_bytes.is_known_of_all.Given as goal
 
 abbrev pub invariant-loop-index : goal.invariant-loop-index

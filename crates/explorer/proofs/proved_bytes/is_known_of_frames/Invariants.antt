@@ -1,6 +1,4 @@
-use Rattle.std.proofs.Common.{◌≡◌, ℕ, ◌<◌, get_or}
-use Rattle.stack_state.specs.declared.states.AbstractFrame.{AbstractFrame}
-use Rattle.stack_state.specs.Effects.{proved_kind, with_kinds}
+use Rattle.explorer.proofs.Common.{◌≡◌, ℕ, ◌<◌, get_or, AbstractFrame, proved_kind, with_kinds}
 use Rattle.explorer.proofs.proved_bytes.is_known_of_frames.Given as goal
 
 abbrev pub invariant-loop-index : goal.invariant-loop-index

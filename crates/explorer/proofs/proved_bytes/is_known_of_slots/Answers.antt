@@ -1,5 +1,4 @@
-use Rattle.std.proofs.Common.{arith}
-use Rattle.stack_state.specs.Effects.{proved_kind, with_spilled}
+use Rattle.explorer.proofs.Common.{arith, proved_kind, with_spilled}
 use Rattle.explorer.proofs.SameMaps.{map-fixed}
 use Rattle.explorer.proofs.proved_bytes.is_known_of_slots.Goals as goal
 

@@ -1,5 +1,4 @@
-use Rattle.std.proofs.Common.{◌∙◌}
-use Rattle.stack_state.specs.Effects.{proved_kind, with_kinds}
+use Rattle.explorer.proofs.Common.{◌∙◌, proved_kind, with_kinds}
 use Rattle.explorer.proofs.SameMaps.{map-set_same}
 use Rattle.explorer.proofs.proved_bytes.leave_out_of_frames.Goals as goal
 

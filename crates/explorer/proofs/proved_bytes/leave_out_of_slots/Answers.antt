@@ -1,8 +1,5 @@
-use Rattle.std.proofs.Common.{◌∙◌, List, map, ap}
-use Rattle.stack_state.specs.declared.slots.StackSlot.{StackSlot}
-use Rattle.stack_state.specs.declared.slots.StackSlot.TheVariants.{Written}
+use Rattle.explorer.proofs.Common.{◌∙◌, List, map, ap, StackSlot, Written, proved_kind, with_spilled}
 use Rattle.stack_state.specs.Slots.{slot_at}
-use Rattle.stack_state.specs.Effects.{proved_kind, with_spilled}
 use Rattle.explorer.proofs.SameMaps.{map-set_same}
 use Rattle.explorer.proofs.proved_bytes.leave_out_of_slots.Goals as goal
 

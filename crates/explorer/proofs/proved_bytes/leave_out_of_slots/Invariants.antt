@@ -1,5 +1,4 @@
-use Rattle.std.proofs.Common.{◌≡◌, map}
-use Rattle.stack_state.specs.Effects.{proved_kind, with_spilled}
+use Rattle.explorer.proofs.Common.{◌≡◌, map, proved_kind, with_spilled}
 use Rattle.explorer.proofs.proved_bytes.leave_out_of_slots.Given as goal
 
 abbrev pub invariant-loop-index : goal.invariant-loop-index

@@ -1,7 +1,4 @@
-use Rattle.std.proofs.Common.{rules}
-use Rattle.walks.specs.Forgetting.{Coarse, Exact}
-use Rattle.walks.proofs.PrecisionLaws.{NumbersForgotten-as}
-use Rattle.walks.proofs.Forgotten.{Forgets-further}
+use Rattle.explorer.proofs.Common.{rules, Coarse, Exact, NumbersForgotten-as, Forgets-further}
 use Rattle.explorer.proofs.retracing.forget_again.Goals as goal
 
 pub forget_all-requires : goal.forget_all-requires

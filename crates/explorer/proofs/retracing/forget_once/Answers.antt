@@ -1,6 +1,4 @@
-use Rattle.walks.specs.Forgetting.{Coarse, Exact}
-use Rattle.walks.proofs.PrecisionLaws.{Forgets-as}
-use Rattle.explorer.specs.Search.{precision_in}
+use Rattle.explorer.proofs.Common.{Coarse, Exact, Forgets-as, precision_in}
 use Rattle.explorer.proofs.retracing.forget_once.Goals as goal
 
 pub returns-then-is_coarse : goal.returns-then-is_coarse

@@ -1,9 +1,4 @@
-use Rattle.std.proofs.Common.{◌≡◌, ◌∙◌, [], ap, subst}
-use Rattle.isa_model.specs.Code.Instructions.{Program}
-use Rattle.stack_state.specs.declared.states.State.{State}
-use Rattle.stack_state.specs.Starts.{start}
-use Rattle.walks.specs.Forgetting.{Coarse, Exact, Forgets}
-use Rattle.walks.proofs.PrecisionLaws.{Forgets-as}
+use Rattle.explorer.proofs.Common.{◌≡◌, ◌∙◌, [], ap, subst, Program, State, start, Coarse, Exact, Forgets, Forgets-as}
 use Rattle.explorer.specs.declared.retracing.Walker.{Walker}
 use Rattle.explorer.proofs.retracing.retrace.Goals as goal
 

@@ -1,6 +1,4 @@
-use Rattle.std.proofs.Common.{List, ◌∷◌}
-use Rattle.stack_state.specs.declared.states.State.{State}
-use Rattle.walks.specs.Forgetting.{Coarse}
+use Rattle.explorer.proofs.Common.{List, ◌∷◌, State, Coarse}
 use Rattle.explorer.proofs.retracing.retrace.Given as goal
 
 -- the listener was called for a path to the walker's state

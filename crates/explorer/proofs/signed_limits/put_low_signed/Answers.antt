@@ -1,6 +1,4 @@
-use Rattle.std.proofs.Common.{arith}
-use Rattle.std.specs.Int.{w32}
-use Rattle.std.proofs.lemmas.Int.{to_z-of_z}
+use Rattle.explorer.proofs.Common.{arith, w32, to_z-of_z}
 use Rattle.explorer.proofs.EarlierLaws.{same_put, signed_put}
 use Rattle.explorer.proofs.signed_limits.put_low_signed.Goals as goal
 

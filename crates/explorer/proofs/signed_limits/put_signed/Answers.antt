@@ -1,6 +1,4 @@
-use Rattle.std.proofs.Common.{arith}
-use Rattle.std.specs.Int.{w64}
-use Rattle.std.proofs.lemmas.Int.{to_z-of_z}
+use Rattle.explorer.proofs.Common.{arith, w64, to_z-of_z}
 use Rattle.explorer.proofs.EarlierLaws.{same_put, signed_put}
 use Rattle.explorer.proofs.signed_limits.put_signed.Goals as goal
 

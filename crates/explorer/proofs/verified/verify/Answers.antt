@@ -1,8 +1,5 @@
-use Rattle.std.proofs.Common.{subst}
-use Rattle.walks.specs.Refused.{IsRefused}
+use Rattle.explorer.proofs.Common.{subst, IsRefused, IfRefused, start}
 use Rattle.walks.specs.Accepting.{AcceptsAll}
-use Rattle.explorer.specs.Listening.{IfRefused}
-use Rattle.stack_state.specs.Starts.{start}
 use Rattle.explorer.proofs.verified.verify.Goals as goal
 
 pub verify_with-requires : goal.verify_with-requires

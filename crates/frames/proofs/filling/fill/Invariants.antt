@@ -1,5 +1,4 @@
-use Rattle.std.proofs.Common.{length, take, ◌-◌, ◌≤◌}
-use Rattle.std.specs.Io.KnownBytes.{Consumes}
+use Rattle.frames.proofs.Common.{length, take, ◌-◌, ◌≤◌, Consumes}
 use Rattle.frames.proofs.filling.fill.Given as goal
 
 abbrev pub invariant-loop-at : goal.invariant-loop-at

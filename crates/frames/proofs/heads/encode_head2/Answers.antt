@@ -1,5 +1,4 @@
-use Rattle.std.proofs.Common.{refl}
-use Rattle.isa_model.specs.Reporting.Streams.{head_bytes}
+use Rattle.frames.proofs.Common.{refl, head_bytes}
 use Rattle.frames.proofs.heads.encode_head2.Goals as goal
 
 pub returns : goal.returns

@@ -1,6 +1,5 @@
-use Rattle.std.proofs.Common.{◌≡◌, length, ap, ◌∙◌, arith}
+use Rattle.frames.proofs.Common.{◌≡◌, length, ap, ◌∙◌, arith, head_size}
 use Rattle.std.proofs.lemmas.List.{append-nil, drop_all}
-use Rattle.isa_model.specs.Code.Versions.{head_size}
 use Rattle.frames.proofs.reader.fill_head.Goals as goal
 
 pub returns-in-Two-clause-fills : goal.returns-in-Two-clause-fills

@@ -1,7 +1,6 @@
-use Rattle.std.proofs.Common.{◌≢◌, ℕ, Bool, List, Option, refl, rules}
+use Rattle.frames.proofs.Common.{◌≢◌, ℕ, Bool, List, Option, refl, rules, OpensStream}
 use Rattle.frames.specs.declared.reader.Stage.{Stage}
 use Rattle.frames.specs.declared.reader.Stage.TheVariants as stage
-use Rattle.frames.specs.Reading.{OpensStream}
 use Rattle.frames.specs.Stages.{position_of}
 use Rattle.frames.proofs.reader.stage_begun.Goals as goal
 

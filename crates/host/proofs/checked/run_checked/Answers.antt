@@ -1,6 +1,4 @@
-use Rattle.std.proofs.Common.{ap, ◌∙◌}
-use Rattle.maps.specs.Maps.{rows_of, contents_of}
-use Rattle.maps.proofs.MapLaws.{rows_of-starting, contents_of-starting}
+use Rattle.host.proofs.Common.{ap, ◌∙◌, rows_of, contents_of, rows_of-starting, contents_of-starting}
 use Rattle.host.proofs.Accepted.{Reports-starting}
 use Rattle.host.proofs.checked.run_checked.Goals as goal
 

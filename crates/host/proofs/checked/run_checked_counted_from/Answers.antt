@@ -1,10 +1,4 @@
-use Rattle.std.proofs.Common.{Ok, Err, refl, ap, ◌∙◌}
-use Rattle.bounds.specs.Bounds.{Bounded}
-use Rattle.isa_model.specs.Reporting.Reports.{contents_after}
-use Rattle.maps.specs.Maps.{contents_of}
-use Rattle.host.specs.Stops.{Noted, noted_of, nothing_noted, noted_after, checked_notes}
-use Rattle.host.specs.Turns.{rule_of}
-use Rattle.host.specs.Counts.{Totals, ShowsTracedCounted}
+use Rattle.host.proofs.Common.{Ok, Err, refl, ap, ◌∙◌, Bounded, contents_after, contents_of, Noted, noted_of, nothing_noted, noted_after, checked_notes, rule_of, Totals, ShowsTracedCounted}
 use Rattle.host.proofs.Reporting.{checked_whole, checked_front}
 use Rattle.host.proofs.Machines.{shows, noted_shown, counts_shown, contents_left_by, bounded_by, checked_start}
 use Rattle.host.proofs.checked.run_checked_counted_from.Goals as goal

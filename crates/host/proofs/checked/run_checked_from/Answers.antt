@@ -1,9 +1,4 @@
-use Rattle.std.proofs.Common.{ap, ◌∙◌}
-use Rattle.bounds.specs.Bounds.{Bounded}
-use Rattle.isa_model.specs.Reporting.Reports.{contents_after}
-use Rattle.maps.specs.Maps.{contents_of}
-use Rattle.host.specs.Stops.{Noted, noted_of, nothing_noted, noted_after, checked_notes, ShowsTracedFrom}
-use Rattle.host.specs.Turns.{rule_of}
+use Rattle.host.proofs.Common.{ap, ◌∙◌, Bounded, contents_after, contents_of, Noted, noted_of, nothing_noted, noted_after, checked_notes, ShowsTracedFrom, rule_of}
 use Rattle.host.proofs.Reporting.{checked_whole, checked_front}
 use Rattle.host.proofs.Machines.{shows, noted_shown, contents_left_by, bounded_by, checked_start}
 use Rattle.host.proofs.checked.run_checked_from.Goals as goal

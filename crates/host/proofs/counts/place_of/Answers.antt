@@ -1,6 +1,4 @@
-use Rattle.std.proofs.Common.{rules, ◌<◌, ◌≤◌, length, get_or, sym, arith}
-use Rattle.std.proofs.lemmas.Bool.{lt-ltb, le-ltb}
-use Rattle.host.specs.Places.{place_of}
+use Rattle.host.proofs.Common.{rules, ◌<◌, ◌≤◌, length, get_or, sym, arith, lt-ltb, le-ltb, place_of}
 use Rattle.host.proofs.Places.{no_frames, passes, stops, within}
 use Rattle.host.proofs.counts.place_of.Goals as goal
 

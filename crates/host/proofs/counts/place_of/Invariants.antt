@@ -1,5 +1,4 @@
-use Rattle.std.proofs.Common.{◌≤◌}
-use Rattle.host.specs.Places.{place_of}
+use Rattle.host.proofs.Common.{◌≤◌, place_of}
 use Rattle.host.proofs.counts.place_of.Given as goal
 
 abbrev pub invariant-loop-place : goal.invariant-loop-place

@@ -1,5 +1,4 @@
-use Rattle.std.proofs.Common.{rules, refl, ◌∙◌}
-use Rattle.host.specs.Writing.{Outputs}
+use Rattle.host.proofs.Common.{rules, refl, ◌∙◌, Outputs}
 use Rattle.host.proofs.Notes.{noted_more}
 use Rattle.host.proofs.FrameLoop.{begin_opens, after_flush, magic_failed, none_taken, one_taken, one_failed, all_taken, has_taken, carried_more}
 use Rattle.host.proofs.engine.run_frames.Goals as goal

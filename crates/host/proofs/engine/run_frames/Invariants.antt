@@ -1,8 +1,5 @@
-use Rattle.std.proofs.Common.{◌≡◌, ◌-◌, List}
-use Rattle.isa_model.specs.Reporting.Streams.{PacketFrame}
+use Rattle.host.proofs.Common.{◌≡◌, ◌-◌, List, PacketFrame, noted_after, rule_of}
 use Rattle.host.specs.Forms.{report_form_by}
-use Rattle.host.specs.Stops.{noted_after}
-use Rattle.host.specs.Turns.{rule_of}
 use Rattle.host.proofs.WrittenSoFar.{WrittenSoFar}
 use Rattle.host.proofs.engine.run_frames.Given as goal
 

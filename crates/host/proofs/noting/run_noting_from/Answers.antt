@@ -1,12 +1,5 @@
-use Rattle.std.proofs.Common.{List, Ok, Err, [], subst, ap, ◌∙◌, rules}
-use Rattle.isa_model.specs.declared.map_defs.MapDef.{MapDef}
-use Rattle.isa_model.specs.Machine.MachineStates.{FitRows}
-use Rattle.image.proofs.Programs.{IsProgram-IsImage}
-use Rattle.machine.specs.Running.{Running}
-use Rattle.maps.specs.Maps.{contents_of}
-use Rattle.maps.proofs.MapLaws.{FitRows-IsMap}
+use Rattle.host.proofs.Common.{List, Ok, Err, [], subst, ap, ◌∙◌, rules, MapDef, FitRows, IsProgram-IsImage, Running, contents_of, FitRows-IsMap, bounded_of}
 use Rattle.host.specs.declared.invalid.InvalidFrames.{InvalidFrames}
-use Rattle.host.specs.OnMachines.{bounded_of}
 use Rattle.host.specs.InvalidRuns.{ShowsInvalid, invalid_notes, invalid_of}
 use Rattle.host.proofs.Accepted.{ran_whole, ran_front}
 use Rattle.host.proofs.InvalidRunsLaws.{invalid_after}

@@ -1,7 +1,4 @@
-use Rattle.std.proofs.Common.{◌≡◌}
-use Rattle.isa_model.specs.Reporting.Reports.{starting_contents}
-use Rattle.maps.specs.Maps.{contents_of}
-use Rattle.maps.proofs.MapLaws.{rows_of-starting, contents_of-starting}
+use Rattle.host.proofs.Common.{◌≡◌, starting_contents, contents_of, rows_of-starting, contents_of-starting}
 use Rattle.host.proofs.InvalidRunsLaws.{ReportsNoted-starting}
 use Rattle.host.proofs.noting.run_noting_invalid.Goals as goal
 

@@ -1,8 +1,4 @@
-use Rattle.std.proofs.Common.{List, refl, sym, ap, subst}
-use Rattle.isa_model.specs.Machine.States.{KeyValues}
-use Rattle.machine.specs.Running.{Running}
-use Rattle.host.specs.Accepted.{ShowsTallied}
-use Rattle.host.specs.OnMachines.{bounded_of, Leaves}
+use Rattle.host.proofs.Common.{List, refl, sym, ap, subst, KeyValues, Running, ShowsTallied, bounded_of, Leaves}
 use Rattle.host.proofs.Accepted.{ran_whole, ran_front}
 use Rattle.host.proofs.Machines.{shows_tally}
 use Rattle.host.proofs.on_machines.run_on.Goals as goal

@@ -1,5 +1,4 @@
-use Rattle.std.proofs.Common.{sym, ap}
-use Rattle.host.specs.Tallies.{tallied}
+use Rattle.host.proofs.Common.{sym, ap, tallied}
 use Rattle.host.proofs.traced.tally_in.Goals as goal
 
 pub returns-in-Ok : goal.returns-in-Ok

@@ -1,8 +1,4 @@
-use Rattle.std.proofs.Common.{◌≡◌, sym, ap, ◌∙◌}
-use Rattle.isa_model.specs.Reporting.Reports.{starting_contents}
-use Rattle.maps.specs.Maps.{contents_of}
-use Rattle.maps.proofs.MapLaws.{rows_of-starting, contents_of-starting}
-use Rattle.host.specs.Tallies.{tallied}
+use Rattle.host.proofs.Common.{◌≡◌, sym, ap, ◌∙◌, starting_contents, contents_of, rows_of-starting, contents_of-starting, tallied}
 use Rattle.host.proofs.Accepted.{ReportsRun-tallied, tallied-memory}
 use Rattle.host.proofs.verified.run.Goals as goal
 

@@ -1,16 +1,4 @@
-use Rattle.std.proofs.Common.{List, Ok, Err, subst, ap, ◌∙◌, rules}
-use Rattle.isa_model.specs.declared.map_defs.MapDef.{MapDef}
-use Rattle.isa_model.specs.Code.Instructions.{Program}
-use Rattle.isa_model.specs.Code.Versions.{version_number}
-use Rattle.isa_model.specs.Machine.MachineStates.{FitRows}
-use Rattle.image.proofs.Programs.{IsProgram-IsImage}
-use Rattle.bounds.specs.Bounds.{Bounded}
-use Rattle.machine.specs.Running.{Running}
-use Rattle.maps.specs.Maps.{contents_of}
-use Rattle.maps.proofs.MapLaws.{FitRows-IsMap}
-use Rattle.host.specs.OnMachines.{bounded_of}
-use Rattle.host.specs.Stops.{nothing_noted, no_notes}
-use Rattle.host.specs.Counts.{Totals, ShowsCounted}
+use Rattle.host.proofs.Common.{List, Ok, Err, subst, ap, ◌∙◌, rules, MapDef, Program, version_number, FitRows, IsProgram-IsImage, Bounded, Running, contents_of, FitRows-IsMap, bounded_of, nothing_noted, no_notes, Totals, ShowsCounted}
 use Rattle.host.proofs.Accepted.{ran_whole, ran_front}
 use Rattle.host.proofs.Machines.{shows, counts_shown}
 use Rattle.host.proofs.verified.run_counted_from.Goals as goal

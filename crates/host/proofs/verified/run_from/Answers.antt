@@ -1,14 +1,4 @@
-use Rattle.std.proofs.Common.{List, subst, ap, ◌∙◌, rules}
-use Rattle.isa_model.specs.declared.map_defs.MapDef.{MapDef}
-use Rattle.isa_model.specs.Machine.MachineStates.{FitRows}
-use Rattle.image.proofs.Programs.{IsProgram-IsImage}
-use Rattle.bounds.specs.Bounds.{Bounded}
-use Rattle.machine.specs.Running.{Running}
-use Rattle.maps.specs.Maps.{contents_of}
-use Rattle.maps.proofs.MapLaws.{FitRows-IsMap}
-use Rattle.host.specs.OnMachines.{bounded_of}
-use Rattle.host.specs.Stops.{nothing_noted}
-use Rattle.host.specs.Accepted.{ShowsLast}
+use Rattle.host.proofs.Common.{List, subst, ap, ◌∙◌, rules, MapDef, FitRows, IsProgram-IsImage, Bounded, Running, contents_of, FitRows-IsMap, bounded_of, nothing_noted, ShowsLast}
 use Rattle.host.proofs.Accepted.{ran_whole, ran_front}
 use Rattle.host.proofs.Machines.{shows}
 use Rattle.host.proofs.verified.run_from.Goals as goal

@@ -1,15 +1,8 @@
-use Rattle.std.proofs.Common.{◌≡◌, ℕ, ◌+◌, ◌<◌, false, List, [], ◌∷◌, ◌++◌, take, length, get_or, Option, Some, None, sym, ap, ◌∙◌, subst, append_assoc}
-use Rattle.std.proofs.lemmas.List.{take_more}
-use Rattle.std.specs.Prelude.{pos}
+use Rattle.image.proofs.Common.{◌≡◌, ℕ, ◌+◌, ◌<◌, false, List, [], ◌∷◌, ◌++◌, take, length, get_or, Option, Some, None, sym, ap, ◌∙◌, subst, append_assoc, pos, take_more, Insn, Alu, slots, InsnFits, IsCode}
 use Rattle.isa_model.specs.declared.registers.Reg.TheVariants.{R0}
 use Rattle.isa_model.specs.declared.sizes.Width.TheVariants.{Low32}
 use Rattle.isa_model.specs.declared.instructions.AluOp.TheVariants.{Add}
 use Rattle.isa_model.specs.declared.instructions.Operand.TheVariants.{Constant}
-use Rattle.isa_model.specs.declared.instructions.Insn.{Insn}
-use Rattle.isa_model.specs.declared.instructions.Insn.TheVariants.{Alu}
-use Rattle.isa_model.specs.Code.Instructions.{slots}
-use Rattle.isa_model.specs.Code.Spelling.{InsnFits}
-use Rattle.image.specs.Images.{IsCode}
 use Rattle.image.proofs.CodeLaws.{slots-append, slots-one, slots-two, IsCode-one, IsCode-append}
 use Rattle.image.proofs.code.by_slot.Goals.{then-slots-eq2+in_ok-push-2, else-slots-eq2}
 use Rattle.image.proofs.code.by_slot.Goals as goal

@@ -1,6 +1,4 @@
-use Rattle.std.proofs.Common.{◌≡◌, take, false}
-use Rattle.isa_model.specs.Code.Instructions.{slots}
-use Rattle.image.specs.Images.{IsCode}
+use Rattle.image.proofs.Common.{◌≡◌, take, false, slots, IsCode}
 use Rattle.image.proofs.code.by_slot.Given as goal
 
 abbrev pub invariant-loop-insn : goal.invariant-loop-insn

@@ -1,6 +1,4 @@
-use Rattle.std.proofs.Common.{◌≡◌, ℕ, ◌*◌, ◌/◌, List, Bool, Ok, true, false, length, sym, subst, Err, inr}
-use Rattle.std.proofs.lemmas.Result.{err_from_is_err_and}
-use Rattle.image.specs.Refusals.{insn_at, code_from}
+use Rattle.image.proofs.Common.{◌≡◌, ℕ, ◌*◌, ◌/◌, List, Bool, Ok, true, false, length, sym, subst, Err, inr, err_from_is_err_and, insn_at, code_from}
 use Rattle.image.proofs.CodeSpelling.{take-rest}
 use Rattle.image.proofs.Loop.{CodeReadSoFar, goes_on_half, goes_on, fails, is_done}
 use Rattle.image.proofs.code.code_of.Goals as goal

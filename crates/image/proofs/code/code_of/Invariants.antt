@@ -1,5 +1,4 @@
-use Rattle.std.proofs.Common.{◌≡◌, ◌-◌, ◌*◌, ◌/◌, drop, length, false}
-use Rattle.image.specs.Refusals.{code_from}
+use Rattle.image.proofs.Common.{◌≡◌, ◌-◌, ◌*◌, ◌/◌, drop, length, false, code_from}
 use Rattle.image.proofs.Loop.{with_front}
 use Rattle.image.proofs.code.code_of.Given as goal
 

@@ -1,6 +1,4 @@
-use Rattle.std.proofs.Common.{take}
-use Rattle.std.specs.Io.KnownBytes.{Appends}
-use Rattle.image.specs.Images.{code_bytes}
+use Rattle.image.proofs.Common.{take, Appends, code_bytes}
 use Rattle.image.proofs.code.write_code.Given as goal
 
 abbrev pub invariant-loop-slot : goal.invariant-loop-slot

@@ -1,8 +1,4 @@
-use Rattle.std.proofs.Common.{◌≡◌, ℕ, List, ◌∙◌, ap, sym, subst, take}
-use Rattle.std.specs.Prelude.{OnErr}
-use Rattle.std.proofs.lemmas.List.{take_at}
-use Rattle.isa_model.specs.Code.Spelling.{spelling_of}
-use Rattle.exact_io.specs.Transfers.{AppendsBeginning}
+use Rattle.image.proofs.Common.{◌≡◌, ℕ, List, ◌∙◌, ap, sym, subst, take, OnErr, take_at, spelling_of, AppendsBeginning}
 use Rattle.image.proofs.CodeSpelling.{length-spelling_of}
 use Rattle.image.proofs.code.write_insn.Goals as goal
 

@@ -1,12 +1,4 @@
-use Rattle.std.proofs.Common.{◌≡◌, ◌*◌, ◌+◌, ◌-◌, ◌/◌, List, Option, None, Result, Ok, Err, length, take, drop, false, sym, ap, ◌∙◌, subst, arith}
-use Rattle.std.specs.Prelude.{All, ◌⊎◌}
-use Rattle.std.proofs.lemmas.Result.{err_from_is_err_and}
-use Rattle.isa_model.specs.declared.map_defs.MapDef.{MapDef}
-use Rattle.isa_model.specs.declared.instructions.Insn.{Insn}
-use Rattle.isa_model.specs.Code.MapRows.{IsRow}
-use Rattle.image.specs.declared.errors.ImageError.{ImageError}
-use Rattle.image.specs.declared.errors.ImageError.TheVariants.{Memory}
-use Rattle.image.specs.Refusals.{room_refusal, code_from}
+use Rattle.image.proofs.Common.{◌≡◌, ◌*◌, ◌+◌, ◌-◌, ◌/◌, List, Option, None, Result, Ok, Err, length, take, drop, false, sym, ap, ◌∙◌, subst, arith, All, ◌⊎◌, err_from_is_err_and, MapDef, Insn, IsRow, ImageError, Memory, room_refusal, code_from}
 use Rattle.image.proofs.RowSpelling.{rows_from-fit}
 use Rattle.image.proofs.Whole.{sizes, rows_from-slice, code_read-slice, program_read-code, code_fails}
 use Rattle.image.proofs.images.parts_of.Goals as goal

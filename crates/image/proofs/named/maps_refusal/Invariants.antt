@@ -1,5 +1,4 @@
-use Rattle.std.proofs.Common.{◌≡◌, drop}
-use Rattle.image.specs.Refusals.{maps_refusal}
+use Rattle.image.proofs.Common.{◌≡◌, drop, maps_refusal}
 use Rattle.image.proofs.named.maps_refusal.Given as goal
 
 abbrev pub invariant-loop-slot : goal.invariant-loop-slot

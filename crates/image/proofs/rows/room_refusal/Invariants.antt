@@ -1,6 +1,4 @@
-use Rattle.std.proofs.Common.{◌≡◌, ◌≤◌, ◌*◌, take}
-use Rattle.std.specs.Prelude.{sum_by}
-use Rattle.image.specs.Images.{room_of}
+use Rattle.image.proofs.Common.{◌≡◌, ◌≤◌, ◌*◌, take, sum_by, room_of}
 use Rattle.image.proofs.rows.room_refusal.Given as goal
 
 abbrev pub invariant-loop-row : goal.invariant-loop-row

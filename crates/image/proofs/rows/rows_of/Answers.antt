@@ -1,6 +1,4 @@
-use Rattle.std.proofs.Common.{◌≡◌, ◌*◌, List, ℕ, Ok, Err, inr, sym, subst}
-use Rattle.std.proofs.lemmas.Result.{err_from_is_err_and}
-use Rattle.image.specs.Refusals.{row_at, rows_from}
+use Rattle.image.proofs.Common.{◌≡◌, ◌*◌, List, ℕ, Ok, Err, inr, sym, subst, err_from_is_err_and, row_at, rows_from}
 use Rattle.image.proofs.CodeSpelling.{take-rest}
 use Rattle.image.proofs.Loop.{row_goes_on, row_fails, rows_are_done}
 use Rattle.image.proofs.rows.rows_of.Goals as goal

@@ -1,5 +1,4 @@
-use Rattle.std.proofs.Common.{◌≡◌, drop}
-use Rattle.image.specs.Refusals.{rows_refusal}
+use Rattle.image.proofs.Common.{◌≡◌, drop, rows_refusal}
 use Rattle.image.proofs.rows.rows_refusal.Given as goal
 
 abbrev pub invariant-loop-index : goal.invariant-loop-index

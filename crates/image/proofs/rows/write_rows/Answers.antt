@@ -1,6 +1,4 @@
-use Rattle.std.proofs.Common.{List, ℕ, subst}
-use Rattle.std.specs.Io.KnownBytes.{Appends}
-use Rattle.exact_io.specs.Transfers.{AppendsBeginning}
+use Rattle.image.proofs.Common.{List, ℕ, subst, Appends, AppendsBeginning}
 use Rattle.image.proofs.Writing.{on_err, Appends-rows, AppendsBeginning-rows}
 use Rattle.image.proofs.rows.write_rows.Goals as goal
 

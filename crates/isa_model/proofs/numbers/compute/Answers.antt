@@ -1,5 +1,4 @@
-use Rattle.std.proofs.Common.{rules}
-use Rattle.isa_model.specs.Code.Numbers.{alu}
+use Rattle.isa_model.proofs.Common.{rules, alu}
 use Rattle.isa_model.proofs.numbers.compute.Goals as goal
 
 pub returns-in-Low32 : goal.returns-in-Low32

@@ -1,5 +1,4 @@
-use Rattle.std.proofs.Common.{rules}
-use Rattle.isa_model.specs.Code.Numbers.{reordered}
+use Rattle.isa_model.proofs.Common.{rules, reordered}
 use Rattle.isa_model.proofs.numbers.reorder.Goals as goal
 
 pub returns-in_default-B16 : goal.returns-in_default-B16

@@ -1,5 +1,4 @@
-use Rattle.image.proofs.Programs.{IsProgram-IsImage}
-use Rattle.walks.proofs.AcceptingLaws.{AcceptsAll-refused}
+use Rattle.listeners.proofs.Common.{IsProgram-IsImage, AcceptsAll-refused}
 use Rattle.listeners.proofs.explaining.explain.Goals as goal
 
 pub returns-in-Some-followed_again-clause-accepts :

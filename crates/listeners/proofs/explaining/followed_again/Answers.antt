@@ -1,9 +1,4 @@
-use Rattle.std.proofs.Common.{◌≡◌, List, [], rules, subst, sym}
-use Rattle.stack_state.specs.declared.states.State.{State}
-use Rattle.isa_model.specs.Code.Instructions.{Program}
-use Rattle.walks.specs.Explained.{Explains}
-use Rattle.walks.specs.Forgetting.{Precision, Coarse}
-use Rattle.listeners.specs.Followed.{HasFollowed}
+use Rattle.listeners.proofs.Common.{◌≡◌, List, [], rules, subst, sym, State, Program, Explains, Precision, Coarse, HasFollowed}
 use Rattle.listeners.specs.declared.explaining.Follower.{Follower}
 use Rattle.listeners.proofs.Following.{explains_long}
 use Rattle.listeners.proofs.Stops.{if_some}

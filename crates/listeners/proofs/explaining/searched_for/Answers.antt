@@ -1,16 +1,5 @@
-use Rattle.std.proofs.Common.{◌≡◌, ℕ, List, [], rules, subst, sym}
-use Rattle.stack_state.specs.declared.states.State.{State}
-use Rattle.isa_model.specs.Code.Instructions.{Program}
-use Rattle.image.proofs.Programs.{IsProgram-IsImage}
-use Rattle.walks.specs.declared.refusals.Refusal.{Refusal}
-use Rattle.walks.specs.Forgetting.{Precision}
-use Rattle.walks.specs.Refused.{IsRefused}
-use Rattle.walks.specs.Accepting.{AcceptsAll}
-use Rattle.walks.proofs.AcceptingLaws.{AcceptsAll-refused}
-use Rattle.walks.specs.Explained.{Explains}
-use Rattle.listeners.specs.Followed.{HasFollowed}
+use Rattle.listeners.proofs.Common.{◌≡◌, ℕ, List, [], rules, subst, sym, State, Program, IsProgram-IsImage, Refusal, Precision, IsRefused, AcceptsAll, AcceptsAll-refused, Explains, HasFollowed, EndsAsPrecise}
 use Rattle.listeners.specs.declared.explaining.Follower.{Follower}
-use Rattle.explorer.specs.Listening.{EndsAsPrecise}
 use Rattle.listeners.proofs.Following.{explains_by}
 use Rattle.listeners.proofs.Stops.{refused_with, if_some, for_some}
 use Rattle.listeners.proofs.explaining.searched_for.Goals as goal

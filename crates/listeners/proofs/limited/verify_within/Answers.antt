@@ -1,7 +1,5 @@
-use Rattle.std.proofs.Common.{arith, subst}
+use Rattle.listeners.proofs.Common.{arith, subst, IsRefused, AcceptsAll}
 use Rattle.stack_state.specs.Starts.{start}
-use Rattle.walks.specs.Refused.{IsRefused}
-use Rattle.walks.specs.Accepting.{AcceptsAll}
 use Rattle.listeners.specs.Rejections.{IfRejected}
 use Rattle.listeners.proofs.limited.verify_within.Goals as goal
 

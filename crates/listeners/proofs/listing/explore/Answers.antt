@@ -1,9 +1,7 @@
-use Rattle.image.proofs.Programs.{IsProgram-IsImage}
+use Rattle.listeners.proofs.Common.{IsProgram-IsImage, BoundsAll, AcceptsAll-refused, BoundsAll-number}
 use Rattle.stack_state.specs.Starts.{start}
 use Rattle.bounds.specs.Bounds.{IsVerified}
-use Rattle.walks.specs.Accepting.{BoundsAll}
 use Rattle.walks.specs.Counts.{HasNumber}
-use Rattle.walks.proofs.AcceptingLaws.{AcceptsAll-refused, BoundsAll-number}
 use Rattle.listeners.proofs.ListingLaws.{OfStart-number}
 use Rattle.listeners.proofs.listing.explore.Goals as goal
 

@@ -1,5 +1,4 @@
-use Rattle.image.proofs.Programs.{IsProgram-IsImage}
-use Rattle.walks.proofs.AcceptingLaws.{BoundsAll-number}
+use Rattle.listeners.proofs.Common.{IsProgram-IsImage, BoundsAll-number}
 use Rattle.listeners.proofs.Stops.{rejected_accepts}
 use Rattle.listeners.proofs.rejections.verify_followed.Goals as goal
 

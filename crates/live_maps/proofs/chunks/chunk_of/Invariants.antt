@@ -1,5 +1,4 @@
-use Rattle.std.proofs.Common.{◌-◌, ◌<◌, ◌≤◌, length}
-use Rattle.std.specs.Prelude.{slice_index_or}
+use Rattle.std.proofs.Common.{◌-◌, ◌<◌, ◌≤◌, length, slice_index_or}
 use Rattle.live_maps.proofs.chunks.chunk_of.Given as goal
 
 abbrev pub invariant-loop-low : goal.invariant-loop-low

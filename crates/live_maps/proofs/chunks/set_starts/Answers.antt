@@ -1,7 +1,4 @@
-use Rattle.std.proofs.Common.{◌≡◌, ◌+◌, ◌-◌, ◌<◌, ◌≤◌, length, ap, ◌∙◌, arith}
-use Rattle.std.specs.Prelude.{slice_index_or}
-use Rattle.std.proofs.lemmas.List.{length-set}
-use Rattle.live_maps.specs.Ranks.{all_places, count_to, lists_of}
+use Rattle.live_maps.proofs.Common.{◌≡◌, ◌+◌, ◌-◌, ◌<◌, ◌≤◌, length, ap, ◌∙◌, arith, slice_index_or, length-set, all_places, count_to, lists_of}
 use Rattle.live_maps.proofs.ChunkLaws.{begin_next, chunk-few, length-lists, list_read}
 use Rattle.live_maps.proofs.RanksLaws.{list_in}
 use Rattle.live_maps.proofs.chunks.set_starts.Goals as goal

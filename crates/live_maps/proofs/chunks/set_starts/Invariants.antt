@@ -1,5 +1,4 @@
-use Rattle.std.proofs.Common.{◌≡◌, length}
-use Rattle.live_maps.specs.Ranks.{Begin, lists_of}
+use Rattle.live_maps.proofs.Common.{◌≡◌, length, Begin, lists_of}
 use Rattle.live_maps.proofs.chunks.set_starts.Given as goal
 
 abbrev pub invariant-loop-c : goal.invariant-loop-c

@@ -1,9 +1,4 @@
-use Rattle.std.proofs.Common.{◌≡◌, ◌∙◌, ap, subst, ℕ, length, arith}
-use Rattle.std.specs.Prelude.{slice_set}
-use Rattle.std.specs.FinMap.{values}
-use Rattle.maps.specs.Maps.{IsMap, map_at}
-use Rattle.live_maps.specs.PlaceOrders.{IsOrderOf, PlaceOrder, kept_at, serials_in, serials_of}
-use Rattle.live_maps.specs.Numbering.{NumbersAll, count_before}
+use Rattle.live_maps.proofs.Common.{◌≡◌, ◌∙◌, ap, subst, ℕ, length, arith, slice_set, values, IsMap, map_at, IsOrderOf, PlaceOrder, kept_at, serials_in, serials_of, NumbersAll, count_before}
 use Rattle.live_maps.proofs.PlaceOrderLaws.{IsOrderOf-numbered, NumbersAll-kept, length-serials_in, length-serials_of, serials_at-kept, serials_in-set}
 use Rattle.live_maps.proofs.NumberingLaws.{numbers-next, count_before-suc, count_before-all, values-few}
 use Rattle.live_maps.proofs.OrderLaws.{AreOrdersOf-numbered, kept_found}

@@ -1,11 +1,5 @@
-use Rattle.std.proofs.Common.{◌≡◌, ◌<◌, ◌≤◌, ◌*◌, ℕ}
-use Rattle.std.specs.Prelude.{vec_capacity}
-use Rattle.std.specs.FinMap.{values}
+use Rattle.live_maps.proofs.Common.{◌≡◌, ◌<◌, ◌≤◌, ◌*◌, ℕ, vec_capacity, values, map_at, serials_at, AreOrdersOf, serials_in, NumbersAll, count_before}
 use Rattle.isa_model.specs.Code.Limits.{max_map_entries}
-use Rattle.maps.specs.Maps.{map_at}
-use Rattle.live_maps.specs.Live.{serials_at}
-use Rattle.live_maps.specs.PlaceOrders.{AreOrdersOf, serials_in}
-use Rattle.live_maps.specs.Numbering.{NumbersAll, count_before}
 use Rattle.live_maps.proofs.numbering.number_all.Given as goal
 
 abbrev pub invariant-loop-m : goal.invariant-loop-m

@@ -1,8 +1,4 @@
-use Rattle.std.proofs.Common.{◌∙◌, ℕ, List, length, sym, ap, arith}
-use Rattle.std.specs.Prelude.{slice_get}
-use Rattle.std.specs.FinMap.{values}
-use Rattle.std.proofs.lemmas.Option.{get_or_from_slice_get, slice_get_within}
-use Rattle.maps.specs.Maps.{IsMap, map_at}
+use Rattle.live_maps.proofs.Common.{◌∙◌, ℕ, List, length, sym, ap, arith, slice_get, values, get_or_from_slice_get, slice_get_within, IsMap, map_at}
 use Rattle.live_maps.proofs.NumberingLaws.{values-few, values-within}
 use Rattle.live_maps.proofs.reordering.list_places.Goals as goal
 

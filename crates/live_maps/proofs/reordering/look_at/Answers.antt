@@ -1,6 +1,4 @@
-use Rattle.std.proofs.Common.{ap, ◌∙◌, ℕ, List, length, arith}
-use Rattle.std.specs.Prelude.{slice_get}
-use Rattle.std.proofs.lemmas.List.FromFn.{length-range_with_len}
+use Rattle.live_maps.proofs.Common.{ap, ◌∙◌, ℕ, List, length, arith, slice_get, length-range_with_len}
 use Rattle.live_maps.proofs.ReorderLaws.{looked-all, all_at}
 use Rattle.live_maps.proofs.reordering.look_at.Goals as goal
 

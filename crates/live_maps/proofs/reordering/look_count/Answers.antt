@@ -1,5 +1,4 @@
-use Rattle.std.proofs.Common.{sym, ap, ◌∙◌, length, arith}
-use Rattle.std.proofs.lemmas.List.FromFn.{length-range_with_len}
+use Rattle.live_maps.proofs.Common.{sym, ap, ◌∙◌, length, arith, length-range_with_len}
 use Rattle.live_maps.proofs.ReorderLaws.{looked-all}
 use Rattle.live_maps.proofs.reordering.look_count.Goals as goal
 

@@ -1,11 +1,4 @@
-use Rattle.std.proofs.Common.{◌≡◌, ◌+◌, ◌∙◌, ℕ, List, None, Some, length, sym, ap, subst, arith}
-use Rattle.std.specs.Prelude.{slice_get, vec_capacity}
-use Rattle.std.specs.List.{filter}
-use Rattle.std.specs.FinMap.{values}
-use Rattle.maps.specs.Maps.{map_at}
-use Rattle.live_maps.specs.declared.place_serials.Since.{Since}
-use Rattle.live_maps.specs.PlaceOrders.{AllSame, AreGone, HaveCome, after, is_same_at, looked}
-use Rattle.live_maps.specs.Ranks.{Ranked}
+use Rattle.live_maps.proofs.Common.{◌≡◌, ◌+◌, ◌∙◌, ℕ, List, None, Some, length, sym, ap, subst, arith, slice_get, vec_capacity, filter, values, map_at, Since, AllSame, AreGone, HaveCome, after, is_same_at, looked, Ranked}
 use Rattle.live_maps.proofs.OrderLaws.{out-values}
 use Rattle.live_maps.proofs.ReorderLaws.{AreGone-set, HaveCome-set, IsLeft, all_same, has_come, left-next, left-none, left-set, still_same}
 use Rattle.live_maps.proofs.reordering.put_in.Goals as goal

@@ -1,9 +1,4 @@
-use Rattle.std.proofs.Common.{◌≡◌, length}
-use Rattle.std.specs.Prelude.{vec_capacity}
-use Rattle.std.specs.List.{filter}
-use Rattle.std.specs.FinMap.{values}
-use Rattle.maps.specs.Maps.{map_at}
-use Rattle.live_maps.specs.PlaceOrders.{AreGone, HaveCome, is_same_at, looked}
+use Rattle.live_maps.proofs.Common.{◌≡◌, length, vec_capacity, filter, values, map_at, AreGone, HaveCome, is_same_at, looked}
 use Rattle.live_maps.proofs.ReorderLaws.{IsLeft}
 use Rattle.live_maps.proofs.reordering.put_in.Given as goal
 

@@ -1,10 +1,4 @@
-use Rattle.std.proofs.Common.{◌≡◌, ◌≤◌, ◌∙◌, ℕ, List, length, sym, ap, subst, arith}
-use Rattle.std.specs.Prelude.{slice_get, slice_set}
-use Rattle.std.specs.List.{filter, insert}
-use Rattle.std.specs.FinMap.{values}
-use Rattle.maps.specs.Maps.{IsMap, map_at}
-use Rattle.live_maps.specs.declared.place_serials.Since.TheVariants.{Same}
-use Rattle.live_maps.specs.PlaceOrders.{IsRising, is_same_at}
+use Rattle.live_maps.proofs.Common.{◌≡◌, ◌≤◌, ◌∙◌, ℕ, List, length, sym, ap, subst, arith, slice_get, slice_set, filter, insert, values, IsMap, map_at, Same, IsRising, is_same_at}
 use Rattle.live_maps.proofs.ReorderLaws.{put_one, rising-filter, rising-values, room_for_one}
 use Rattle.live_maps.proofs.reordering.put_place.Goals as goal
 use Rattle.live_maps.proofs.reordering.put_place.Goals.{After-rank_for-rank}

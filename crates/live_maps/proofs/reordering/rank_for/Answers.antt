@@ -1,5 +1,4 @@
-use Rattle.std.proofs.Common.{◌+◌, ◌-◌, ◌/◌, ◌∙◌, ℕ, sym, arith}
-use Rattle.maps.specs.Maps.{map_at}
+use Rattle.live_maps.proofs.Common.{◌+◌, ◌-◌, ◌/◌, ◌∙◌, ℕ, sym, arith, map_at}
 use Rattle.live_maps.proofs.ReorderLaws.{before_up_to, not_from}
 use Rattle.live_maps.proofs.reordering.rank_for.Goals as goal
 

@@ -1,7 +1,4 @@
-use Rattle.std.proofs.Common.{◌≡◌, ◌<◌, ◌≤◌, ◌-◌, ℕ, Some, length}
-use Rattle.std.specs.Prelude.{slice_get}
-use Rattle.maps.specs.Maps.{map_at}
-use Rattle.live_maps.specs.PlaceOrders.{IsBefore, NotBefore}
+use Rattle.live_maps.proofs.Common.{◌≡◌, ◌<◌, ◌≤◌, ◌-◌, ℕ, Some, length, slice_get, map_at, IsBefore, NotBefore}
 use Rattle.live_maps.proofs.reordering.rank_for.Given as goal
 
 abbrev pub invariant-loop-low : goal.invariant-loop-low

@@ -1,9 +1,4 @@
-use Rattle.std.proofs.Common.{◌≡◌, ◌+◌, ◌∙◌, ℕ, List, true, false, length, sym, ap, subst, arith}
-use Rattle.std.specs.Prelude.{vec_capacity}
-use Rattle.std.specs.List.{filter}
-use Rattle.live_maps.specs.PlaceOrders.{AreFresh, is_same, is_same_at, looked, since_in}
-use Rattle.live_maps.specs.Numbering.{AreDistinct}
-use Rattle.live_maps.specs.Ranks.{Ranked}
+use Rattle.live_maps.proofs.Common.{◌≡◌, ◌+◌, ◌∙◌, ℕ, List, true, false, length, sym, ap, subst, arith, vec_capacity, filter, AreFresh, is_same, is_same_at, looked, since_in, AreDistinct, Ranked}
 use Rattle.live_maps.proofs.PlaceLists.{distinct-filter, filter-without, out_still}
 use Rattle.live_maps.proofs.ReorderLaws.{AreOut, not_same, out-all, out-next, out-taken}
 use Rattle.live_maps.proofs.reordering.take_out.Goals as goal

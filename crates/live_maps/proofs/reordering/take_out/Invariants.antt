@@ -1,8 +1,4 @@
-use Rattle.std.proofs.Common.{◌≡◌, length}
-use Rattle.std.specs.Prelude.{vec_capacity}
-use Rattle.std.specs.List.{filter}
-use Rattle.live_maps.specs.PlaceOrders.{AreFresh, is_same_at, looked}
-use Rattle.live_maps.specs.Numbering.{AreDistinct}
+use Rattle.live_maps.proofs.Common.{◌≡◌, length, vec_capacity, filter, AreFresh, is_same_at, looked, AreDistinct}
 use Rattle.live_maps.proofs.ReorderLaws.{AreOut}
 use Rattle.live_maps.proofs.reordering.take_out.Given as goal
 

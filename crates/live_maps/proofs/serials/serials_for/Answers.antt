@@ -1,6 +1,4 @@
-use Rattle.std.proofs.Common.{◌<◌, ◌∙◌, List, length, sym, subst, arith}
-use Rattle.maps.specs.Maps.{IsMap, map_at}
-use Rattle.live_maps.specs.PlaceOrders.{IsOrderOf, PlaceOrder, kept_at}
+use Rattle.live_maps.proofs.Common.{◌<◌, ◌∙◌, List, length, sym, subst, arith, IsMap, map_at, IsOrderOf, PlaceOrder, kept_at}
 use Rattle.live_maps.proofs.PlaceOrderLaws.{IsOrderOf-numbered, kept-push}
 use Rattle.live_maps.proofs.serials.serials_for.Goals as goal
 

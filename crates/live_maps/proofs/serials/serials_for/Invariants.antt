@@ -1,7 +1,4 @@
-use Rattle.std.proofs.Common.{◌≡◌, ◌<◌, ℕ, length}
-use Rattle.std.specs.Prelude.{vec_len, vec_capacity}
-use Rattle.maps.specs.Maps.{map_at}
-use Rattle.live_maps.specs.PlaceOrders.{IsOrderOf, kept_at}
+use Rattle.live_maps.proofs.Common.{◌≡◌, ◌<◌, ℕ, length, vec_len, vec_capacity, map_at, IsOrderOf, kept_at}
 use Rattle.live_maps.proofs.serials.serials_for.Given as goal
 
 abbrev pub invariant-loop-m : goal.invariant-loop-m

@@ -1,5 +1,4 @@
-use Rattle.std.proofs.Common.{◌*◌, ◌/◌, ◌^◌, ℕ, ap₂}
-use Rattle.map_indexes.specs.Hashing.{chain_of}
+use Rattle.map_indexes.proofs.Common.{◌*◌, ◌/◌, ◌^◌, ℕ, ap₂, chain_of}
 use Rattle.map_indexes.proofs.hashing.chain_of.Goals as goal
 
 pub returns-clause-chain : goal.returns-clause-chain

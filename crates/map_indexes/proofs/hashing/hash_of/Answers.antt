@@ -1,7 +1,4 @@
-use Rattle.std.proofs.Common.{◌≡◌, ◌+◌, ◌-◌, ◌/◌, ◌<◌, ◌≤◌, ℕ, List, length, take, drop, sym, ap, ap₂, ◌∙◌, arith}
-use Rattle.std.proofs.lemmas.List.{length-drop, take_all}
-use Rattle.byteorder.specs.Endian.{little_number}
-use Rattle.map_indexes.specs.Hashing.{mixed, words_mixed, hash_of}
+use Rattle.map_indexes.proofs.Common.{◌≡◌, ◌+◌, ◌-◌, ◌/◌, ◌<◌, ◌≤◌, ℕ, List, length, take, drop, sym, ap, ap₂, ◌∙◌, arith, length-drop, take_all, little_number, mixed, words_mixed, hash_of}
 use Rattle.map_indexes.proofs.HashingLaws.{words_mixed-four, words_mixed-last, words_mixed-none}
 use Rattle.map_indexes.proofs.hashing.hash_of.Goals as goal
 

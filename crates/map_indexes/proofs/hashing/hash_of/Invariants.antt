@@ -1,5 +1,4 @@
-use Rattle.std.proofs.Common.{◌≡◌, ◌+◌, ◌/◌, length}
-use Rattle.map_indexes.specs.Hashing.{words_mixed}
+use Rattle.map_indexes.proofs.Common.{◌≡◌, ◌+◌, ◌/◌, length, words_mixed}
 use Rattle.map_indexes.proofs.hashing.hash_of.Given as goal
 
 abbrev pub invariant-loop-rest : goal.invariant-loop-rest

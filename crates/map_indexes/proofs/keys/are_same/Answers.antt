@@ -1,8 +1,4 @@
-use Rattle.std.proofs.Common.{◌≡◌, ℕ, List, length, true, false, refl, sym, ap, ◌∙◌, arith}
-use Rattle.std.proofs.lemmas.List.{take_all}
-use Rattle.std.specs.Prelude.{nat_eq}
-use Rattle.std.specs.Cmp.Lexicographic.{pointwise, bytes_decides}
-use Rattle.byteorder.specs.Endian.{little_bytes, little_number}
+use Rattle.map_indexes.proofs.Common.{◌≡◌, ℕ, List, length, true, false, refl, sym, ap, ◌∙◌, arith, nat_eq, take_all, pointwise, bytes_decides, little_bytes, little_number}
 use Rattle.isa_model.specs.Code.EachByte.{EachByte}
 use Rattle.isa_model.proofs.LittleEndianLaws.{little_bytes-little_from}
 use Rattle.map_indexes.proofs.keys.are_same.Goals as goal

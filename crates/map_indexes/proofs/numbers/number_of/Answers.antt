@@ -1,5 +1,4 @@
-use Rattle.std.proofs.Common.{◌≡◌, ℕ, zero, suc, ◌-◌, Some, refl, sym, ap, arith}
-use Rattle.map_indexes.specs.OptionalNumbers.{number_of}
+use Rattle.map_indexes.proofs.Common.{◌≡◌, ℕ, zero, suc, ◌-◌, Some, refl, sym, ap, arith, number_of}
 use Rattle.map_indexes.proofs.numbers.number_of.Goals as goal
 
 some : (n : ℕ) → (n ≡ 0 → ⊥) → Some (n - 1) ≡ number_of n

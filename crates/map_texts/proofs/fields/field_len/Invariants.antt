@@ -1,6 +1,4 @@
-use Rattle.std.proofs.Common.{◌≡◌, ◌+◌, drop}
-use Rattle.std.specs.List.{prefix_len}
-use Rattle.map_texts.specs.Lines.{is_field_byte}
+use Rattle.map_texts.proofs.Common.{◌≡◌, ◌+◌, drop, prefix_len, is_field_byte}
 use Rattle.map_texts.proofs.fields.field_len.Given as goal
 
 abbrev pub invariant-loop-i : goal.invariant-loop-i

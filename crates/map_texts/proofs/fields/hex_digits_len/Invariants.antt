@@ -1,6 +1,4 @@
-use Rattle.std.proofs.Common.{◌≡◌, ◌+◌, drop}
-use Rattle.std.specs.List.{prefix_len}
-use Rattle.hex.specs.Hex.{is_hex_digit}
+use Rattle.map_texts.proofs.Common.{◌≡◌, ◌+◌, drop, prefix_len, is_hex_digit}
 use Rattle.map_texts.proofs.fields.hex_digits_len.Given as goal
 
 abbrev pub invariant-loop-i : goal.invariant-loop-i

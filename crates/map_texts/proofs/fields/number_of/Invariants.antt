@@ -1,5 +1,4 @@
-use Rattle.std.proofs.Common.{◌≡◌, ℕ, ◌-◌, ◌^◌, drop, min}
-use Rattle.map_texts.specs.Lines.{number_from}
+use Rattle.map_texts.proofs.Common.{◌≡◌, ℕ, ◌-◌, ◌^◌, drop, min, number_from}
 use Rattle.map_texts.proofs.fields.number_of.Given as goal
 
 -- the number is capped, and that of the digits so far goes on without a cap

@@ -1,12 +1,6 @@
-use Rattle.std.proofs.Common.{arith, ◌≡◌, ◌+◌, ◌-◌, ◌≤◌, ℕ, List, ◌++◌, take, length, length-take, append-nil, le_refl, ap, ◌∙◌, subst}
-use Rattle.std.specs.Io.KnownBytes.{Consumes}
-use Rattle.std.proofs.KnownBytes.{Consumes-trans}
+use Rattle.map_texts.proofs.Common.{arith, ◌≡◌, ◌+◌, ◌-◌, ◌≤◌, ℕ, List, ◌++◌, take, length, length-take, append-nil, le_refl, ap, ◌∙◌, subst, Consumes, Consumes-trans, MapDef, rows_of, contents_of, after_line, StopsFilling, ArePending}
 use Rattle.std.proofs.lemmas.Slice.{take-put_mid_below}
 use borrow.Rule.Slice.PartMut.{put_mid}
-use Rattle.isa_model.specs.declared.map_defs.MapDef.{MapDef}
-use Rattle.maps.specs.Maps.{rows_of, contents_of}
-use Rattle.map_texts.specs.Fillings.{after_line}
-use Rattle.map_texts.specs.Progress.{StopsFilling, ArePending}
 use Rattle.map_texts.proofs.Finishing.{read_on, at_end, at_error, at_refusal}
 use Rattle.map_texts.proofs.filling.fill_maps.Goals as goal
 

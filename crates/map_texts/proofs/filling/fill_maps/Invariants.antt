@@ -1,8 +1,4 @@
-use Rattle.std.proofs.Common.{◌≡◌, ◌+◌, ◌*◌, ◌≤◌, List, ℕ, take}
-use Rattle.std.specs.Io.KnownBytes.{Consumes}
-use Rattle.maps.specs.Maps.{rows_of, contents_of}
-use Rattle.map_texts.specs.Lines.{most_line_size}
-use Rattle.map_texts.specs.Progress.{GoesOnReading, IsPending}
+use Rattle.map_texts.proofs.Common.{◌≡◌, ◌+◌, ◌*◌, ◌≤◌, List, ℕ, take, Consumes, rows_of, contents_of, most_line_size, GoesOnReading, IsPending}
 use Rattle.map_texts.proofs.filling.fill_maps.Given as goal
 
 abbrev pub invariant-loop-reads : goal.invariant-loop-reads

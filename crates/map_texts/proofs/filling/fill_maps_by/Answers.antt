@@ -1,8 +1,4 @@
-use Rattle.std.proofs.Common.{◌≡◌, ◌-◌, ℕ, List, length, take, drop, le_of_eq, ap, sym, ◌∙◌}
-use Rattle.std.proofs.lemmas.List.{take_all, length-drop}
-use Rattle.isa_model.specs.declared.map_defs.MapDef.{MapDef}
-use Rattle.maps.specs.Maps.{rows_of, contents_of}
-use Rattle.map_texts.specs.Fillings.{after_line}
+use Rattle.map_texts.proofs.Common.{◌≡◌, ◌-◌, ℕ, List, length, take, drop, le_of_eq, ap, sym, ◌∙◌, take_all, length-drop, MapDef, rows_of, contents_of, after_line}
 use Rattle.map_texts.proofs.Finishing.{last_line, line_refused}
 use Rattle.map_texts.proofs.filling.fill_maps_by.Goals as goal
 

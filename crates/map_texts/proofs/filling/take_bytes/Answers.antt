@@ -1,9 +1,4 @@
-use Rattle.std.proofs.Common.{arith, ◌≡◌, ◌-◌, ◌≤◌, ℕ, List, Some, take, drop, length-take, sym, ap, ◌∙◌, subst}
-use Rattle.std.proofs.lemmas.List.{length-take-le}
-use Rattle.maps.specs.Maps.{rows_of, contents_of}
-use Rattle.map_texts.specs.declared.errors.MapTextError.{MapTextError}
-use Rattle.map_texts.specs.Fillings.{FilledMaps}
-use Rattle.map_texts.specs.Progress.{left_of, HasNoFeed, IsPending}
+use Rattle.map_texts.proofs.Common.{arith, ◌≡◌, ◌-◌, ◌≤◌, ℕ, List, Some, take, drop, length-take, sym, ap, ◌∙◌, subst, length-take-le, rows_of, contents_of, MapTextError, FilledMaps, left_of, HasNoFeed, IsPending}
 use Rattle.map_texts.proofs.Taking.{some_kept, none_kept, tail_of, take_short}
 use Rattle.map_texts.proofs.filling.take_bytes.Goals as goal
 

@@ -1,9 +1,5 @@
-use Rattle.std.proofs.Common.{arith, ◌≡◌, ◌+◌, List, true, false, slice_index, length, slice_range, refl, sym, ap, ◌∙◌, subst}
-use Rattle.isa_model.specs.declared.map_defs.MapDef.{MapDef}
-use Rattle.maps.specs.Maps.{MapState, rows_of, contents_of}
+use Rattle.map_texts.proofs.Common.{arith, ◌≡◌, ◌+◌, List, true, false, slice_index, length, slice_range, refl, sym, ap, ◌∙◌, subst, MapDef, MapState, rows_of, contents_of, after_line, is_line_feed, AreTakenTo}
 use Rattle.map_texts.specs.declared.filling.Taken.{Taken}
-use Rattle.map_texts.specs.Fillings.{after_line, is_line_feed}
-use Rattle.map_texts.specs.Progress.{AreTakenTo}
 use Rattle.map_texts.proofs.Taking.{stopped, taken, none_yet, none_left, unended-more, unended-to}
 use Rattle.map_texts.proofs.filling.take_lines.Goals as goal
 use Rattle.map_texts.proofs.filling.take_lines.Goals.{then-bytes-at-eq10+in-Ok, else-bytes-at-eq10}

@@ -1,6 +1,4 @@
-use Rattle.std.proofs.Common.{◌≡◌}
-use Rattle.maps.specs.Maps.{rows_of, contents_of}
-use Rattle.map_texts.specs.Progress.{AreTakenTo}
+use Rattle.map_texts.proofs.Common.{◌≡◌, rows_of, contents_of, AreTakenTo}
 use Rattle.map_texts.proofs.filling.take_lines.Given as goal
 
 abbrev pub invariant-loop-at : goal.invariant-loop-at

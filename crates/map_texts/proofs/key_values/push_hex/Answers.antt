@@ -1,6 +1,4 @@
-use Rattle.std.proofs.Common.{◌≡◌, ℕ, List, [], ◌∷◌, ◌++◌, take, slice_index, refl, ap, sym, ◌∙◌, append-nil, append_assoc, add-zero, arith, rules}
-use Rattle.std.proofs.lemmas.List.{take_more}
-use Rattle.hex.specs.Hex.{encode_with, encode_lower}
+use Rattle.map_texts.proofs.Common.{◌≡◌, ℕ, List, [], ◌∷◌, ◌++◌, take, slice_index, refl, ap, sym, ◌∙◌, append-nil, append_assoc, add-zero, arith, rules, take_more, encode_with, encode_lower}
 use Rattle.map_texts.proofs.key_values.push_hex.Goals as goal
 
 encode-append : (xs ys : List ℕ) → encode_lower (xs ++ ys) ≡ encode_lower xs ++ encode_lower ys

@@ -1,6 +1,5 @@
-use Rattle.std.proofs.Common.{◌≡◌, ◌+◌, ◌*◌, ◌++◌, take}
+use Rattle.map_texts.proofs.Common.{◌≡◌, ◌+◌, ◌*◌, ◌++◌, take, encode_lower}
 use Rattle.arrayvec.specs.ArrayVec.{array_vec_len}
-use Rattle.hex.specs.Hex.{encode_lower}
 use Rattle.map_texts.proofs.key_values.push_hex.Given as goal
 
 abbrev pub invariant-loop-byte : goal.invariant-loop-byte

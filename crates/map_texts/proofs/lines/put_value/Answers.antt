@@ -1,8 +1,4 @@
-use Rattle.std.proofs.Common.{◌<◌, length, Some, ap, ◌∙◌, arith}
-use Rattle.isa_model.specs.declared.map_defs.MapDef.{MapDef}
-use Rattle.maps.specs.Maps.{contents_of}
-use Rattle.map_texts.specs.declared.errors.MapTextError.{MapTextError}
-use Rattle.map_texts.specs.Fillings.{FilledMaps}
+use Rattle.map_texts.proofs.Common.{◌<◌, length, Some, ap, ◌∙◌, arith, MapDef, contents_of, MapTextError, FilledMaps}
 use Rattle.map_texts.proofs.PutLaws.{put_done, put_refused, rows_stay}
 use Rattle.map_texts.proofs.lines.put_value.Goals as goal
 

@@ -1,10 +1,4 @@
-use Rattle.std.proofs.Common.{◌≡◌, ◌+◌, ◌<◌, ℕ, length, false, Some, sym, ap, ◌∙◌, subst, arith}
-use Rattle.std.specs.Prelude.{nat_lt}
-use Rattle.maps.specs.Maps.{rows_of, contents_of}
-use Rattle.map_texts.specs.declared.errors.MapTextError.{MapTextError}
-use Rattle.map_texts.specs.declared.errors.MapTextErrorKind.TheVariants.{LongLine}
-use Rattle.map_texts.specs.Lines.{longest_line}
-use Rattle.map_texts.specs.Fillings.{FilledMaps, refused}
+use Rattle.map_texts.proofs.Common.{◌≡◌, ◌+◌, ◌<◌, ℕ, length, false, Some, sym, ap, ◌∙◌, subst, arith, nat_lt, rows_of, contents_of, MapTextError, LongLine, longest_line, FilledMaps, refused}
 use Rattle.map_texts.proofs.LineLaws.{passed_line, plain_line, long_line}
 use Rattle.map_texts.proofs.lines.take_line.Goals as goal
 

@@ -1,5 +1,4 @@
-use Rattle.std.proofs.Common.{◌∙◌, arith}
-use Rattle.std.proofs.KnownBytes.{Appends-nil}
+use Rattle.map_texts.proofs.Common.{◌∙◌, arith, Appends-nil}
 use Rattle.maps.specs.Listing.{listed_key_values}
 use Rattle.map_texts.proofs.Listing.{none_past, value_short, pair_written, pair_failed, all_lines}
 use Rattle.map_texts.proofs.listings.write_key_values.Goals as goal

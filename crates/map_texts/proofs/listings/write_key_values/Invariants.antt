@@ -1,7 +1,5 @@
-use Rattle.std.proofs.Common.{take}
-use Rattle.std.specs.Io.KnownBytes.{Appends}
+use Rattle.map_texts.proofs.Common.{take, Appends, lines_of}
 use Rattle.maps.specs.Listing.{listed_key_values}
-use Rattle.map_texts.specs.Listings.{lines_of}
 use Rattle.map_texts.proofs.listings.write_key_values.Given as goal
 
 abbrev pub invariant-loop-k : goal.invariant-loop-k

@@ -1,5 +1,4 @@
-use Rattle.std.proofs.Common.{rules, ◌<◌, length, refl, arith}
-use Rattle.std.proofs.KnownBytes.{Appends-nil}
+use Rattle.map_texts.proofs.Common.{rules, ◌<◌, length, refl, arith, Appends-nil}
 use Rattle.map_texts.proofs.Listing.{FitListing-map_at, map_written, map_failed, maps_whole}
 use Rattle.map_texts.proofs.ReadBackTexts.{maps_read_back}
 use Rattle.map_texts.proofs.listings.write_maps.Goals as goal

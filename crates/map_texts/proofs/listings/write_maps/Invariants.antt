@@ -1,5 +1,4 @@
-use Rattle.std.proofs.Common.{◌≡◌, take}
-use Rattle.std.specs.Io.KnownBytes.{Appends}
+use Rattle.map_texts.proofs.Common.{◌≡◌, take, Appends}
 use Rattle.map_texts.proofs.Listing.{text_from}
 use Rattle.map_texts.proofs.listings.write_maps.Given as goal
 

@@ -1,7 +1,4 @@
-use Rattle.std.proofs.Common.{◌≡◌, ◌+◌, ◌<◌, max, drop, length, sym, ap, ◌∙◌, arith}
-use Rattle.isa_model.specs.declared.map_defs.MapDef.{MapDef}
-use Rattle.maps.specs.Maps.{rows_of}
-use Rattle.map_texts.specs.Lines.{longest_from, line_size}
+use Rattle.map_texts.proofs.Common.{◌≡◌, ◌+◌, ◌<◌, max, drop, length, sym, ap, ◌∙◌, arith, MapDef, rows_of, longest_from, line_size}
 use Rattle.map_texts.proofs.LineLaws.{rows_from}
 use Rattle.map_texts.proofs.longest.longest_line.Goals as goal
 

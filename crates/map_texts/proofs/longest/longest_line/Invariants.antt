@@ -1,6 +1,4 @@
-use Rattle.std.proofs.Common.{◌≡◌, ◌≤◌, drop, max}
-use Rattle.maps.specs.Maps.{rows_of}
-use Rattle.map_texts.specs.Lines.{longest_from, most_line_size}
+use Rattle.map_texts.proofs.Common.{◌≡◌, ◌≤◌, drop, max, rows_of, longest_from, most_line_size}
 use Rattle.map_texts.proofs.longest.longest_line.Given as goal
 
 abbrev pub invariant-loop-i : goal.invariant-loop-i

@@ -1,6 +1,4 @@
-use Rattle.std.proofs.Common.{◌≡◌, ℕ, ◌<◌, ◌≤◌, All, slice_index_or}
-use Rattle.isa_model.specs.declared.map_defs.MapType.TheVariants.{Hash}
-use Rattle.isa_model.specs.declared.map_defs.MapDef.{MapDef}
+use Rattle.maps.proofs.Common.{◌≡◌, ℕ, ◌<◌, ◌≤◌, All, slice_index_or, Hash, MapDef}
 use Rattle.maps.proofs.all.most_keys.Given as goal
 
 abbrev pub invariant-loop-row : goal.invariant-loop-row

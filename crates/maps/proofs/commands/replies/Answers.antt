@@ -1,6 +1,4 @@
-use Rattle.std.proofs.Common.{◌∙◌, ap, map, arith}
-use Rattle.maps.specs.Contents.{content}
-use Rattle.maps.specs.Commands.{said}
+use Rattle.maps.proofs.Common.{◌∙◌, ap, map, arith, content, said}
 use Rattle.maps.proofs.CommandLaws.{replies_next, left_next}
 use Rattle.maps.proofs.commands.replies.Goals as goal
 

@@ -1,7 +1,4 @@
-use Rattle.std.proofs.Common.{◌≡◌, ◌≤◌, length, take, map}
-use Rattle.std.specs.Prelude.{vec_capacity}
-use Rattle.maps.specs.Contents.{content}
-use Rattle.maps.specs.Commands.{said, replies_of, content_left}
+use Rattle.maps.proofs.Common.{◌≡◌, ◌≤◌, length, take, map, vec_capacity, content, said, replies_of, content_left}
 use Rattle.maps.proofs.commands.replies.Given as goal
 
 abbrev pub invariant-loop-i : goal.invariant-loop-i

@@ -1,8 +1,4 @@
-use Rattle.std.proofs.Common.{◌≡◌, refl, sym, ap, ◌∙◌, arith}
-use Rattle.isa_model.specs.declared.map_defs.MapType.TheVariants.{Hash}
-use Rattle.isa_model.specs.declared.map_defs.MapDef.{MapDef}
-use Rattle.isa_model.specs.Machine.MapContents.{enoent}
-use Rattle.map_indexes.proofs.PlaceKeysLaws.{remove_absent}
+use Rattle.maps.proofs.Common.{◌≡◌, refl, sym, ap, ◌∙◌, arith, Hash, MapDef, enoent, remove_absent}
 use Rattle.maps.proofs.UpdateLaws.{delete_present, delete_absent, content-deletes}
 use Rattle.maps.proofs.helpers.delete.Goals as goal
 

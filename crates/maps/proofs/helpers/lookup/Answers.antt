@@ -1,7 +1,4 @@
-use Rattle.std.proofs.Common.{Some, ap, sym, ◌∙◌}
-use Rattle.std.specs.Prelude.{option_copied}
-use Rattle.std.specs.Option.{option_map}
-use Rattle.map_indexes.specs.BlockRows.{block_row}
+use Rattle.maps.proofs.Common.{Some, ap, sym, ◌∙◌, option_copied, option_map, block_row}
 use Rattle.maps.proofs.ContentLaws.{at_key-content}
 use Rattle.maps.proofs.helpers.lookup.Goals as goal
 

@@ -1,5 +1,4 @@
-use Rattle.std.proofs.Common.{ap}
-use Rattle.isa_model.specs.declared.map_defs.MapDef.{MapDef}
+use Rattle.maps.proofs.Common.{ap, MapDef}
 use Rattle.maps.proofs.UpdateLaws.{answer_found}
 use Rattle.maps.proofs.helpers.test_update.Goals as goal
 

@@ -1,6 +1,4 @@
-use Rattle.std.proofs.Common.{◌≡◌, ◌<◌, ℕ, List, None, Some, refl, sym, subst, ◌∙◌}
-use Rattle.std.specs.FinMap.{get}
-use Rattle.isa_model.specs.declared.map_defs.MapDef.{MapDef}
+use Rattle.maps.proofs.Common.{◌≡◌, ◌<◌, ℕ, List, None, Some, refl, sym, subst, ◌∙◌, get, MapDef}
 use Rattle.maps.specs.Changes.{WritesPair}
 use Rattle.maps.proofs.UpdateLaws.{room_left, writes_present, writes_absent, content-writes, content-updates}
 use Rattle.maps.proofs.helpers.update.Goals as goal

@@ -1,8 +1,4 @@
-use Rattle.std.proofs.Common.{◌≡◌, ℕ, ◌+◌, ◌-◌, ◌/◌, ◌∙◌, List, length, true, false, sym, ap, subst, arith}
-use Rattle.std.specs.Prelude.{T, is_some}
-use Rattle.std.specs.List.{insert}
-use Rattle.std.specs.Ordering.{is_lt}
-use Rattle.isa_model.specs.Machine.MapContents.{key_order}
+use Rattle.maps.proofs.Common.{◌≡◌, ℕ, ◌+◌, ◌-◌, ◌/◌, ◌∙◌, List, length, true, false, sym, ap, subst, arith, T, is_some, insert, is_lt, key_order}
 use Rattle.maps.proofs.InsertLaws.{IsBelow, key_at, listed_at, keys_differ, below_else_above, below_up_to, above_from, values-inserted}
 use Rattle.maps.proofs.inserting.count_below.Goals as goal
 

@@ -1,9 +1,5 @@
-use Rattle.std.proofs.Common.{ℕ, ◌-◌, ◌<◌, ◌∙◌, List, length, Bool, sym, ap, arith}
-use Rattle.std.specs.Prelude.{if◌then◌else◌, vec_len, vec_capacity}
-use Rattle.std.specs.FinMap.{len-entries}
-use Rattle.std.specs.List.{insert}
+use Rattle.maps.proofs.Common.{ℕ, ◌-◌, ◌<◌, ◌∙◌, List, length, Bool, sym, ap, arith, if◌then◌else◌, vec_len, vec_capacity, len-entries, insert, places}
 use Rattle.map_indexes.specs.ScanLaws.{scan_few}
-use Rattle.map_indexes.specs.PlaceKeys.{places}
 use Rattle.maps.proofs.InsertLaws.{length-inserted, length-values_of}
 use Rattle.maps.proofs.inserting.insert_place.Goals as goal
 

@@ -1,5 +1,4 @@
-use Rattle.std.proofs.Common.{◌<◌, arith}
-use Rattle.std.proofs.lemmas.List.Elements.{All-from_get_or}
+use Rattle.maps.proofs.Common.{◌<◌, arith, All-from_get_or}
 use Rattle.maps.proofs.stores.are_bytes.Goals as goal
 
 pub returns : goal.returns

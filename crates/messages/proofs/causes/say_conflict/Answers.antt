@@ -1,6 +1,4 @@
-use Rattle.std.proofs.Common.{◌++◌, ℕ, List, codes, ap}
-use Rattle.messages.specs.Causes.{conflict_text}
-use Rattle.messages.specs.Names.{shown_name}
+use Rattle.messages.proofs.Common.{◌++◌, ℕ, List, codes, ap, conflict_text, shown_name}
 use Rattle.messages.proofs.Written.{ok_text, err_text}
 use Rattle.messages.proofs.causes.say_conflict.Goals as goal
 

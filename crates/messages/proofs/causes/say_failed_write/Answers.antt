@@ -1,6 +1,4 @@
-use Rattle.std.proofs.Common.{◌++◌, ℕ, List, codes, ap}
-use Rattle.messages.specs.Causes.{unwritten_text}
-use Rattle.messages.specs.Names.{shown_name}
+use Rattle.messages.proofs.Common.{◌++◌, ℕ, List, codes, ap, unwritten_text, shown_name}
 use Rattle.messages.proofs.Written.{ok_text, err_text}
 use Rattle.messages.proofs.causes.say_failed_write.Goals as goal
 

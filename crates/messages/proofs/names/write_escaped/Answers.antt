@@ -1,5 +1,4 @@
-use Rattle.std.proofs.Common.{◌<◌, length, rules}
-use Rattle.image.proofs.Writing.{on_err}
+use Rattle.messages.proofs.Common.{◌<◌, length, rules, on_err}
 use Rattle.messages.proofs.ShownNames.{next_written, next_broken, next_failed}
 use Rattle.messages.proofs.names.write_escaped.Goals as goal
 

@@ -1,7 +1,4 @@
-use Rattle.std.proofs.Common.{ℕ, List, Option, length}
-use Rattle.std.specs.Io.KnownBytes.{Appends}
-use Rattle.exact_io.specs.Transfers.{AppendsBeginning}
-use Rattle.messages.specs.Names.{shown_from}
+use Rattle.messages.proofs.Common.{ℕ, List, Option, length, Appends, AppendsBeginning, shown_from}
 use Rattle.messages.proofs.names.write_escaped.Given as goal
 
 abbrev pub invariant-shown : goal.invariant-shown

@@ -1,7 +1,4 @@
-use Rattle.std.proofs.Common.{◌++◌, subst, refl}
-use Rattle.exact_io.specs.Transfers.{AppendsBeginning}
-use Rattle.image.proofs.Writing.{on_err}
-use Rattle.messages.specs.Names.{shown_name}
+use Rattle.messages.proofs.Common.{◌++◌, subst, refl, AppendsBeginning, on_err, shown_name}
 use Rattle.messages.proofs.Written.{on_err_too, ok_text, ok_behind, first_failed, second_failed}
 use Rattle.messages.proofs.names.write_named.Goals as goal
 

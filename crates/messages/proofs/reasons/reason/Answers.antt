@@ -1,6 +1,4 @@
-use Rattle.std.proofs.Common.{◌≡◌, sym, subst}
-use Rattle.std.specs.Prelude.{IfOk}
-use Rattle.std.specs.String.{string_bytes}
+use Rattle.messages.proofs.Common.{◌≡◌, sym, subst, IfOk, string_bytes}
 use Rattle.walks.specs.declared.explained.Explanation.{Explanation}
 use Rattle.explanations.specs.States.{lines_of}
 use Rattle.messages.proofs.ReasonLaws.{of_flow, of_state}

@@ -1,5 +1,4 @@
-use Rattle.std.proofs.Common.{◌++◌, ℕ, List, codes, ap}
-use Rattle.messages.specs.Messages.{anew, entry_anew}
+use Rattle.messages.proofs.Common.{◌++◌, ℕ, List, codes, ap, anew, entry_anew}
 use Rattle.messages.proofs.Written.{err_text}
 use Rattle.messages.proofs.rejections.say_entry_anew.Goals as goal
 

@@ -1,7 +1,5 @@
-use Rattle.std.proofs.Common.{◌++◌, codes, refl}
-use Rattle.std.specs.Prelude.{decimal}
+use Rattle.messages.proofs.Common.{◌++◌, codes, refl, decimal, on_err}
 use Rattle.isa_model.specs.Text.CanonicalText.{line_of}
-use Rattle.image.proofs.Writing.{on_err}
 use Rattle.messages.proofs.Written.{first_failed, ok_behind, err_behind}
 use Rattle.messages.proofs.rejections.say_insn.Goals as goal
 

@@ -1,7 +1,5 @@
-use Rattle.std.proofs.Common.{◌++◌, ℕ, List, codes, ap, refl}
-use Rattle.image.proofs.Writing.{on_err}
+use Rattle.messages.proofs.Common.{◌++◌, ℕ, List, codes, ap, refl, on_err, text_position}
 use Rattle.map_texts.specs.Messages as map_texts
-use Rattle.messages.specs.Messages.{text_position}
 use Rattle.messages.proofs.Written.{first_failed, ok_behind, ok_text, err_text, err_behind}
 use Rattle.messages.proofs.rejections.say_maps_position.Goals as goal
 

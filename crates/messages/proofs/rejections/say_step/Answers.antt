@@ -1,6 +1,4 @@
-use Rattle.std.proofs.Common.{refl}
-use Rattle.image.proofs.Writing.{on_err}
-use Rattle.messages.specs.Messages.{entry_position, insn_position}
+use Rattle.messages.proofs.Common.{refl, on_err, entry_position, insn_position}
 use Rattle.messages.proofs.Written.{err_behind}
 use Rattle.messages.proofs.MessagesLaws.{step_failed}
 use Rattle.messages.proofs.rejections.say_step.Goals as goal

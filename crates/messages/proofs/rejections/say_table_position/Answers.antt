@@ -1,6 +1,5 @@
-use Rattle.std.proofs.Common.{◌++◌, ℕ, List, codes, refl, ap}
+use Rattle.messages.proofs.Common.{◌++◌, ℕ, List, codes, refl, ap, step_position}
 use Rattle.transfer.specs.Messages as transfer
-use Rattle.messages.specs.Messages.{step_position}
 use Rattle.messages.proofs.Written.{err_text, err_behind}
 use Rattle.messages.proofs.rejections.say_table_position.Goals as goal
 

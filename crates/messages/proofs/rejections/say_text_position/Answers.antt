@@ -1,5 +1,4 @@
-use Rattle.std.proofs.Common.{◌++◌, ℕ, List, codes, decimal, ap}
-use Rattle.image.proofs.Writing.{on_err}
+use Rattle.messages.proofs.Common.{◌++◌, ℕ, List, codes, decimal, ap, on_err}
 use Rattle.messages.proofs.Written.{first_failed, err_text, err_behind}
 use Rattle.messages.proofs.rejections.say_text_position.Goals as goal
 

@@ -1,7 +1,4 @@
-use Rattle.std.proofs.Common.{◌++◌, codes, refl}
-use Rattle.std.specs.Prelude.{decimal}
-use Rattle.image.proofs.Writing.{on_err}
-use Rattle.messages.specs.Messages.{hint_line}
+use Rattle.messages.proofs.Common.{◌++◌, codes, refl, decimal, on_err, hint_line}
 use Rattle.messages.proofs.Written.{first_failed, ok_behind, err_behind}
 use Rattle.messages.proofs.rejections.say_with_hint.Goals as goal
 

@@ -1,6 +1,4 @@
-use Rattle.std.proofs.Common.{◌++◌, subst}
-use Rattle.exact_io.specs.Transfers.{AppendsBeginning}
-use Rattle.image.proofs.Writing.{on_err}
+use Rattle.messages.proofs.Common.{◌++◌, subst, AppendsBeginning, on_err}
 use Rattle.messages.proofs.Written.{on_err_too, ok_text, ok_behind, first_failed, second_failed}
 use Rattle.messages.proofs.texts.write_texts.Goals as goal
 

@@ -1,6 +1,4 @@
-use Rattle.std.proofs.Common.{◌∙◌, ◌++◌, ap, inr, subst, sym, List, ℕ}
-use Rattle.std.specs.Prelude.{T, is_none}
-use Rattle.std.specs.String.{string_bytes}
+use Rattle.messages.proofs.Common.{◌∙◌, ◌++◌, ap, inr, subst, sym, List, ℕ, T, is_none, string_bytes}
 use Rattle.messages.specs.Texts.{program_front}
 use Rattle.messages.proofs.whole_texts.program_text.Goals as goal
 

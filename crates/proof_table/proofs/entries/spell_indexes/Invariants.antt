@@ -1,6 +1,4 @@
-use Rattle.std.proofs.Common.{◌≡◌, ◌++◌, take}
-use Rattle.std.specs.List.{flat_map}
-use Rattle.byteorder.specs.Endian.{little_bytes}
+use Rattle.proof_table.proofs.Common.{◌≡◌, ◌++◌, take, flat_map, little_bytes}
 use Rattle.proof_table.proofs.entries.spell_indexes.Given as goal
 
 abbrev pub invariant-loop-index : goal.invariant-loop-index

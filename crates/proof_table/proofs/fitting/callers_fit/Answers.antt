@@ -1,7 +1,4 @@
-use Rattle.std.proofs.Common.{ℕ, get_or, true, refl, subst, below_more}
-use Rattle.std.proofs.lemmas.List.{get_or_read_under}
-use Rattle.stack_state.specs.declared.states.AbstractFrame.{AbstractFrame}
-use Rattle.proof_table.specs.Fitting.{FrameFits, frame_said}
+use Rattle.proof_table.proofs.Common.{ℕ, get_or, true, refl, subst, below_more, get_or_read_under, AbstractFrame, FrameFits, frame_said}
 use Rattle.proof_table.proofs.fitting.callers_fit.Goals as goal
 
 pub loop-holder-preserved : goal.loop-holder-preserved

@@ -1,6 +1,4 @@
-use Rattle.std.proofs.Common.{ℕ, ◌<◌, true, get_or}
-use Rattle.stack_state.specs.declared.states.AbstractFrame.{AbstractFrame}
-use Rattle.proof_table.specs.Fitting.{FrameFits, frame_said}
+use Rattle.proof_table.proofs.Common.{ℕ, ◌<◌, true, get_or, AbstractFrame, FrameFits, frame_said}
 use Rattle.proof_table.proofs.fitting.callers_fit.Given as goal
 
 abbrev pub invariant-loop-holder : goal.invariant-loop-holder

@@ -1,7 +1,5 @@
-use Rattle.std.proofs.Common.{◌^◌, ◌<◌, arith, refl, rules}
+use Rattle.proof_table.proofs.Common.{◌^◌, ◌<◌, arith, refl, rules, All-from_get_or, Entry}
 use Rattle.std.proofs.Math.Facts.{Fits-lt-pow}
-use Rattle.std.proofs.lemmas.List.Elements.{All-from_get_or}
-use Rattle.table_entries.specs.Entries.{Entry}
 use Rattle.proof_table.proofs.FittingLaws.{EntryFits-callers, EntryFits-said}
 use Rattle.proof_table.proofs.fitting.entry_fits.Goals as goal
 

@@ -1,7 +1,4 @@
-use Rattle.std.proofs.Common.{subst, refl, take_all, arith}
-use Rattle.std.specs.Prelude.{All}
-use Rattle.std.proofs.lemmas.List.Elements.{All-more}
-use Rattle.proof_table.specs.Fitting.{KindFits}
+use Rattle.proof_table.proofs.Common.{subst, refl, take_all, arith, All, All-more, KindFits}
 use Rattle.proof_table.proofs.fitting.kinds_fit.Goals as goal
 
 pub loop-kind-preserved : goal.loop-kind-preserved

@@ -1,6 +1,4 @@
-use Rattle.std.proofs.Common.{take}
-use Rattle.std.specs.Prelude.{All}
-use Rattle.proof_table.specs.Fitting.{KindFits}
+use Rattle.proof_table.proofs.Common.{take, All, KindFits}
 use Rattle.proof_table.proofs.fitting.kinds_fit.Given as goal
 
 abbrev pub invariant-loop-kind : goal.invariant-loop-kind

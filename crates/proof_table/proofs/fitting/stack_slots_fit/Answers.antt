@@ -1,8 +1,4 @@
-use Rattle.std.proofs.Common.{subst, refl, take_all, arith}
-use Rattle.std.specs.Prelude.{All}
-use Rattle.std.proofs.lemmas.List.Elements.{All-more}
-use Rattle.stack_state.specs.declared.slots.StackSlot.{StackSlot}
-use Rattle.proof_table.specs.Fitting.{StackSlotFits, stack_slot_said}
+use Rattle.proof_table.proofs.Common.{subst, refl, take_all, arith, All, All-more, StackSlot, StackSlotFits, stack_slot_said}
 use Rattle.proof_table.proofs.fitting.stack_slots_fit.Goals as goal
 
 pub loop-slot-preserved : goal.loop-slot-preserved

@@ -1,6 +1,4 @@
-use Rattle.std.proofs.Common.{take}
-use Rattle.std.specs.Prelude.{All}
-use Rattle.proof_table.specs.Fitting.{StackSlotFits, stack_slot_said}
+use Rattle.proof_table.proofs.Common.{take, All, StackSlotFits, stack_slot_said}
 use Rattle.proof_table.proofs.fitting.stack_slots_fit.Given as goal
 
 abbrev pub invariant-loop-slot : goal.invariant-loop-slot

@@ -1,6 +1,4 @@
-use Rattle.std.proofs.Common.{◌≡◌, ◌++◌, take}
-use Rattle.std.specs.List.{flat_map}
-use Rattle.proof_table.specs.Spelling.{kind_bytes}
+use Rattle.proof_table.proofs.Common.{◌≡◌, ◌++◌, take, flat_map, kind_bytes}
 use Rattle.proof_table.proofs.frames.spell_registers.Given as goal
 
 abbrev pub invariant-loop-kind : goal.invariant-loop-kind

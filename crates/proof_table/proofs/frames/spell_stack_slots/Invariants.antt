@@ -1,6 +1,4 @@
-use Rattle.std.proofs.Common.{◌≡◌, ◌++◌, take}
-use Rattle.std.specs.List.{flat_map}
-use Rattle.proof_table.specs.Spelling.{stack_slot_bytes}
+use Rattle.proof_table.proofs.Common.{◌≡◌, ◌++◌, take, flat_map, stack_slot_bytes}
 use Rattle.proof_table.proofs.frames.spell_stack_slots.Given as goal
 
 abbrev pub invariant-loop-slot : goal.invariant-loop-slot

@@ -1,8 +1,4 @@
-use Rattle.std.proofs.Common.{arith, subst}
-use Rattle.isa_model.specs.Code.Instructions.{Program}
-use Rattle.stack_state.specs.Starts.{start}
-use Rattle.walks.specs.Counts.{HasNumber}
-use Rattle.listeners.specs.Listed.{OfStart}
+use Rattle.proof_table.proofs.Common.{arith, subst, Program, start, HasNumber, OfStart}
 use Rattle.proof_table.proofs.tables.explore_again.Goals as goal
 
 pub returns : goal.returns

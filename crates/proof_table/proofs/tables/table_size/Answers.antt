@@ -1,8 +1,4 @@
-use Rattle.std.proofs.Common.{◌≡◌, ◌++◌, ◌-◌, ◌^◌, ◌+◌, List, ℕ, Some, arith, length, length-append, refl, sym, subst}
-use Rattle.std.specs.Prelude.{min}
-use Rattle.isa_model.specs.Code.Instructions.{Program}
-use Rattle.proof_table.specs.Spelling.{head_bytes}
-use Rattle.proof_table.specs.Writing.{IsForTable, IsTableSize, GainsEntries}
+use Rattle.proof_table.proofs.Common.{◌≡◌, ◌++◌, ◌-◌, ◌^◌, ◌+◌, List, ℕ, Some, arith, length, length-append, refl, sym, subst, min, Program, head_bytes, IsForTable, IsTableSize, GainsEntries}
 use Rattle.proof_table.proofs.WritingLaws.{GainsEntries-none, GainsEntries-more, IsTableSize-entries, table_length-entries}
 use Rattle.proof_table.proofs.tables.table_size.Goals as goal
 

@@ -1,7 +1,4 @@
-use Rattle.std.proofs.Common.{◌≡◌, ◌-◌, ◌^◌, List, ℕ, Some, length}
-use Rattle.std.specs.Prelude.{min}
-use Rattle.proof_table.specs.Spelling.{head_bytes}
-use Rattle.proof_table.specs.Writing.{GainsEntries}
+use Rattle.proof_table.proofs.Common.{◌≡◌, ◌-◌, ◌^◌, List, ℕ, Some, length, min, head_bytes, GainsEntries}
 use Rattle.proof_table.proofs.tables.table_size.Given as goal
 
 -- so many bytes have the head and the entries before the index

@@ -1,8 +1,4 @@
-use Rattle.std.proofs.Common.{◌≡◌, ℕ, List, subst, sym, refl, arith}
-use Rattle.std.specs.Io.KnownBytes.{Appends}
-use Rattle.exact_io.specs.Transfers.{AppendsBeginning}
-use Rattle.image.proofs.Writing.{on_err}
-use Rattle.proof_table.specs.Writing.{GainsEntries}
+use Rattle.proof_table.proofs.Common.{◌≡◌, ℕ, List, subst, sym, refl, arith, Appends, AppendsBeginning, on_err, GainsEntries}
 use Rattle.proof_table.proofs.WritingLaws.{GainsEntries-none, GainsEntries-more, BeginsEntries-part, BeginsEntries-some}
 use Rattle.proof_table.proofs.tables.write_entries.Goals as goal
 

@@ -1,15 +1,5 @@
-use Rattle.std.proofs.Common.{ℕ, List, arith, subst, sym}
-use Rattle.std.specs.Prelude.{OnOk, OnErr}
+use Rattle.proof_table.proofs.Common.{ℕ, List, arith, subst, sym, OnOk, OnErr, Appends, Program, AppendsBeginning, IsImage, start, HasNumber, OfStart, on_err, BeginsTable, GainsTableOf, BeginsEntries, GainsEntries, entries_for}
 use Rattle.std.proofs.lemmas.Result.{on_err_weaker, on_ok_weaker}
-use Rattle.std.specs.Io.KnownBytes.{Appends}
-use Rattle.isa_model.specs.Code.Instructions.{Program}
-use Rattle.exact_io.specs.Transfers.{AppendsBeginning}
-use Rattle.image.specs.Images.{IsImage}
-use Rattle.stack_state.specs.Starts.{start}
-use Rattle.walks.specs.Counts.{HasNumber}
-use Rattle.listeners.specs.Listed.{OfStart}
-use Rattle.image.proofs.Writing.{on_err}
-use Rattle.proof_table.specs.Writing.{BeginsTable, GainsTableOf, BeginsEntries, GainsEntries, entries_for}
 use Rattle.proof_table.proofs.WritingLaws.{GainsTableOf-entries, BeginsTable-entries, BeginsTable-head, BeginsTable-nothing}
 use Rattle.proof_table.proofs.tables.write_explored.Goals as goal
 

@@ -1,8 +1,5 @@
-use Rattle.std.proofs.Common.{subst}
+use Rattle.proof_table.proofs.Common.{subst, IsImage, on_err, GainsTableOf, entries_for}
 use Rattle.std.proofs.lemmas.Result.{on_ok_weaker}
-use Rattle.image.specs.Images.{IsImage}
-use Rattle.image.proofs.Writing.{on_err}
-use Rattle.proof_table.specs.Writing.{GainsTableOf, entries_for}
 use Rattle.proof_table.proofs.WritingLaws.{BeginsTable-nothing, GainsTable-of}
 use Rattle.proof_table.proofs.tables.write_table.Goals as goal
 

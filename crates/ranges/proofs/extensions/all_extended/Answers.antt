@@ -1,5 +1,4 @@
-use Rattle.isa_model.specs.declared.sizes.Extension.TheVariants.{Low8, Low16, Full8, Full16, Full32}
-use Rattle.isa_model.proofs.ExtensionLaws.{sign_extended_fits, sign_extended_below}
+use Rattle.ranges.proofs.Common.{Low8, Low16, Full8, Full16, Full32, sign_extended_fits, sign_extended_below}
 use Rattle.ranges.proofs.Limits.{extended_8, extended_16, extended_32}
 use Rattle.ranges.proofs.extensions.all_extended.Goals as goal
 

@@ -1,7 +1,4 @@
-use Rattle.std.proofs.Common.{ℕ, ◌<◌, ◌%◌, ◌^◌, refl, arith}
-use Rattle.isa_model.specs.declared.sizes.Extension.{Extension}
-use Rattle.isa_model.specs.declared.sizes.Extension.TheVariants.{Low8, Low16, Full8, Full16}
-use Rattle.isa_model.specs.Code.Numbers.{sign_extended}
+use Rattle.ranges.proofs.Common.{ℕ, ◌<◌, ◌%◌, ◌^◌, refl, arith, Extension, Low8, Low16, Full8, Full16, sign_extended}
 use Rattle.ranges.proofs.Extended.{half_of_8, half_of_16}
 use Rattle.ranges.proofs.halves.all_halves.Goals as goal
 

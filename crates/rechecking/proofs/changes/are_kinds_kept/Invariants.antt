@@ -1,5 +1,4 @@
-use Rattle.std.proofs.Common.{◌≡◌, true}
-use Rattle.rechecking.specs.Changes.{is_kind_kept, FirstHave}
+use Rattle.rechecking.proofs.Common.{◌≡◌, true, is_kind_kept, FirstHave}
 use Rattle.rechecking.proofs.changes.are_kinds_kept.Given as goal
 
 abbrev pub invariant-loop-index : goal.invariant-loop-index

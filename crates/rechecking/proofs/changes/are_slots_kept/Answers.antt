@@ -1,6 +1,4 @@
-use Rattle.std.proofs.Common.{◌≡◌, true, length, sym, ap, ◌∙◌, arith, Some}
-use Rattle.std.proofs.lemmas.Option.{slice_get-get_or}
-use Rattle.rechecking.specs.Changes.{is_slot_kept}
+use Rattle.rechecking.proofs.Common.{◌≡◌, true, length, sym, ap, ◌∙◌, arith, Some, slice_get-get_or, is_slot_kept}
 use Rattle.rechecking.proofs.ChangeLaws.{FirstHave-next, FirstHave-fewer}
 use Rattle.rechecking.proofs.changes.are_slots_kept.Goals as goal
 

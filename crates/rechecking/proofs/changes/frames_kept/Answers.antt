@@ -1,6 +1,4 @@
-use Rattle.std.proofs.Common.{length, sym, ap, ◌∙◌, arith, Some}
-use Rattle.std.proofs.lemmas.Option.{slice_get-get_or}
-use Rattle.rechecking.specs.Changes.{IsFrameUnchanged}
+use Rattle.rechecking.proofs.Common.{length, sym, ap, ◌∙◌, arith, Some, slice_get-get_or, IsFrameUnchanged}
 use Rattle.rechecking.proofs.ChangeLaws.{FirstHave-next, FirstHave-fewer}
 use Rattle.rechecking.proofs.changes.frames_kept.Goals as goal
 

@@ -1,5 +1,4 @@
-use Rattle.table_entries.specs.Tables.{entry_at}
-use Rattle.table_entries.proofs.GrowingLaws.{Grows-then, MayGrow-more}
+use Rattle.rechecking.proofs.Common.{entry_at, Grows-then, MayGrow-more}
 use Rattle.rechecking.proofs.WeakerLaws.{Enters-covers}
 use Rattle.rechecking.proofs.entries.enters.Goals as goal
 

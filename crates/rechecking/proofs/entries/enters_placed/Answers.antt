@@ -1,5 +1,4 @@
-use Rattle.std.proofs.Common.{refl, length}
-use Rattle.table_entries.specs.Tables.{entry_at}
+use Rattle.rechecking.proofs.Common.{refl, length, entry_at}
 use Rattle.rechecking.proofs.CheckingLaws.{Enters-same, Enters-covering, unclear_covers, unclear_number}
 use Rattle.rechecking.proofs.WeakerLaws.{Enters-weaker}
 use Rattle.rechecking.proofs.entries.enters_placed.Goals as goal

@@ -1,7 +1,4 @@
-use Rattle.std.proofs.Common.{rules}
-use Rattle.std.proofs.lemmas.Option.{IfSome_then}
-use Rattle.table_entries.specs.Tables.{entry_at}
-use Rattle.table_entries.proofs.GrowingLaws.{Grows-same, Grows-then, MayGrow-more}
+use Rattle.rechecking.proofs.Common.{rules, IfSome_then, entry_at, Grows-same, Grows-then, MayGrow-more}
 use Rattle.rechecking.proofs.CheckingLaws.{FollowsBy-two}
 use Rattle.rechecking.proofs.GrowingLaws.{Enters-grows}
 use Rattle.rechecking.proofs.entries.follows.Goals as goal

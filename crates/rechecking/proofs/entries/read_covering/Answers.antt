@@ -1,5 +1,4 @@
-use Rattle.table_entries.specs.Entries.{entry_of}
-use Rattle.table_entries.specs.Tables.{entry_at}
+use Rattle.rechecking.proofs.Common.{entry_of, entry_at}
 use Rattle.rechecking.proofs.CheckingLaws.{unclear_entry}
 use Rattle.rechecking.proofs.entries.read_covering.Goals as goal
 

@@ -1,8 +1,5 @@
-use Rattle.std.proofs.Common.{inl, inr, arith}
-use Rattle.std.proofs.lemmas.Bool.{cases_lt}
+use Rattle.rechecking.proofs.Common.{inl, inr, arith, cases_lt, entry_at, count_of, Grows-same, Grows-then, Grows-count, MayGrow-more, AllThere-more}
 use Rattle.std.proofs.lemmas.Result.{err_from_is_err_and}
-use Rattle.table_entries.specs.Tables.{entry_at, count_of}
-use Rattle.table_entries.proofs.GrowingLaws.{Grows-same, Grows-then, Grows-count, MayGrow-more, AllThere-more}
 use Rattle.rechecking.proofs.CheckingLaws.{fine_next}
 use Rattle.rechecking.proofs.GrowingLaws.{IsKnownEntry-grows, fine_grows}
 use Rattle.rechecking.proofs.entries.test_all.Goals as goal

@@ -1,8 +1,5 @@
-use Rattle.std.proofs.Common.{◌≤◌, length}
-use Rattle.table_entries.specs.Tables.{entry_at, count_of}
+use Rattle.rechecking.proofs.Common.{◌≤◌, length, entry_at, count_of, AllFineBefore, IsKnownEntry, IsKnownSpelled}
 use Rattle.table_entries.specs.Growing.{Grows}
-use Rattle.rechecking.specs.Checking.{AllFineBefore}
-use Rattle.rechecking.specs.KnownEntries.{IsKnownEntry, IsKnownSpelled}
 use Rattle.rechecking.proofs.entries.test_all.Given as goal
 
 -- the entries before it are placed and closed, and the known entry's state is in `state` or `room`

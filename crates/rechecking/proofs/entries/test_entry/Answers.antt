@@ -1,5 +1,4 @@
-use Rattle.std.specs.Prelude.{length}
-use Rattle.table_entries.specs.Tables.{entry_at}
+use Rattle.rechecking.proofs.Common.{length, entry_at}
 use Rattle.rechecking.proofs.entries.test_entry.Goals as goal
 
 pub returns-in-Ok-clause-known : goal.returns-in-Ok-clause-known

@@ -1,9 +1,4 @@
-use Rattle.std.specs.Prelude.{length}
-use Rattle.std.proofs.Common.{refl}
-use Rattle.isa_model.specs.Code.Instructions.{fetch}
-use Rattle.table_entries.specs.Entries.{entry_of}
-use Rattle.table_entries.specs.Tables.{entry_at}
-use Rattle.table_entries.proofs.GrowingLaws.{Grows-same}
+use Rattle.rechecking.proofs.Common.{length, refl, fetch, entry_of, entry_at, Grows-same}
 use Rattle.rechecking.proofs.CheckingLaws.{there_is, IsClosedEntry-follows, fine_of, refused_step, unnamed_step}
 use Rattle.rechecking.proofs.UntouchedLaws.{AreSpelled-after, AreSpelled-after_two}
 use Rattle.rechecking.proofs.GrowingLaws.{HasEntry-grows}

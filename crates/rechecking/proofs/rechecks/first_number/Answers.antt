@@ -1,9 +1,5 @@
-use Rattle.std.proofs.Common.{sym, subst}
-use Rattle.stack_state.specs.declared.states.State.{State}
-use Rattle.stack_state.specs.Meaning.{Covers}
+use Rattle.rechecking.proofs.Common.{sym, subst, State, Covers, entry_of, entry_at}
 use Rattle.state_cover.specs.FrameCover.{StateEncloses}
-use Rattle.table_entries.specs.Entries.{entry_of}
-use Rattle.table_entries.specs.Tables.{entry_at}
 use Rattle.rechecking.proofs.CheckingLaws.{HasStart-covers, unclear_start}
 use Rattle.rechecking.proofs.rechecks.first_number.Goals as goal
 

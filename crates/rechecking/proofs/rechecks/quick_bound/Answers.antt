@@ -1,7 +1,4 @@
-use Rattle.std.proofs.Common.{◌≡◌, inl, inr, refl, subst, ◌∙◌, arith}
-use Rattle.std.proofs.lemmas.Bool.{cases_lt}
-use Rattle.table_entries.specs.Tables.{count_of}
-use Rattle.table_entries.proofs.GrowingLaws.{AllThere-begun, no_entry_past, whole_read}
+use Rattle.rechecking.proofs.Common.{◌≡◌, inl, inr, refl, subst, ◌∙◌, arith, cases_lt, count_of, AllThere-begun, no_entry_past, whole_read}
 use Rattle.rechecking.specs.Refusing.{ShowsBound}
 use Rattle.rechecking.proofs.GrowingLaws.{HasStart-grows}
 use Rattle.rechecking.proofs.RefusalLaws.{shows_of}

@@ -1,5 +1,4 @@
-use Rattle.std.proofs.Common.{subst}
-use Rattle.std.specs.Prelude.{slice_get}
+use Rattle.std.proofs.Common.{subst, slice_get}
 use Rattle.isa_model.specs.Running.Outcomes.{StartsEnd}
 use Rattle.rechecking.proofs.TableLaws.{StartsEnd-closed}
 use Rattle.rechecking.proofs.rechecks.recheck.Goals as goal

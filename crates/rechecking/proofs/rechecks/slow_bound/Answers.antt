@@ -1,10 +1,4 @@
-use Rattle.std.proofs.Common.{◌≡◌, ◌<◌, ℕ, Some, inl, inr, refl, subst, arith}
-use Rattle.table_entries.specs.Entries.{Entry}
-use Rattle.std.proofs.lemmas.Bool.{cases_lt}
-use Rattle.table_entries.specs.Tables.{entry_at, count_of}
-use Rattle.table_entries.proofs.GrowingLaws.{entry_at-whole, no_entry_past}
-use Rattle.rechecking.specs.Tables.{EntryAt, IsClosedEntry}
-use Rattle.rechecking.specs.Checking.{IsFirstRefused}
+use Rattle.rechecking.proofs.Common.{◌≡◌, ◌<◌, ℕ, Some, inl, inr, refl, subst, arith, Entry, cases_lt, entry_at, count_of, entry_at-whole, no_entry_past, EntryAt, IsClosedEntry, IsFirstRefused}
 use Rattle.rechecking.proofs.RefusalLaws.{shows_of, refused_entry}
 use Rattle.rechecking.proofs.rechecks.slow_bound.Goals as goal
 

@@ -1,6 +1,4 @@
-use Rattle.std.proofs.Common.{inl, inr, arith}
-use Rattle.std.proofs.lemmas.Int.{ints}
-use Rattle.std.proofs.lemmas.Bool.{ltb-true, lt-ltb}
+use Rattle.reg_state.proofs.Common.{inl, inr, arith, ints, ltb-true, lt-ltb}
 use Rattle.reg_state.proofs.RelationsLaws.{low_half-small}
 use Rattle.reg_state.proofs.comparisons.are_low_halves.Goals as goal
 

@@ -1,8 +1,4 @@
-use Rattle.std.proofs.Common.{Option, Some, None, refl}
-use Rattle.std.specs.Prelude.{IfSome}
-use Rattle.std.proofs.lemmas.Option.{IfSome_then}
-use Rattle.isa_model.specs.declared.sizes.Width.TheVariants.{Full64}
-use Rattle.reg_state.specs.Going.{exchanged}
+use Rattle.reg_state.proofs.Common.{Option, Some, None, refl, IfSome, IfSome_then, Full64, exchanged}
 use Rattle.reg_state.proofs.GoingLaws.{may_whole}
 use Rattle.reg_state.proofs.comparisons.related_whole.Goals as goal
 

@@ -1,5 +1,4 @@
-use Rattle.std.proofs.Common.{subst}
-use Rattle.known_bits.specs.Bits.{Has}
+use Rattle.reg_state.proofs.Common.{subst, Has}
 use Rattle.reg_state.proofs.RelationsLaws.{moved_low}
 use Rattle.reg_state.proofs.low_bits.plain_halves.Goals as goal
 

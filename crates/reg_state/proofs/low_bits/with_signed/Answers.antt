@@ -1,5 +1,4 @@
-use Rattle.std.proofs.Common.{◌<◌, ◌^◌, subst, arith}
-use Rattle.known_bits.specs.Bits.{Has}
+use Rattle.reg_state.proofs.Common.{◌<◌, ◌^◌, subst, arith, Has}
 use Rattle.reg_state.proofs.RelationsLaws.{signed_half-small}
 use Rattle.reg_state.proofs.low_bits.with_signed.Goals as goal
 

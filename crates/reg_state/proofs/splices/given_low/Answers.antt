@@ -1,6 +1,5 @@
-use Rattle.std.proofs.Common.{◌%◌, ◌^◌, sym, subst, arith}
+use Rattle.reg_state.proofs.Common.{◌%◌, ◌^◌, sym, subst, arith, spliced}
 use Rattle.ranges.specs.Lows as L
-use Rattle.known_bits.specs.Bits.{spliced}
 use Rattle.known_bits.proofs.Splices.{spliced_new_low, spliced_old_low}
 use Rattle.reg_state.proofs.splices.given_low.Goals as goal
 

@@ -1,8 +1,4 @@
-use Rattle.std.proofs.Common.{arith, ap, length-set, get_or, set, ◌∙◌}
-use Rattle.std.proofs.lemmas.List.{get_or_default}
-use Rattle.std.proofs.lemmas.List.Edits.{map_over_more}
-use Rattle.stack_state.specs.Effects.{with_kinds}
-use Rattle.stack_state.specs.Facts.{learned}
+use Rattle.stack_state.proofs.Common.{arith, ap, length-set, get_or, set, ◌∙◌, get_or_default, map_over_more, with_kinds, learned}
 use Rattle.stack_state.proofs.facts.learn_frames.Goals as goal
 
 pub loop-index-preserved : goal.loop-index-preserved

@@ -1,6 +1,4 @@
-use Rattle.std.proofs.Common.{◌≡◌, ◌++◌, map, take, drop, length}
-use Rattle.stack_state.specs.Effects.{with_kinds}
-use Rattle.stack_state.specs.Facts.{learned}
+use Rattle.stack_state.proofs.Common.{◌≡◌, ◌++◌, map, take, drop, length, with_kinds, learned}
 use Rattle.stack_state.proofs.facts.learn_frames.Given as goal
 
 abbrev pub invariant-loop-index : goal.invariant-loop-index

@@ -1,5 +1,4 @@
-use Rattle.std.proofs.Common.{◌≡◌, rules, true, sym}
-use Rattle.stack_state.specs.Facts.{is_plain}
+use Rattle.stack_state.proofs.Common.{◌≡◌, rules, true, sym, is_plain}
 use Rattle.stack_state.proofs.FactLaws.{learned-plain}
 use Rattle.stack_state.proofs.facts.learn_kind.Goals as goal
 

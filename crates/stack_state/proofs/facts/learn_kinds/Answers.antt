@@ -1,7 +1,4 @@
-use Rattle.std.proofs.Common.{arith, ap, length-set, get_or, set, ◌∙◌}
-use Rattle.std.proofs.lemmas.List.{get_or_default}
-use Rattle.std.proofs.lemmas.List.Edits.{map_over_more}
-use Rattle.stack_state.specs.Facts.{learned}
+use Rattle.stack_state.proofs.Common.{arith, ap, length-set, get_or, set, ◌∙◌, get_or_default, map_over_more, learned}
 use Rattle.stack_state.proofs.facts.learn_kinds.Goals as goal
 
 pub loop-index-preserved : goal.loop-index-preserved

@@ -1,10 +1,5 @@
 use Rattle.std.proofs.Common.{arith, ◌≤◌, ◌++◌, List, length, length-set, get_or, drop, ap, sym, refl, ◌∙◌}
-use Rattle.std.proofs.lemmas.List.{get_or_default, take_all, drop_all, append-nil, take-append-drop}
-use Rattle.std.proofs.lemmas.List.Edits.{map_over_more}
-use Rattle.stack_state.specs.declared.slots.StackSlot.{StackSlot}
-use Rattle.stack_state.specs.declared.slots.StackSlot.TheVariants.{Written}
-use Rattle.stack_state.specs.Effects.{with_spilled}
-use Rattle.stack_state.specs.Facts.{learned}
+use Rattle.stack_state.proofs.Common.{get_or_default, take_all, drop_all, append-nil, take-append-drop, map_over_more, StackSlot, Written, with_spilled, learned}
 use Rattle.stack_state.proofs.BlankLaws.{blank_mapped}
 use Rattle.stack_state.proofs.facts.learn_slots.Goals as goal
 

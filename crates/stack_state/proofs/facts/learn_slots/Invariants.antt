@@ -1,7 +1,4 @@
-use Rattle.std.proofs.Common.{◌≡◌, ◌++◌, map, take, drop, length}
-use Rattle.stack_state.specs.Effects.{with_spilled}
-use Rattle.stack_state.specs.Facts.{learned}
-use Rattle.stack_state.specs.Slots.{frame_slots}
+use Rattle.stack_state.proofs.Common.{◌≡◌, ◌++◌, map, take, drop, length, with_spilled, learned, frame_slots}
 use Rattle.stack_state.proofs.facts.learn_slots.Given as goal
 
 abbrev pub invariant-loop-index : goal.invariant-loop-index

@@ -1,7 +1,4 @@
-use Rattle.std.proofs.Common.{arith, ap, length-set, get_or, set, ◌∙◌}
-use Rattle.std.proofs.lemmas.List.{get_or_default}
-use Rattle.std.proofs.lemmas.List.Edits.{map_over_more}
-use Rattle.stack_state.specs.Effects.{forgotten_frame}
+use Rattle.stack_state.proofs.Common.{arith, ap, length-set, get_or, set, ◌∙◌, get_or_default, map_over_more, forgotten_frame}
 use Rattle.stack_state.proofs.helpers.forget_in_frames.Goals as goal
 
 pub loop-i-preserved : goal.loop-i-preserved

@@ -1,5 +1,4 @@
-use Rattle.std.proofs.Common.{◌≡◌, ◌++◌, map, take, drop, length}
-use Rattle.stack_state.specs.Effects.{forgotten_frame}
+use Rattle.stack_state.proofs.Common.{◌≡◌, ◌++◌, map, take, drop, length, forgotten_frame}
 use Rattle.stack_state.proofs.helpers.forget_in_frames.Given as goal
 
 abbrev pub invariant-loop-i : goal.invariant-loop-i

@@ -1,6 +1,4 @@
-use Rattle.std.proofs.Common.{arith, ap, length-set, set, ◌∙◌}
-use Rattle.std.proofs.lemmas.List.Edits.{map_over_more}
-use Rattle.stack_state.specs.Effects.{forgotten_register}
+use Rattle.stack_state.proofs.Common.{arith, ap, length-set, set, ◌∙◌, map_over_more, forgotten_register}
 use Rattle.stack_state.proofs.helpers.forget_in_registers.Goals as goal
 
 pub loop-i-preserved : goal.loop-i-preserved

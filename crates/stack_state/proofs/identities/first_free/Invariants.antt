@@ -1,5 +1,4 @@
-use Rattle.std.proofs.Common.{◌≡◌, ℕ, ◌<◌, true}
-use Rattle.stack_state.specs.Marks.{is_marked}
+use Rattle.stack_state.proofs.Common.{◌≡◌, ℕ, ◌<◌, true, is_marked}
 use Rattle.stack_state.proofs.identities.first_free.Given as goal
 
 -- all below it are named

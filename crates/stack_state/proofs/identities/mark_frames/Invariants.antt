@@ -1,5 +1,4 @@
-use Rattle.std.proofs.Common.{◌*◌}
-use Rattle.stack_state.specs.Marks.{AreFree, IsFreshAt, Marks}
+use Rattle.stack_state.proofs.Common.{◌*◌, AreFree, IsFreshAt, Marks}
 use Rattle.stack_state.proofs.identities.mark_frames.Given as goal
 
 -- the places of the call frames before it are marked

@@ -1,8 +1,4 @@
-use Rattle.std.proofs.Common.{◌≡◌, sym, subst, arith}
-use Rattle.std.proofs.lemmas.Grind.{common_steps}
-use Rattle.stack_state.specs.declared.slots.StackSlot.{StackSlot}
-use Rattle.stack_state.specs.declared.slots.StackSlot.TheVariants.{Written}
-use Rattle.stack_state.specs.NumberStores.{IsBlank}
+use Rattle.stack_state.proofs.Common.{◌≡◌, sym, subst, arith, common_steps, StackSlot, Written, IsBlank}
 use Rattle.stack_state.proofs.number_stores.is_blank.Goals as goal
 
 pub returns-in-Written : goal.returns-in-Written

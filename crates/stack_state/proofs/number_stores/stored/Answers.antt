@@ -1,10 +1,6 @@
 use Rattle.std.proofs.Common.{◌≡◌, ℕ, ◌+◌, ◌*◌, refl, sym, ap, ◌∙◌, subst, arith, bit_or, inl, inr}
-use Rattle.isa_model.specs.declared.sizes.Size.{Size}
-use Rattle.isa_model.specs.Code.Sizes.{size_bytes}
+use Rattle.stack_state.proofs.Common.{Size, size_bytes, StackSlot, marks_of, mask_of, marks_after}
 use Rattle.reg_state.specs.Splices as S
-use Rattle.stack_state.specs.declared.slots.StackSlot.{StackSlot}
-use Rattle.stack_state.specs.Slots.{marks_of, mask_of}
-use Rattle.stack_state.specs.NumberStores.{marks_after}
 use Rattle.stack_state.proofs.number_stores.stored.Goals as goal
 
 -- the marks of the slot with those of the bytes

@@ -1,9 +1,5 @@
 use Rattle.std.proofs.Common.{◌≡◌, ℕ, refl, Some, sym, ap, ◌∙◌, subst}
-use Rattle.reg_state.specs.declared.scalars.Scalar.{Scalar}
-use Rattle.reg_state.specs.declared.kinds.Kind.TheVariants.{Number}
-use Rattle.stack_state.specs.declared.slots.StackSlot.{StackSlot}
-use Rattle.stack_state.specs.declared.slots.StackSlot.TheVariants.{Written}
-use Rattle.stack_state.specs.Slots.{IsAny, IsFill}
+use Rattle.stack_state.proofs.Common.{Scalar, Number, StackSlot, Written, IsAny, IsFill}
 use Rattle.stack_state.proofs.slots.filled.Goals as goal
 
 all_written : (slot : StackSlot) (marks : ℕ) (numbers : Scalar) → slot ≡ Written marks → marks ≡ 255

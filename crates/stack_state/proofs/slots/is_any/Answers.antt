@@ -1,9 +1,5 @@
-use Rattle.std.proofs.Common.{◌-◌, ◌^◌, ◌<◌, ◌≤◌, w64, FitsSigned, arith}
-use Rattle.std.specs.Int.{w32}
+use Rattle.stack_state.proofs.Common.{◌-◌, ◌^◌, ◌<◌, ◌≤◌, w64, FitsSigned, arith, w32, Scalar, Encloses, IsAny}
 use Rattle.std.proofs.lemmas.Int.{ints}
-use Rattle.reg_state.specs.declared.scalars.Scalar.{Scalar}
-use Rattle.reg_state.specs.Scalars.{Encloses}
-use Rattle.stack_state.specs.Slots.{IsAny}
 use Rattle.stack_state.proofs.slots.is_any.Goals as goal
 
 -- whatever numbers b has are among all

@@ -1,5 +1,4 @@
-use Rattle.std.proofs.Common.{arith, ◌≤◌, ◌+◌, ◌^◌, ℕ}
-use Rattle.std.proofs.Math.Nat.{pow-le-pow_right}
+use Rattle.stack_state.proofs.Common.{arith, ◌≤◌, ◌+◌, ◌^◌, ℕ, pow-le-pow_right}
 use Rattle.stack_state.proofs.slots.mask.Goals as goal
 
 pow_le : (a b : ℕ) → a ≤ b → 2 ^ a ≤ 2 ^ b

@@ -1,7 +1,4 @@
-use Rattle.std.proofs.Common.{◌≡◌, sym, subst, rules}
-use Rattle.isa_model.specs.declared.sizes.Size.{Size}
-use Rattle.isa_model.specs.declared.sizes.Size.TheVariants.{U8, U16, U32}
-use Rattle.stack_state.specs.Slots.{ArePart}
+use Rattle.stack_state.proofs.Common.{◌≡◌, sym, subst, rules, Size, U8, U16, U32, ArePart}
 use Rattle.stack_state.proofs.slots.part.Goals as goal
 
 pub returns-in-U8 : goal.returns-in-U8

@@ -1,5 +1,4 @@
-use Rattle.std.proofs.Common.{◌≡◌, ◌++◌, drop}
-use Rattle.state_index.specs.Parts.{register_parts}
+use Rattle.state_index.proofs.Common.{◌≡◌, ◌++◌, drop, register_parts}
 use Rattle.state_index.proofs.parts.push_registers.Given as goal
 
 -- the parts of the registers from here on are still missing

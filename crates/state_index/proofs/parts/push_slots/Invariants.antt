@@ -1,7 +1,6 @@
-use Rattle.std.proofs.Common.{◌≡◌, ℕ, ◌+◌, ◌*◌, ◌++◌, List, drop}
+use Rattle.state_index.proofs.Common.{◌≡◌, ℕ, ◌+◌, ◌*◌, ◌++◌, List, drop, slot_parts}
 use Rattle.stack_state.specs.declared.slots.StackSlot.{StackSlot}
 use Rattle.state_index.specs.declared.parts.Part.{Part}
-use Rattle.state_index.specs.Parts.{slot_parts}
 use Rattle.state_index.proofs.parts.push_slots.Given as goal
 
 -- the parts of the stack slots from the nth on are still missing

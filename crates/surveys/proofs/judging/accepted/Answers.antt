@@ -1,5 +1,4 @@
-use Rattle.std.proofs.Common.{◌∙◌, ap}
-use Rattle.survey_rows.specs.declared.rows.Counts.{Counts}
+use Rattle.surveys.proofs.Common.{◌∙◌, ap, Counts}
 use Rattle.surveys.proofs.Verdicts.{says_bound}
 use Rattle.surveys.proofs.judging.accepted.Goals as goal
 

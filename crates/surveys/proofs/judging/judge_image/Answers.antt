@@ -1,6 +1,4 @@
-use Rattle.std.proofs.Common.{◌∙◌, ap}
-use Rattle.stack_state.specs.Starts.{start}
-use Rattle.survey_rows.specs.declared.rows.Counts.{Counts}
+use Rattle.surveys.proofs.Common.{◌∙◌, ap, start, Counts}
 use Rattle.surveys.specs.Tallies.{searched}
 use Rattle.surveys.proofs.Verdicts.{says_of, sizes_kept}
 use Rattle.surveys.proofs.judging.judge_image.Goals as goal

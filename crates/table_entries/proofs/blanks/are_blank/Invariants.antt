@@ -1,5 +1,4 @@
-use Rattle.std.proofs.Common.{◌≡◌, take, replicate}
-use Rattle.stack_state.specs.declared.slots.StackSlot.TheVariants.{Written}
+use Rattle.table_entries.proofs.Common.{◌≡◌, take, replicate, Written}
 use Rattle.table_entries.proofs.blanks.are_blank.Given as goal
 
 abbrev pub invariant-loop-index : goal.invariant-loop-index

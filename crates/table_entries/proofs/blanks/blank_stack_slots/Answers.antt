@@ -1,6 +1,4 @@
-use Rattle.std.proofs.Common.{◌≡◌, ℕ, ◌+◌, ◌*◌, drop, ap, ◌∙◌, subst, arith, List}
-use Rattle.std.proofs.lemmas.List.{drop-drop}
-use Rattle.table_entries.specs.Blanks.{AreZeros}
+use Rattle.table_entries.proofs.Common.{◌≡◌, ℕ, ◌+◌, ◌*◌, drop, ap, ◌∙◌, subst, arith, List, drop-drop, AreZeros}
 use Rattle.table_entries.proofs.BlankStackSlots.{AreZeros-more}
 use Rattle.table_entries.proofs.blanks.blank_stack_slots.Goals as goal
 

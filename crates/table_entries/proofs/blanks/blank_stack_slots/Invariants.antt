@@ -1,5 +1,4 @@
-use Rattle.std.proofs.Common.{◌≡◌, ◌+◌, ◌*◌, drop}
-use Rattle.table_entries.specs.Blanks.{AreZeros}
+use Rattle.table_entries.proofs.Common.{◌≡◌, ◌+◌, ◌*◌, drop, AreZeros}
 use Rattle.table_entries.proofs.blanks.blank_stack_slots.Given as goal
 
 -- the table's bytes of all stack slots before this group of four are zeros

@@ -1,5 +1,4 @@
-use Rattle.std.proofs.lemmas.Result.{err_from_is_err_and}
-use Rattle.stack_state.specs.declared.states.State.{State}
+use Rattle.table_entries.proofs.Common.{err_from_is_err_and, State}
 use Rattle.table_entries.proofs.Parts.{rest_in-read}
 use Rattle.table_entries.proofs.entries.read_rest.Goals as goal
 

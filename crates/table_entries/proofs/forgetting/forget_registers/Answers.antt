@@ -1,6 +1,4 @@
-use Rattle.std.proofs.Common.{◌∙◌, arith}
-use Rattle.std.proofs.lemmas.List.{length-set}
-use Rattle.reg_state.specs.declared.kinds.Kind.TheVariants.{Unset}
+use Rattle.table_entries.proofs.Common.{◌∙◌, arith, length-set, Unset}
 use Rattle.table_entries.proofs.ForgettingLaws.{IsWeakerList-same, IsWeakerList-set}
 use Rattle.table_entries.proofs.forgetting.forget_registers.Goals as goal
 

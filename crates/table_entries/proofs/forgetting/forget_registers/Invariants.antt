@@ -1,6 +1,4 @@
-use Rattle.std.proofs.Common.{◌≡◌, length}
-use Rattle.reg_state.specs.declared.kinds.Kind.TheVariants.{Unset}
-use Rattle.table_entries.specs.Forgetting.{IsWeakerList}
+use Rattle.table_entries.proofs.Common.{◌≡◌, length, Unset, IsWeakerList}
 use Rattle.table_entries.proofs.forgetting.forget_registers.Given as goal
 
 abbrev pub invariant-loop-index : goal.invariant-loop-index

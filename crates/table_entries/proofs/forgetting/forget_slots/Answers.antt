@@ -1,7 +1,5 @@
 use Rattle.std.proofs.Common.{inr, refl, subst, sym, List, arith}
-use Rattle.stack_state.specs.declared.slots.StackSlot.{StackSlot}
-use Rattle.stack_state.specs.declared.slots.StackSlot.TheVariants.{Written}
-use Rattle.table_entries.specs.Forgetting.{IsWeakerList}
+use Rattle.table_entries.proofs.Common.{StackSlot, Written, IsWeakerList}
 use Rattle.table_entries.proofs.ForgettingLaws.{IsWeakerList-front, IsWeakerList-set}
 use Rattle.table_entries.proofs.forgetting.forget_slots.Goals as goal
 use Rattle.table_entries.proofs.forgetting.forget_slots.Goals.{then-is_blank+then-index-known_from, else-is_blank}

@@ -1,7 +1,4 @@
-use Rattle.std.proofs.Common.{◌≡◌, length}
-use Rattle.stack_state.specs.declared.slots.StackSlot.TheVariants.{Written}
-use Rattle.stack_state.specs.Slots.{frame_slots}
-use Rattle.table_entries.specs.Forgetting.{IsWeakerList}
+use Rattle.table_entries.proofs.Common.{◌≡◌, length, Written, frame_slots, IsWeakerList}
 use Rattle.table_entries.proofs.forgetting.forget_slots.Given as goal
 
 abbrev pub invariant-loop-index : goal.invariant-loop-index

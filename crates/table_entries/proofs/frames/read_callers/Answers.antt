@@ -1,7 +1,4 @@
-use Rattle.std.proofs.Common.{ℕ, true, arith}
-use Rattle.std.proofs.lemmas.Result.{err_from_is_err_and}
-use Rattle.table_entries.specs.Frames.{frame_in}
-use Rattle.table_entries.specs.Reading.{kept}
+use Rattle.table_entries.proofs.Common.{ℕ, true, arith, err_from_is_err_and, frame_in, kept}
 use Rattle.table_entries.proofs.Many.{many-goes_on, many-stops, many-done, many-begins, kept-both}
 use Rattle.table_entries.proofs.frames.read_callers.Goals as goal
 

@@ -1,6 +1,4 @@
-use Rattle.std.proofs.Common.{◌≡◌, ◌-◌, true, length}
-use Rattle.table_entries.specs.Frames.{frame_in, callers_in}
-use Rattle.table_entries.specs.Reading.{many, kept}
+use Rattle.table_entries.proofs.Common.{◌≡◌, ◌-◌, true, length, frame_in, callers_in, many, kept}
 use Rattle.table_entries.proofs.Many.{with_front}
 use Rattle.table_entries.proofs.frames.read_callers.Given as goal
 

@@ -1,5 +1,4 @@
-use Rattle.std.proofs.Common.{rules}
-use Rattle.table_entries.specs.Kinds.{limits_of}
+use Rattle.table_entries.proofs.Common.{rules, limits_of}
 use Rattle.table_entries.proofs.kinds.limits_of.Goals as goal
 
 pub returns-then-least-greatest : goal.returns-then-least-greatest

@@ -1,5 +1,4 @@
-use Rattle.std.proofs.Common.{sym, arith}
-use Rattle.std.proofs.lemmas.Int.{ints}
+use Rattle.table_entries.proofs.Common.{sym, arith, ints}
 use Rattle.table_entries.proofs.KindLaws.{low_of-made, low_of-none}
 use Rattle.table_entries.proofs.kinds.low_of.Goals as goal
 

@@ -1,5 +1,4 @@
-use Rattle.std.proofs.Common.{rules}
-use Rattle.table_entries.specs.Kinds.{map_in}
+use Rattle.table_entries.proofs.Common.{rules, map_in}
 use Rattle.table_entries.proofs.kinds.map_in.Goals as goal
 
 pub returns-then-from-rows : goal.returns-then-from-rows

@@ -1,5 +1,4 @@
-use Rattle.std.proofs.Common.{sym, arith}
-use Rattle.std.proofs.lemmas.Int.{ints}
+use Rattle.table_entries.proofs.Common.{sym, arith, ints}
 use Rattle.table_entries.proofs.KindLaws.{wide_of-made, wide_of-none}
 use Rattle.table_entries.proofs.kinds.wide_of.Goals as goal
 

@@ -1,8 +1,4 @@
-use Rattle.std.proofs.Common.{◌∙◌, take, arith}
-use Rattle.std.proofs.lemmas.List.{length-set}
-use Rattle.std.proofs.lemmas.Result.{err_from_is_err_and}
-use Rattle.table_entries.specs.Kinds.{kind_in}
-use Rattle.table_entries.specs.Reading.{kept}
+use Rattle.table_entries.proofs.Common.{◌∙◌, take, arith, length-set, err_from_is_err_and, kind_in, kept}
 use Rattle.table_entries.proofs.Many.{kept-goes_on, many-stops, kept-done}
 use Rattle.table_entries.proofs.loops.read_registers.Goals as goal
 

@@ -1,6 +1,4 @@
-use Rattle.std.proofs.Common.{◌≡◌, ◌-◌, take, length}
-use Rattle.table_entries.specs.Kinds.{kind_in}
-use Rattle.table_entries.specs.Reading.{many, kept}
+use Rattle.table_entries.proofs.Common.{◌≡◌, ◌-◌, take, length, kind_in, many, kept}
 use Rattle.table_entries.proofs.Many.{with_front}
 use Rattle.table_entries.proofs.loops.read_registers.Given as goal
 

@@ -1,11 +1,5 @@
-use Rattle.std.proofs.Common.{◌≡◌, ◌∙◌, List, length, take, drop, replicate, ap, arith}
+use Rattle.table_entries.proofs.Common.{◌≡◌, ◌∙◌, List, length, take, drop, replicate, ap, arith, err_from_is_err_and, StackSlot, Written, frame_slots, slot_at, stack_slot_in, kept}
 use Rattle.std.proofs.lemmas.List.{length-set, length-replicate, take_all, take-append-le}
-use Rattle.std.proofs.lemmas.Result.{err_from_is_err_and}
-use Rattle.stack_state.specs.declared.slots.StackSlot.{StackSlot}
-use Rattle.stack_state.specs.declared.slots.StackSlot.TheVariants.{Written}
-use Rattle.stack_state.specs.Slots.{frame_slots, slot_at}
-use Rattle.table_entries.specs.Kinds.{stack_slot_in}
-use Rattle.table_entries.specs.Reading.{kept}
 use Rattle.table_entries.proofs.BlankStackSlots.{blank_so_far}
 use Rattle.table_entries.proofs.Many.{kept-goes_on, many-stops, kept-done}
 use Rattle.table_entries.proofs.loops.read_stack_slots.Goals as goal

@@ -1,7 +1,4 @@
-use Rattle.std.proofs.Common.{◌≡◌, ◌-◌, take, length}
-use Rattle.stack_state.specs.Slots.{frame_slots}
-use Rattle.table_entries.specs.Kinds.{stack_slot_in}
-use Rattle.table_entries.specs.Reading.{many, kept}
+use Rattle.table_entries.proofs.Common.{◌≡◌, ◌-◌, take, length, frame_slots, stack_slot_in, many, kept}
 use Rattle.table_entries.proofs.Many.{with_front}
 use Rattle.table_entries.proofs.loops.read_stack_slots.Given as goal
 

@@ -1,5 +1,4 @@
-use Rattle.std.proofs.Common.{ℕ, List, sym, subst}
-use Rattle.table_entries.specs.KnownBytes.{SpellsFrame}
+use Rattle.table_entries.proofs.Common.{ℕ, List, sym, subst, SpellsFrame}
 use Rattle.table_entries.proofs.PassedLaws.{seen-known, passed_before, ArePassed-noted}
 use Rattle.table_entries.proofs.passing.pass_caller.Goals as goal
 

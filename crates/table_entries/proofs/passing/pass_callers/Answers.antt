@@ -1,7 +1,4 @@
-use Rattle.std.proofs.Common.{◌≡◌, ◌-◌, true, arith}
-use Rattle.std.proofs.lemmas.Result.{err_from_is_err_and}
-use Rattle.table_entries.specs.Frames.{frame_in, callers_in}
-use Rattle.table_entries.specs.Reading.{seen}
+use Rattle.table_entries.proofs.Common.{◌≡◌, ◌-◌, true, arith, err_from_is_err_and, frame_in, callers_in, seen}
 use Rattle.table_entries.proofs.Seen.{seen-begins, seen-goes_on, seen-stops, seen-done}
 use Rattle.table_entries.proofs.passing.pass_callers.Goals as goal
 

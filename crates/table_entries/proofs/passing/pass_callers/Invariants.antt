@@ -1,7 +1,4 @@
-use Rattle.std.proofs.Common.{◌≡◌, ◌-◌, true}
-use Rattle.table_entries.specs.Frames.{frame_in, callers_in}
-use Rattle.table_entries.specs.Reading.{many, seen}
-use Rattle.table_entries.specs.KnownBytes.{ArePassed}
+use Rattle.table_entries.proofs.Common.{◌≡◌, ◌-◌, true, frame_in, callers_in, many, seen, ArePassed}
 use Rattle.table_entries.proofs.Seen.{and_seen}
 use Rattle.table_entries.proofs.passing.pass_callers.Given as goal
 

@@ -1,7 +1,4 @@
-use Rattle.std.proofs.Common.{◌∙◌, length}
-use Rattle.std.proofs.lemmas.Result.{err_from_is_err_and}
-use Rattle.std.proofs.lemmas.Bool.{lt-ltb}
-use Rattle.table_entries.specs.Frames.{frame_in}
+use Rattle.table_entries.proofs.Common.{◌∙◌, length, err_from_is_err_and, lt-ltb, frame_in}
 use Rattle.table_entries.proofs.Seen.{seen-frame}
 use Rattle.table_entries.proofs.passing.pass_frame.Goals as goal
 

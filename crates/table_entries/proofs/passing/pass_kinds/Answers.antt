@@ -1,7 +1,4 @@
-use Rattle.std.proofs.Common.{arith}
-use Rattle.std.proofs.lemmas.Result.{err_from_is_err_and}
-use Rattle.table_entries.specs.Kinds.{kind_in}
-use Rattle.table_entries.specs.Reading.{many, seen}
+use Rattle.table_entries.proofs.Common.{arith, err_from_is_err_and, kind_in, many, seen}
 use Rattle.table_entries.proofs.Seen.{seen-begins, seen-goes_on, seen-stops, seen-done}
 use Rattle.table_entries.proofs.passing.pass_kinds.Goals as goal
 

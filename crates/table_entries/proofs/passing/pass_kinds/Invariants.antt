@@ -1,6 +1,4 @@
-use Rattle.std.proofs.Common.{◌≡◌, ◌-◌}
-use Rattle.table_entries.specs.Kinds.{kind_in}
-use Rattle.table_entries.specs.Reading.{many, seen}
+use Rattle.table_entries.proofs.Common.{◌≡◌, ◌-◌, kind_in, many, seen}
 use Rattle.table_entries.proofs.Seen.{and_seen}
 use Rattle.table_entries.proofs.passing.pass_kinds.Given as goal
 

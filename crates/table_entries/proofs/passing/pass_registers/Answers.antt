@@ -1,8 +1,4 @@
-use Rattle.std.proofs.Common.{◌∙◌, ap, true, length}
-use Rattle.std.proofs.lemmas.Result.{err_from_is_err_and}
-use Rattle.std.proofs.lemmas.Bool.{lt-ltb}
-use Rattle.table_entries.specs.Frames.{frame_in}
-use Rattle.table_entries.specs.Reading.{seen}
+use Rattle.table_entries.proofs.Common.{◌∙◌, ap, true, length, err_from_is_err_and, lt-ltb, frame_in, seen}
 use Rattle.table_entries.proofs.Seen.{seen-caller, stop-caller}
 use Rattle.table_entries.proofs.passing.pass_registers.Goals as goal
 

@@ -1,6 +1,4 @@
-use Rattle.std.proofs.Common.{◌∙◌, ap, sym, Ok, Bool}
-use Rattle.std.proofs.lemmas.Result.{err_from_is_err_and}
-use Rattle.table_entries.specs.Reading.{seen}
+use Rattle.table_entries.proofs.Common.{◌∙◌, ap, sym, Ok, Bool, err_from_is_err_and, seen}
 use Rattle.table_entries.proofs.Seen.{seen-rest, and-named}
 use Rattle.table_entries.proofs.passing.pass_rest.Goals as goal
 

@@ -1,7 +1,4 @@
-use Rattle.std.proofs.Common.{arith}
-use Rattle.std.proofs.lemmas.Result.{err_from_is_err_and}
-use Rattle.stack_state.specs.Slots.{frame_slots}
-use Rattle.table_entries.specs.Kinds.{stack_slot_in}
+use Rattle.table_entries.proofs.Common.{arith, err_from_is_err_and, frame_slots, stack_slot_in}
 use Rattle.table_entries.proofs.BlankStackSlots.{blank_passed}
 use Rattle.table_entries.proofs.Seen.{seen-goes_on, seen-stops, seen-done}
 use Rattle.table_entries.proofs.passing.pass_stack_slots.Goals as goal

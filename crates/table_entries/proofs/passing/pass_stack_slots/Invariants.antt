@@ -1,7 +1,4 @@
-use Rattle.std.proofs.Common.{◌≡◌, ◌-◌}
-use Rattle.stack_state.specs.Slots.{frame_slots}
-use Rattle.table_entries.specs.Kinds.{stack_slot_in}
-use Rattle.table_entries.specs.Reading.{many, seen}
+use Rattle.table_entries.proofs.Common.{◌≡◌, ◌-◌, frame_slots, stack_slot_in, many, seen}
 use Rattle.table_entries.proofs.Seen.{and_seen}
 use Rattle.table_entries.proofs.passing.pass_stack_slots.Given as goal
 

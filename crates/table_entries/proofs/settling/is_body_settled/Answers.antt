@@ -1,7 +1,4 @@
-use Rattle.std.proofs.Common.{◌≡◌, ◌++◌, ◌∷◌, [], ◌∙◌, sym, length, drop, arith}
-use Rattle.std.specs.Prelude.{Bool, true, false, not, IsTrue, refl}
-use Rattle.table_entries.specs.declared.stops.StopReason.TheVariants.{Short, Meaningless}
-use Rattle.table_entries.specs.Entries.{entry_in}
+use Rattle.table_entries.proofs.Common.{◌≡◌, ◌++◌, ◌∷◌, [], ◌∙◌, sym, length, drop, arith, Bool, true, false, not, IsTrue, refl, Short, Meaningless, entry_in}
 use Rattle.table_entries.proofs.EntryOrder.{entries-begins, entries-goes_on, entries-stops, entries-done}
 use Rattle.table_entries.proofs.Extending.{settled-stopped, settled-long, open-short, open-whole}
 use Rattle.table_entries.proofs.PassedLaws.{ArePassed-none}

@@ -1,9 +1,4 @@
-use Rattle.std.proofs.Common.{◌≡◌, ◌-◌, List, length, drop}
-use Rattle.std.specs.Prelude.{Option}
-use Rattle.table_entries.specs.Entries.{Entry}
-use Rattle.table_entries.specs.Tables.{entries_in}
-use Rattle.table_entries.specs.Growing.{with_entries}
-use Rattle.table_entries.specs.KnownBytes.{ArePassed}
+use Rattle.table_entries.proofs.Common.{◌≡◌, ◌-◌, List, length, drop, Option, Entry, entries_in, with_entries, ArePassed}
 use Rattle.table_entries.proofs.settling.is_body_settled.Given as goal
 
 -- some entries were read, and what is left to read

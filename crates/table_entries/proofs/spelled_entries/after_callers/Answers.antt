@@ -1,6 +1,5 @@
 use Rattle.std.proofs.Common.{◌≡◌, Ok, Some, true, take, take_all, ap, ◌∙◌, refl, arith, length}
-use Rattle.std.proofs.lemmas.Option.{slice_get_read}
-use Rattle.table_entries.specs.Frames.{frame_in}
+use Rattle.table_entries.proofs.Common.{slice_get_read, frame_in}
 use Rattle.table_entries.proofs.Many.{spelled-goes_on, many-begins, many-done}
 use Rattle.table_entries.proofs.KnownBytesLaws.{SpellFrames-notes}
 use Rattle.table_entries.proofs.spelled_entries.after_callers.Goals as goal

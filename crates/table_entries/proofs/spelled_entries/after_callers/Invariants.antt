@@ -1,7 +1,4 @@
-use Rattle.std.proofs.Common.{◌≡◌, ◌-◌, Some, true, take, length}
-use Rattle.table_entries.specs.Frames.{frame_in, callers_in}
-use Rattle.table_entries.specs.KnownBytes.{SpellFrames}
-use Rattle.table_entries.specs.Reading.{many}
+use Rattle.table_entries.proofs.Common.{◌≡◌, ◌-◌, Some, true, take, length, frame_in, callers_in, SpellFrames, many}
 use Rattle.table_entries.proofs.Many.{with_front}
 use Rattle.table_entries.proofs.spelled_entries.after_callers.Given as goal
 

@@ -1,9 +1,5 @@
 use Rattle.std.specs.Borrow.{Bor}
-use Rattle.std.proofs.Common.{◌≡◌, ℕ, List, ap, ◌∙◌, subst}
-use Rattle.stack_state.specs.Slots.{frame_slots}
-use Rattle.table_entries.specs.Kinds.{stack_slot_in}
-use Rattle.table_entries.specs.Reading.{many}
-use Rattle.table_entries.specs.KnownBytes.{SpellsSlots}
+use Rattle.table_entries.proofs.Common.{◌≡◌, ℕ, List, ap, ◌∙◌, subst, frame_slots, stack_slot_in, many, SpellsSlots}
 use Rattle.table_entries.proofs.Fronts.{SpellsSlots-before}
 use Rattle.table_entries.proofs.spelled_entries.after_known_slots.Goals as goal
 

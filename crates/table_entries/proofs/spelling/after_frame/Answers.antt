@@ -1,6 +1,5 @@
 use Rattle.std.proofs.Common.{◌≡◌, true, sym, ◌∙◌, refl, arith}
-use Rattle.byteorder.specs.Endian.{little_number}
-use Rattle.table_entries.specs.Frames.{frame_allowed}
+use Rattle.table_entries.proofs.Common.{little_number, frame_allowed}
 use Rattle.table_entries.proofs.Parts.{frame_in-read}
 use Rattle.table_entries.proofs.spelling.after_frame.Goals as goal
 

@@ -1,5 +1,4 @@
-use Rattle.std.proofs.Common.{arith}
-use Rattle.std.proofs.lemmas.List.{length-drop}
+use Rattle.table_entries.proofs.Common.{arith, length-drop}
 use Rattle.table_entries.proofs.Spelled.{scalar-spelled}
 use Rattle.table_entries.proofs.spelling.after_number.Goals as goal
 

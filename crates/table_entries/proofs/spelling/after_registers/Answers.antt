@@ -1,5 +1,4 @@
-use Rattle.std.proofs.Common.{◌≡◌, Ok, Some, take, take_all, ap, ◌∙◌, arith}
-use Rattle.table_entries.specs.Kinds.{kind_in}
+use Rattle.table_entries.proofs.Common.{◌≡◌, Ok, Some, take, take_all, ap, ◌∙◌, arith, kind_in}
 use Rattle.table_entries.proofs.Many.{spelled-goes_on, many-done}
 use Rattle.table_entries.proofs.spelling.after_registers.Goals as goal
 

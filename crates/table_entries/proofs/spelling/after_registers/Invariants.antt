@@ -1,6 +1,4 @@
-use Rattle.std.proofs.Common.{◌≡◌, ◌-◌, Some, take}
-use Rattle.table_entries.specs.Kinds.{kind_in}
-use Rattle.table_entries.specs.Reading.{many}
+use Rattle.table_entries.proofs.Common.{◌≡◌, ◌-◌, Some, take, kind_in, many}
 use Rattle.table_entries.proofs.Many.{with_front}
 use Rattle.table_entries.proofs.spelling.after_registers.Given as goal
 

@@ -1,6 +1,4 @@
-use Rattle.std.proofs.Common.{◌≡◌, Ok, Some, take, take_all, ap, ◌∙◌, arith}
-use Rattle.stack_state.specs.Slots.{frame_slots}
-use Rattle.table_entries.specs.Kinds.{stack_slot_in}
+use Rattle.table_entries.proofs.Common.{◌≡◌, Ok, Some, take, take_all, ap, ◌∙◌, arith, frame_slots, stack_slot_in}
 use Rattle.table_entries.proofs.Many.{spelled-goes_on, many-done}
 use Rattle.table_entries.proofs.BlankStackSlots.{blank_so_far}
 use Rattle.table_entries.proofs.spelling.after_stack_slots.Goals as goal

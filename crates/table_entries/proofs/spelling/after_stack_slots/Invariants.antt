@@ -1,7 +1,4 @@
-use Rattle.std.proofs.Common.{◌≡◌, ◌-◌, Some, take}
-use Rattle.stack_state.specs.Slots.{frame_slots}
-use Rattle.table_entries.specs.Kinds.{stack_slot_in}
-use Rattle.table_entries.specs.Reading.{many}
+use Rattle.table_entries.proofs.Common.{◌≡◌, ◌-◌, Some, take, frame_slots, stack_slot_in, many}
 use Rattle.table_entries.proofs.Many.{with_front}
 use Rattle.table_entries.proofs.spelling.after_stack_slots.Given as goal
 

@@ -1,5 +1,4 @@
-use Rattle.std.proofs.Common.{rules, ◌≡◌, sym, ap, ◌∙◌, w32}
-use mir.Val.{SFits, to_z}
+use Rattle.table_entries.proofs.Common.{rules, ◌≡◌, sym, ap, ◌∙◌, w32, SFits, to_z}
 use Rattle.table_entries.proofs.Spelled.{signed-spelled, low-spelled}
 use Rattle.table_entries.proofs.spelling.are_low.Goals as goal
 

@@ -1,5 +1,4 @@
-use Rattle.std.proofs.Common.{rules, ◌≡◌, sym, ap, ◌∙◌, w64}
-use mir.Val.{SFits, to_z}
+use Rattle.table_entries.proofs.Common.{rules, ◌≡◌, sym, ap, ◌∙◌, w64, SFits, to_z}
 use Rattle.table_entries.proofs.Spelled.{signed-spelled, wide-spelled}
 use Rattle.table_entries.proofs.spelling.are_wide.Goals as goal
 

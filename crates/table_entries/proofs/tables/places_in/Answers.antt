@@ -1,11 +1,5 @@
-use Rattle.std.proofs.Common.{◌≡◌, ◌-◌, ◌++◌, ◌∷◌, [], ◌∙◌, ap, sym, Ok, length, map, drop, arith, inr}
-use Rattle.std.proofs.lemmas.Result.{err_from_is_err_and}
-use Rattle.std.specs.Prelude.{ℕ, Option, Bool}
-use Rattle.std.specs.Option.{is_some}
-use Rattle.table_entries.specs.Entries.{Entry, entry_in}
+use Rattle.table_entries.proofs.Common.{◌≡◌, ◌-◌, ◌++◌, ◌∷◌, [], ◌∙◌, ap, sym, Ok, length, map, drop, arith, inr, ℕ, Option, Bool, err_from_is_err_and, is_some, Entry, entry_in, length-map, entry_from, first_none, earlier, to_the_end}
 use Rattle.table_entries.proofs.Seen.{read-seen, stop-seen}
-use Rattle.std.proofs.lemmas.List.{length-map}
-use Rattle.table_entries.specs.Tables.{entry_from, first_none, earlier, to_the_end}
 use Rattle.table_entries.proofs.Ends.{IsEnd-more, entry_in-end}
 use Rattle.table_entries.proofs.EntryOrder.{entries-begins, entries-goes_on, entries-stops, entries-done, places-more, length-more, end-empty, end-long, earlier-more}
 use Rattle.table_entries.proofs.PassedLaws.{ArePassed-none}

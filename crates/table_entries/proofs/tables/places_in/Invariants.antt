@@ -1,7 +1,4 @@
-use Rattle.std.proofs.Common.{◌≡◌, ◌-◌, length, map, drop}
-use Rattle.table_entries.specs.Tables.{entries_in, entry_from, first_none}
-use Rattle.table_entries.specs.Growing.{with_entries, IsEnd}
-use Rattle.table_entries.specs.KnownBytes.{ArePassed}
+use Rattle.table_entries.proofs.Common.{◌≡◌, ◌-◌, length, map, drop, entries_in, entry_from, first_none, with_entries, IsEnd, ArePassed}
 use Rattle.table_entries.proofs.tables.places_in.Given as goal
 
 -- the entries at the places were read, and what is left to read

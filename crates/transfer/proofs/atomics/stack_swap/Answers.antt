@@ -1,7 +1,5 @@
-use Rattle.std.proofs.Common.{rules, subst, ◌+ℤ◌, Some}
+use Rattle.transfer.proofs.Common.{rules, subst, ◌+ℤ◌, Some, IsLoad, IsFramePlace}
 use Rattle.stack_state.specs.declared.stacks.StackState.{StackState}
-use Rattle.stack_state.specs.Slots.{IsLoad}
-use Rattle.transfer.specs.StackAccesses.{IsFramePlace}
 use Rattle.transfer.proofs.atomics.stack_swap.Goals as goal
 
 pub returns : goal.returns

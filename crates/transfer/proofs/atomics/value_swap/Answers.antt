@@ -1,7 +1,4 @@
-use Rattle.std.proofs.Common.{w16, w32, subst}
-use Rattle.std.specs.Prelude.{FitsSigned}
-use Rattle.std.proofs.lemmas.Int.{to_z-of_z}
-use Rattle.transfer.specs.Values.{AreInValue}
+use Rattle.transfer.proofs.Common.{w16, w32, subst, FitsSigned, to_z-of_z, AreInValue}
 use Rattle.transfer.proofs.atomics.value_swap.Goals as goal
 
 pub returns : goal.returns

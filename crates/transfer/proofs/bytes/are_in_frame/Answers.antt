@@ -1,7 +1,5 @@
-use Rattle.std.proofs.Common.{◌≡◌, ◌+◌, arith, subst, sym}
-use Rattle.std.proofs.lemmas.Int.{ints}
+use Rattle.transfer.proofs.Common.{◌≡◌, ◌+◌, arith, subst, sym, ints, AreMarked}
 use Rattle.stack_state.specs.declared.stacks.StackState.{StackState}
-use Rattle.stack_state.specs.Slots.{AreMarked}
 use Rattle.transfer.proofs.bytes.are_in_frame.Goals as goal
 
 pub returns : goal.returns

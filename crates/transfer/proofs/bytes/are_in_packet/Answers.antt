@@ -1,5 +1,4 @@
-use Rattle.std.proofs.Common.{rules, arith}
-use Rattle.std.proofs.lemmas.Int.{ints}
+use Rattle.transfer.proofs.Common.{rules, arith, ints}
 use Rattle.transfer.proofs.bytes.are_in_packet.Goals as goal
 
 pub returns-then-proved-eq0 : goal.returns-then-proved-eq0

@@ -1,5 +1,4 @@
-use Rattle.std.proofs.Common.{rules, arith}
-use Rattle.std.proofs.lemmas.Int.{ints}
+use Rattle.transfer.proofs.Common.{rules, arith, ints}
 use Rattle.transfer.proofs.bytes.are_in_value.Goals as goal
 
 pub returns-then-sum-lt0 : goal.returns-then-sum-lt0

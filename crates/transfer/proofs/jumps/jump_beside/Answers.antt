@@ -1,13 +1,6 @@
-use Rattle.std.proofs.Common.{◌≡◌, ◌+◌, ◌∙◌, rules, ap, sym, subst, unwrap_or}
-use Rattle.std.proofs.lemmas.Int.{to_z-of_z}
-use mir.Val.{SFits}
+use Rattle.transfer.proofs.Common.{◌≡◌, ◌+◌, ◌∙◌, rules, ap, sym, subst, unwrap_or, to_z-of_z, SFits, target, destination, State, go_to, Sides, beside}
 use mir.Syntax.{w32}
-use Rattle.isa_model.specs.Machine.Steps.{target, destination}
-use Rattle.stack_state.specs.declared.states.State.{State}
-use Rattle.stack_state.specs.Places.{go_to}
 use Rattle.branch_refine.specs.Leaving.{goes, left_in}
-use Rattle.transfer.specs.Exact.{Sides}
-use Rattle.transfer.specs.Beside.{beside}
 use Rattle.transfer.proofs.jumps.jump_beside.Goals as goal
 
 pub returns-clause-branches : goal.returns-clause-branches

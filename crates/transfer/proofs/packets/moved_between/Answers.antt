@@ -1,10 +1,5 @@
-use Rattle.std.proofs.Common.{◌≡◌, ℕ, ℤ, Some, None, Bool, inl, inr, rules, ap, subst, sym, ◌∙◌, w32, w64}
-use Rattle.std.specs.Prelude.{pos, ◌-ℤ◌, FitsSigned}
-use Rattle.std.proofs.lemmas.Int.{to_z-of_z}
-use Rattle.reg_state.specs.declared.kinds.Kind.{Kind}
-use Rattle.stack_state.specs.declared.states.State.{State}
+use Rattle.transfer.proofs.Common.{◌≡◌, ℕ, ℤ, Some, None, Bool, inl, inr, rules, ap, subst, sym, ◌∙◌, w32, w64, pos, ◌-ℤ◌, FitsSigned, to_z-of_z, Kind, State, lowest, highest, least_part, greatest_part, AreOffsets, AreOffsetParts, OffsetsHaveRoom, StaysProved, IsFreshPointer, IsMovedBetween}
 use Rattle.transfer.specs.declared.packets.PacketPointer.{PacketPointer}
-use Rattle.transfer.specs.Packets.{lowest, highest, least_part, greatest_part, AreOffsets, AreOffsetParts, OffsetsHaveRoom, StaysProved, IsFreshPointer, IsMovedBetween}
 use Rattle.transfer.proofs.packets.moved_between.Goals as goal
 
 -- the fixed part stays

@@ -1,8 +1,4 @@
-use Rattle.std.proofs.Common.{w64, sym, subst, rules}
-use Rattle.std.specs.Prelude.{FitsSigned}
-use Rattle.std.specs.Int.{cast_signed}
-use Rattle.std.proofs.lemmas.Int.{to_z-of_z}
-use Rattle.isa_model.specs.Code.Sizes.{size_extension}
+use Rattle.transfer.proofs.Common.{w64, sym, subst, rules, FitsSigned, cast_signed, to_z-of_z, size_extension}
 use Rattle.ranges.specs.Keeps.{extension_signed}
 use Rattle.transfer.proofs.packets.of_signed_size.Goals as goal
 

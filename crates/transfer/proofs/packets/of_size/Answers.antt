@@ -1,5 +1,4 @@
-use Rattle.std.proofs.Common.{◌≡◌, ℕ, ◌+◌, ◌*◌, ◌^◌, pos, sym, ap, ◌∙◌, arith}
-use Rattle.isa_model.specs.Code.Sizes.{size_bytes}
+use Rattle.transfer.proofs.Common.{◌≡◌, ℕ, ◌+◌, ◌*◌, ◌^◌, pos, sym, ap, ◌∙◌, arith, size_bytes}
 use Rattle.transfer.proofs.Sizes.{of_size_unknown, greatest_signed}
 use Rattle.transfer.proofs.packets.of_size.Goals as goal
 

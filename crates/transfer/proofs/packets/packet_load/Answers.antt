@@ -1,7 +1,4 @@
-use Rattle.std.proofs.Common.{w16, w32, subst}
-use Rattle.std.specs.Prelude.{FitsSigned}
-use Rattle.std.proofs.lemmas.Int.{to_z-of_z}
-use Rattle.transfer.specs.Packets.{AreInPacket}
+use Rattle.transfer.proofs.Common.{w16, w32, subst, FitsSigned, to_z-of_z, AreInPacket}
 use Rattle.transfer.proofs.packets.packet_load.Goals as goal
 
 pub returns-then-are_in_packet : goal.returns-then-are_in_packet

@@ -1,7 +1,5 @@
-use Rattle.std.proofs.Common.{rules, inl, inr, refl, subst, w64}
-use Rattle.std.specs.Prelude.{FitsSigned}
-use Rattle.std.proofs.lemmas.Int.{to_z-of_z}
-use Rattle.transfer.specs.Packets.{MovesBy}
+use Rattle.std.proofs.Common.{rules, inl, inr, refl, subst, w64, FitsSigned}
+use Rattle.transfer.proofs.Common.{to_z-of_z, MovesBy}
 use Rattle.transfer.proofs.packets.packet_moved.Goals as goal
 
 pub returns-in-Some : goal.returns-in-Some

@@ -1,5 +1,4 @@
-use Rattle.std.proofs.Common.{arith, inl, inr}
-use Rattle.std.proofs.lemmas.Int.{ints}
+use Rattle.transfer.proofs.Common.{arith, inl, inr, ints}
 use Rattle.transfer.proofs.packets.still_proved.Goals as goal
 use Rattle.transfer.proofs.packets.still_proved.Goals.{then-proved-eq0-via-then-proved-eq0, then-proved-eq0-via-else-proved-eq0+then-left-lt0, then-proved-eq0-via-else-proved-eq0+else-left-lt0+then-left-from}
 

@@ -1,8 +1,5 @@
-use Rattle.std.proofs.Common.{◌≡◌, arith, subst}
-use Rattle.std.specs.Prelude.{◌-ℤ◌, FitsSigned}
-use Rattle.std.proofs.lemmas.Int.{ints}
+use Rattle.transfer.proofs.Common.{◌≡◌, arith, subst, ◌-ℤ◌, FitsSigned, ints, to_z, of_z}
 use mir.Syntax.{w32, w128}
-use mir.Val.{to_z, of_z}
 use Rattle.transfer.proofs.packets.variable_part.Goals as goal
 
 pub returns-in_err-greatest : goal.returns-in_err-greatest

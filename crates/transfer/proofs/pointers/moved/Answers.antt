@@ -1,12 +1,7 @@
 use Rattle.std.proofs.Common.{◌≡◌, ℕ, ◌↔◌, Option, Some, None, rules, refl, subst}
-use Rattle.std.proofs.lemmas.Int.{to_z-of_z}
+use Rattle.transfer.proofs.Common.{to_z-of_z, SFits, Scalar, IsNumber, LeavesNumber, nearest, farthest, ValueMoves}
 use Rattle.std.proofs.lemmas.Option.{none-some}
-use mir.Val.{SFits}
 use mir.Syntax.{w32, w64}
-use Rattle.reg_state.specs.declared.scalars.Scalar.{Scalar}
-use Rattle.reg_state.specs.Scalars.{IsNumber}
-use Rattle.transfer.specs.Results.{LeavesNumber}
-use Rattle.transfer.specs.Values.{nearest, farthest, ValueMoves}
 use Rattle.transfer.proofs.pointers.moved.Goals as goal
 
 leaves : (by : Scalar) (o : Option ℕ) → ((n : ℕ) → ((o ≡ Some n) ↔ IsNumber by n))

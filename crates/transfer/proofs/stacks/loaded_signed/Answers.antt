@@ -1,8 +1,6 @@
-use Rattle.std.proofs.Common.{Some, subst}
-use Rattle.isa_model.specs.declared.sizes.Size.{Size}
+use Rattle.transfer.proofs.Common.{Some, subst, Size, IsLoad}
 use Rattle.isa_model.specs.declared.sizes.Extension.{Extension}
 use Rattle.reg_state.specs.Arithmetic.{IsSignExtended}
-use Rattle.stack_state.specs.Slots.{IsLoad}
 use Rattle.transfer.proofs.stacks.loaded_signed.Goals as goal
 
 pub returns-in-Some : goal.returns-in-Some

@@ -1,6 +1,5 @@
 use Rattle.std.proofs.Common.{ℤ, Ok, refl, subst, w32}
-use Rattle.std.proofs.lemmas.Int.{to_z-of_z}
-use Rattle.transfer.specs.HelperCalls.{CallsHelper}
+use Rattle.transfer.proofs.Common.{to_z-of_z, CallsHelper}
 use Rattle.transfer.proofs.steps.help.Goals as goal
 
 pub returns : goal.returns

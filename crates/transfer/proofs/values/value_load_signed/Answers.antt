@@ -1,8 +1,4 @@
-use Rattle.std.proofs.Common.{◌∙◌, w16, w32, ap, subst}
-use Rattle.std.specs.Prelude.{FitsSigned}
-use Rattle.std.proofs.lemmas.Int.{to_z-of_z}
-use Rattle.isa_model.specs.Code.Sizes.{size_bytes}
-use Rattle.transfer.specs.Values.{AreInValue}
+use Rattle.transfer.proofs.Common.{◌∙◌, w16, w32, ap, subst, FitsSigned, to_z-of_z, size_bytes, AreInValue}
 use Rattle.transfer.proofs.values.value_load_signed.Goals as goal
 
 pub returns-then-are_in_value : goal.returns-then-are_in_value

@@ -1,5 +1,4 @@
-use Rattle.std.proofs.lemmas.Bool.{iff_false}
-use Rattle.control_flow.specs.Masks.{HasRegister, HasSlot}
+use Rattle.walks.proofs.Common.{iff_false, HasRegister, HasSlot}
 use Rattle.walks.proofs.NumberLoops.{forgets_dead}
 use Rattle.walks.proofs.KeptNumbersLaws.{forgets_beside, knows_beside, keeps_beside, keeps_dead}
 use Rattle.walks.proofs.forgetting.forget_beside.Goals as goal

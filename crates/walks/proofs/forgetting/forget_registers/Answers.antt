@@ -1,7 +1,4 @@
-use Rattle.std.proofs.Common.{◌≡◌, Some, sym, ◌∙◌, arith}
-use Rattle.std.proofs.lemmas.Bool.{iff_false}
-use Rattle.isa_model.specs.Code.Registers.{reg_numbered}
-use Rattle.control_flow.proofs.RegisterLaws.{number_of}
+use Rattle.walks.proofs.Common.{◌≡◌, Some, sym, ◌∙◌, arith, iff_false, reg_numbered, number_of}
 use Rattle.walks.proofs.ForgettingLoops.{kept_more_live, kept_more_dead}
 use Rattle.walks.proofs.forgetting.forget_registers.Goals as goal
 use Rattle.walks.proofs.forgetting.forget_registers.Goals.{then-not-has, else-not-has}

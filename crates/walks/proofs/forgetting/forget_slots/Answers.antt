@@ -1,5 +1,4 @@
-use Rattle.std.proofs.Common.{arith}
-use Rattle.std.proofs.lemmas.Bool.{iff_false}
+use Rattle.walks.proofs.Common.{arith, iff_false}
 use Rattle.walks.proofs.ForgettingLoops.{slots_left_blank, slots_left_live, slots_left_dead, slots_left_full, slots_left_empty}
 use Rattle.walks.proofs.forgetting.forget_slots.Goals as goal
 use Rattle.walks.proofs.forgetting.forget_slots.Goals.{then-not-has, else-not-has}

@@ -1,10 +1,4 @@
-use Rattle.std.proofs.Common.{◌≡◌, Some, length, refl, sym, ◌∙◌, subst, arith, rules}
-use Rattle.std.proofs.lemmas.Bool.{iff_false}
-use Rattle.isa_model.specs.declared.registers.Reg.TheVariants.{R10}
-use Rattle.isa_model.specs.Code.Registers.{reg_numbered}
-use Rattle.stack_state.specs.Meaning.{kind_at}
-use Rattle.branch_refine.specs.Refining.{IsNumberKind}
-use Rattle.control_flow.proofs.RegisterLaws.{number_of}
+use Rattle.walks.proofs.Common.{◌≡◌, Some, length, refl, sym, ◌∙◌, subst, arith, rules, iff_false, R10, reg_numbered, kind_at, IsNumberKind, number_of}
 use Rattle.walks.proofs.NumberLoops.{kind_read, numbers_more}
 use Rattle.walks.proofs.numbers.are_numbers.Goals as goal
 use Rattle.walks.proofs.numbers.are_numbers.Goals.{else-has-2-via-then-has-2+else-not-is_number, else-has-2-via-else-has-2}

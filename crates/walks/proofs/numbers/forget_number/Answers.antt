@@ -1,6 +1,4 @@
-use Rattle.std.proofs.Common.{sym, subst, inl}
-use Rattle.reg_state.specs.declared.kinds.Kind.TheVariants.{Number}
-use Rattle.walks.specs.Forgetting.{ForgetsNumber}
+use Rattle.walks.proofs.Common.{sym, subst, inl, Number, ForgetsNumber}
 use Rattle.walks.proofs.numbers.forget_number.Goals as goal
 
 pub returns-in-Number : goal.returns-in-Number

@@ -1,8 +1,4 @@
-use Rattle.std.proofs.Common.{◌≡◌, Some, sym, ◌∙◌, arith}
-use Rattle.std.proofs.lemmas.Bool.{iff_false}
-use Rattle.isa_model.specs.Code.Registers.{reg_numbered}
-use Rattle.control_flow.specs.Masks.{HasRegister}
-use Rattle.control_flow.proofs.RegisterLaws.{number_of}
+use Rattle.walks.proofs.Common.{◌≡◌, Some, sym, ◌∙◌, arith, iff_false, reg_numbered, HasRegister, number_of}
 use Rattle.walks.proofs.NumberLoops.{beside_kept, beside_forgotten}
 use Rattle.walks.proofs.numbers.forget_registers_beside.Goals as goal
 use Rattle.walks.proofs.numbers.forget_registers_beside.Goals.{then-not-has, else-not-has}

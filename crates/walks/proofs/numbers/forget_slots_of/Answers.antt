@@ -1,7 +1,4 @@
-use Rattle.std.proofs.Common.{arith, refl, inr}
-use Rattle.std.proofs.lemmas.Bool.{iff_false}
-use Rattle.stack_state.specs.declared.slots.StackSlot.TheVariants.{Written}
-use Rattle.control_flow.specs.Masks.{HasSlot}
+use Rattle.walks.proofs.Common.{arith, refl, inr, iff_false, Written, HasSlot}
 use Rattle.walks.proofs.NumberLoops.{in_blank, in_left, in_forgotten}
 use Rattle.walks.proofs.numbers.forget_slots_of.Goals as goal
 use Rattle.walks.proofs.numbers.forget_slots_of.Goals.{then-has, else-has}

@@ -1,6 +1,4 @@
-use Rattle.control_flow.specs.Liveness.{InRegister, InSlot, IsSlotLive}
-use Rattle.control_flow.specs.Masks.{HasRegister, HasSlot}
-use Rattle.control_flow.specs.TestedNumbers.{IsNumberTested}
+use Rattle.walks.proofs.Common.{InRegister, InSlot, IsSlotLive, HasRegister, HasSlot, IsNumberTested}
 use Rattle.walks.proofs.NumberLoops.{ForgetsNumbersBeside-same, ForgetsNumbersIn-same, chosen_of_tested}
 use Rattle.walks.proofs.numbers.forget_untested.Goals as goal
 

@@ -1,9 +1,7 @@
-use Rattle.std.proofs.Common.{◌∙◌, ℕ, List, ap, subst, take}
+use Rattle.word_machine.proofs.Common.{◌∙◌, ℕ, List, ap, subst, take, map_at, Deleted, words_of}
 use Rattle.isa_model.specs.declared.map_defs.MapDef.{MapDef}
-use Rattle.maps.specs.Maps.{map_at, Deleted}
 use Rattle.maps.specs.declared.calls.Answer.{Answer}
 use Rattle.maps.specs.Calls.{IsNumberAnswer}
-use Rattle.word_machine.specs.Machine.{words_of}
 use Rattle.word_machine.proofs.Arguments.{key_copied, deletes}
 use Rattle.word_machine.proofs.helping.delete.Goals as goal
 

@@ -1,11 +1,7 @@
-use Rattle.std.proofs.Common.{◌≡◌, ◌∙◌, ℕ, List, ap, sym, subst, take}
+use Rattle.word_machine.proofs.Common.{◌≡◌, ◌∙◌, ℕ, List, ap, sym, subst, take, map_at, Updated, R4, word_at, words_of}
 use Rattle.isa_model.specs.declared.map_defs.MapDef.{MapDef}
-use Rattle.maps.specs.Maps.{map_at, Updated}
 use Rattle.maps.specs.declared.calls.Answer.{Answer}
 use Rattle.maps.specs.Calls.{IsNumberAnswer}
-use Rattle.isa_model.specs.declared.registers.Reg.TheVariants.{R4}
-use Rattle.word_machine.specs.Words.{word_at}
-use Rattle.word_machine.specs.Machine.{words_of}
 use Rattle.word_machine.proofs.Arguments.{key_copied, value_kept, updates}
 use Rattle.word_machine.proofs.helping.update.Goals as goal
 

@@ -1,6 +1,4 @@
-use Rattle.std.proofs.Common.{◌∙◌, ◌<◌, length, arith, sym, ap, ap₂}
-use Rattle.clap.specs.Words.{with_rule}
-use Rattle.clap.specs.Simple.{app_of_fields}
+use Rattle.words.proofs.Common.{◌∙◌, ◌<◌, length, arith, sym, ap, ap₂, with_rule, app_of_fields}
 use Rattle.words.specs.declared.command_line.Argument.{Argument}
 use Rattle.words.proofs.Words.{wanted-more}
 use Rattle.words.proofs.command_line.command.Goals as goal

@@ -1,7 +1,5 @@
-use Rattle.std.proofs.Common.{◌≡◌, map, take}
+use Rattle.words.proofs.Common.{◌≡◌, map, take, app_of, new_app, with_wanted}
 use Rattle.std.specs.List.{fold}
-use Rattle.clap.specs.Words.{app_of, new_app}
-use Rattle.words.specs.CommandLine.{with_wanted}
 use Rattle.words.proofs.command_line.command.Given as goal
 
 abbrev pub invariant-loop-argument : goal.invariant-loop-argument

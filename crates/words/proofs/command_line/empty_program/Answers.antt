@@ -1,7 +1,4 @@
-use Rattle.std.proofs.Common.{◌≡◌, ◌∙◌, true, ap}
-use Rattle.std.proofs.lemmas.Result.{IfOk-weaker}
-use Rattle.clap.specs.Simple.{app_of_fields, on_top}
-use Rattle.clap.specs.Words.{app_of}
+use Rattle.words.proofs.Common.{◌≡◌, ◌∙◌, true, ap, IfOk-weaker, app_of_fields, on_top, app_of}
 use Rattle.words.specs.CommandLine as line
 use Rattle.words.proofs.command_line.empty_program.Goals as goal
 

@@ -1,7 +1,4 @@
-use Rattle.std.proofs.Common.{◌∙◌, ap}
-use Rattle.std.proofs.lemmas.Result.{IfOk-weaker}
-use Rattle.clap.specs.Words.{App, with_rule}
-use Rattle.words.specs.CommandLine.{optional}
+use Rattle.words.proofs.Common.{◌∙◌, ap, IfOk-weaker, App, with_rule, optional}
 use Rattle.words.proofs.command_line.running.Goals as goal
 
 pub returns : goal.returns

@@ -1,6 +1,4 @@
-use Rattle.std.proofs.Common.{map, refl}
-use Rattle.std.proofs.lemmas.Result.{IfOk-weaker}
-use Rattle.clap.specs.Words.{new_app}
+use Rattle.words.proofs.Common.{map, refl, IfOk-weaker, new_app}
 use Rattle.words.specs.declared.command_line.Argument.{Argument}
 use Rattle.words.proofs.Words.{command-more, is_plain-wanted}
 use Rattle.words.proofs.command_line.with_command.Goals as goal

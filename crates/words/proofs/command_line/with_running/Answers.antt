@@ -1,5 +1,4 @@
-use Rattle.std.proofs.Common.{refl}
-use Rattle.std.proofs.lemmas.Result.{IfOk-weaker}
+use Rattle.words.proofs.Common.{refl, IfOk-weaker}
 use Rattle.words.proofs.Words.{command-more}
 use Rattle.words.proofs.command_line.with_running.Goals as goal
 

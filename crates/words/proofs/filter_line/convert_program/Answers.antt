@@ -1,8 +1,4 @@
-use Rattle.std.proofs.Common.{◌∙◌, ap, codes}
-use Rattle.std.proofs.lemmas.Result.{IfOk-weaker}
-use Rattle.clap.specs.Simple.{app_of_fields}
-use Rattle.clap.specs.Words.{App, with_rule}
-use Rattle.words.specs.FilterLine.{convert_program, flag, with_option}
+use Rattle.words.proofs.Common.{◌∙◌, ap, codes, IfOk-weaker, app_of_fields, App, with_rule, convert_program, flag, with_option}
 use Rattle.words.proofs.filter_line.convert_program.Goals as goal
 
 pub returns : goal.returns

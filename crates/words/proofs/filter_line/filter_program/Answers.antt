@@ -1,7 +1,4 @@
-use Rattle.std.proofs.Common.{◌∙◌, ap, codes}
-use Rattle.std.proofs.lemmas.Result.{IfOk-weaker}
-use Rattle.clap.specs.Words.{App, with_rule}
-use Rattle.words.specs.FilterLine.{filter_program, flag, with_option}
+use Rattle.words.proofs.Common.{◌∙◌, ap, codes, IfOk-weaker, App, with_rule, filter_program, flag, with_option}
 use Rattle.words.proofs.filter_line.filter_program.Goals as goal
 
 pub returns : goal.returns

@@ -1,7 +1,4 @@
-use Rattle.std.proofs.Common.{◌∙◌, ap}
-use Rattle.std.proofs.lemmas.Result.{IfOk-weaker}
-use Rattle.clap.specs.Simple.{app_of_fields}
-use Rattle.words.specs.FilterLine.{show_program}
+use Rattle.words.proofs.Common.{◌∙◌, ap, IfOk-weaker, app_of_fields, show_program}
 use Rattle.words.proofs.filter_line.show_program.Goals as goal
 
 pub returns : goal.returns

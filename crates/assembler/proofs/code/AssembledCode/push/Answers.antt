@@ -1,9 +1,6 @@
-use Rattle.std.proofs.Common.{◌≡◌, ℕ, ◌+◌, ◌<◌, false, List, [], ◌∷◌, ◌++◌, length, refl, sym, ap, ◌∙◌, arith, inr, lt-ltb, not}
-use Rattle.isa_model.specs.declared.instructions.Insn.{Insn}
-use Rattle.isa_model.specs.Code.Instructions.{slots, slots_filled}
+use Rattle.assembler.proofs.Common.{◌≡◌, ℕ, ◌+◌, ◌<◌, false, List, [], ◌∷◌, ◌++◌, length, refl, sym, ap, ◌∙◌, arith, inr, lt-ltb, not, Insn, slots, slots_filled, has_room}
 use Rattle.isa_model.specs.Code.Limits.{max_slots}
 use Rattle.image.proofs.CodeLaws.{length-slots-more}
-use Rattle.assembler.specs.Assembling.{has_room}
 use Rattle.assembler.proofs.code.AssembledCode.push.Goals as goal
 
 -- one more instruction, counted

@@ -1,12 +1,6 @@
-use Rattle.std.proofs.Common.{rules, ◌≡◌, ◌≤◌, ◌<◌, ◌∙◌, ap, length, map, drop, slice_index_or, get_or}
-use Rattle.std.proofs.lemmas.List.{get_or_default, drop-map}
+use Rattle.assembler.proofs.Common.{rules, ◌≡◌, ◌≤◌, ◌<◌, ◌∙◌, ap, length, map, drop, slice_index_or, get_or, get_or_default, drop-map, Token, Named, R0, Low32, zeroed, fits_form}
 use Rattle.std.proofs.lemmas.List.Edits.{map_over_more}
-use Rattle.assembler.specs.declared.tokens.Token.{Token}
-use Rattle.assembler.specs.declared.tokens.Token.TheVariants.{Named}
 use Rattle.assembler.specs.declared.tokens.Word.TheVariants as word
-use Rattle.isa_model.specs.declared.registers.Reg.TheVariants.{R0}
-use Rattle.isa_model.specs.declared.sizes.Width.TheVariants.{Low32}
-use Rattle.assembler.specs.Labelled.{zeroed, fits_form}
 use Rattle.assembler.proofs.ZeroedTokens.{range-end, same-items, all-zeroed, has_form-none}
 use Rattle.assembler.proofs.draft.Draft.fits_without_numbers.Goals as goal
 

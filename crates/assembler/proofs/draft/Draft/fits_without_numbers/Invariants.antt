@@ -1,5 +1,4 @@
-use Rattle.std.proofs.Common.{◌≡◌, ◌++◌, map, take, drop}
-use Rattle.assembler.specs.Labelled.{zeroed}
+use Rattle.assembler.proofs.Common.{◌≡◌, ◌++◌, map, take, drop, zeroed}
 use Rattle.assembler.proofs.draft.Draft.fits_without_numbers.Given as goal
 
 abbrev pub invariant-loop-token : goal.invariant-loop-token

@@ -1,7 +1,4 @@
-use Rattle.std.proofs.Common.{◌≡◌, ◌≤◌, ◌∙◌, true, false, List, [], ◌∷◌, length, slice_get, Option, Some, None, refl, sym, ap, ap₂, arith}
-use Rattle.assembler.specs.declared.tokens.Token.{Token}
-use Rattle.assembler.specs.declared.tokens.Token.TheVariants.{Named, Number, Signed}
-use Rattle.assembler.specs.Labelled.{is_label}
+use Rattle.assembler.proofs.Common.{◌≡◌, ◌≤◌, ◌∙◌, true, false, List, [], ◌∷◌, length, slice_get, Option, Some, None, refl, sym, ap, ap₂, arith, Token, Named, Number, Signed, is_label}
 use Rattle.assembler.proofs.draft.Draft.label_length.Goals as goal
 
 -- one token is no label

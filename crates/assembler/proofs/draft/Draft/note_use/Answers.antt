@@ -1,10 +1,5 @@
-use Rattle.std.proofs.Common.{◌≡◌, ◌∙◌, ap, refl, List, map, length, ◌∷◌, [], rules, slice_get, Some, Option, option_map}
-use Rattle.std.proofs.lemmas.Option.{slice_get-map, slice_get_read}
-use Rattle.std.proofs.lemmas.List.{map-append}
-use Rattle.assembler.specs.declared.names.Use.{Use}
+use Rattle.assembler.proofs.Common.{◌≡◌, ◌∙◌, ap, refl, List, map, length, ◌∷◌, [], rules, slice_get, Some, Option, option_map, slice_get-map, slice_get_read, map-append, Use, use_of, span_of}
 use Rattle.assembler.specs.declared.draft.Span.{Span}
-use Rattle.assembler.specs.Naming.{use_of}
-use Rattle.assembler.specs.Drafts.{span_of}
 use Rattle.assembler.proofs.draft.Draft.note_use.Goals as goal
 
 pub returns-in-Ok-clause-noted : goal.returns-in-Ok-clause-noted

@@ -1,6 +1,4 @@
-use Rattle.std.proofs.Common.{◌∙◌, inl, inr}
-use Rattle.std.proofs.lemmas.List.{length-map}
-use Rattle.assembler.specs.Drafts.{span_of, progress_of}
+use Rattle.assembler.proofs.Common.{◌∙◌, inl, inr, length-map, span_of, progress_of}
 use Rattle.assembler.proofs.PassedLexemes.{blank-passes, token-passes}
 use Rattle.assembler.proofs.draft.Draft.passes.Goals as goal
 

@@ -1,8 +1,5 @@
-use Rattle.std.proofs.Common.{◌≡◌, ◌<◌, List, ap, ap₂, ◌∙◌, sym, length, take, map, arith, rules}
-use Rattle.std.proofs.lemmas.List.{take-map}
-use Rattle.assembler.specs.declared.tokens.Token.{Token}
+use Rattle.assembler.proofs.Common.{◌≡◌, ◌<◌, List, ap, ap₂, ◌∙◌, sym, length, take, map, arith, rules, take-map, Token, span_of, progress_of, with_statement}
 use Rattle.assembler.specs.declared.draft.Span.{Span}
-use Rattle.assembler.specs.Drafts.{span_of, progress_of, with_statement}
 use Rattle.assembler.proofs.LongStatements.{shortened-long}
 use Rattle.assembler.proofs.draft.Draft.shorten.Goals as goal
 

@@ -1,9 +1,4 @@
-use Rattle.std.proofs.Common.{ap, ◌∙◌}
-use Rattle.std.proofs.lemmas.List.{length-map}
-use Rattle.std.specs.Prelude.{Result, Ok}
-use Rattle.assembler.specs.declared.refusals.Refusal.{Refusal}
-use Rattle.assembler.specs.Assembling.{ReadSoFar}
-use Rattle.assembler.specs.Drafts.{progress_of, span_of}
+use Rattle.assembler.proofs.Common.{ap, ◌∙◌, Result, Ok, length-map, Refusal, ReadSoFar, progress_of, span_of}
 use Rattle.assembler.proofs.LongStatements.{pushed-full}
 use Rattle.assembler.proofs.draft.Draft.take.Goals as goal
 

@@ -4,13 +4,11 @@ use base.Fraction.{full_share}
 use base.Shift.{Keyless}
 use denote.Exit.{Exit, unchanged, leaves, hidden, under}
 use denote.Memory.{lone}
-use denote.RawPtr.{Ptr, block_ptr, null_ptr}
+use Rattle.calls.proofs.Common.{Ptr, block_ptr, null_ptr, Option, None, Some, Running}
 use denote.Struct.Struct.{exits_of}
 use denote.Struct.Owning.{shape, fields, to}
 use denote.Param.Send.{IsSend, AllSend, Quiet, owning_send, struct_send, part_keyless, sendable}
-use Rattle.std.specs.Prelude.{Option, None, Some}
 use Rattle.std.proofs.Crossing as heap
-use Rattle.machine.specs.Running.{Running}
 use Rattle.machine.specs.contracts.machines.Machine as machine
 use Rattle.machine.proofs.machines.Machine.TheSendSync.{the_send}
 use Rattle.calls.specs.Ownership.{session_owns}

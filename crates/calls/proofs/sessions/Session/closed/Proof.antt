@@ -1,19 +1,5 @@
 -- `closed` makes a session at null, which owns nothing.
-use Rattle.std.proofs.Common.{◌≡◌, [], ◌∷◌, refl, lit<}
-use mir.Val.{Val}
-use base.Logic.{SProp, emp}
-use base.Fml.{ftrue}
-use types.Kit.{‵, raw, ◌⊛◌, ◌$◌, ◌∵◌, !, qed, by, keep, fpack, use0}
-use types.Run.{lit, no_more, and_then, returns, enter}
-use types.ByLocal.{alloc_all, pass_all, free_all, look_at, sets}
-use types.Part.{agg}
-use contract.Monad.{fact, fact_i}
-use contract.Running.{tables}
-use denote.RawPtr.{null_ptr, ptr_val}
-use denote.Steps.{nothing}
-use denote.Triple.Walked.{Stays, walk_of}
-use Rattle.std.specs.Prelude.{None}
-use Rattle.std.proofs.raw_atomic.Walks.{proved_at, leaves}
+use Rattle.calls.proofs.Common.{◌≡◌, [], ◌∷◌, refl, lit<, None, Val, SProp, emp, ftrue, ‵, raw, ◌⊛◌, ◌$◌, ◌∵◌, !, qed, by, keep, fpack, use0, lit, no_more, and_then, returns, enter, alloc_all, pass_all, free_all, look_at, sets, agg, fact, fact_i, tables, null_ptr, ptr_val, nothing, Stays, walk_of, proved_at, leaves}
 use Rattle.calls.proofs.Values.{Session, one_field, session_in}
 use Rattle.calls.specs.contracts.sessions.Session.closed.{ended, clauses}
 use Rattle.calls.specs.contracts.sessions.Session.closed.Key.{name as #self}

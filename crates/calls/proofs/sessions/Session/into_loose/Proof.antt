@@ -1,33 +1,11 @@
 -- `into_loose` tests the pointer, and what the session owned is then the box's.
-use Rattle.std.proofs.Common.{◌≡◌, List, [], ◌∷◌, ◌++◌, refl, sym, ap, ◌∙◌, subst, lit<}
-use mir.Val.{Val, vptr, vcons, vnil}
-use base.Logic.{SProp, ent, emp, id⊢}
-use base.Fml.{ftrue}
-use prog.Wp.{WpFn}
-use types.Kit.{‵, raw, ◌⊛◌, at_ret, ◌$◌, ◌∵◌, !, qed, by, move, keep, split, fsplit, fjoin, suffices, use0, use1}
-use types.Run.{stop, fld, lit, of_opd, bin, no_more, and_then, first, branches, exec, returns, enter}
-use types.ByLocal.{alloc_all, pass_all, free_all, look_at, get, get_in, sets, sets_last, env}
-use types.Part.{agg, sub, whole}
+use Rattle.calls.proofs.Common.{◌≡◌, List, [], ◌∷◌, ◌++◌, refl, sym, ap, ◌∙◌, subst, lit<, None, Some, Val, vptr, vcons, vnil, SProp, ent, emp, id⊢, ftrue, WpFn, ‵, raw, ◌⊛◌, at_ret, ◌$◌, ◌∵◌, !, qed, by, move, keep, split, fsplit, fjoin, suffices, use0, use1, stop, fld, lit, of_opd, bin, no_more, and_then, first, branches, exec, returns, enter, alloc_all, pass_all, free_all, look_at, get, get_in, sets, sets_last, env, agg, sub, whole, fact, fact_i, tables, yes, RattleType, owns, types_at, type_at, plain, Ptr, block_ptr, null_ptr, ptr_val, tests_null, nothing, layout, Stays, stay_dropped, walk_of, Goes-dropped, handle_tells, Good, ghosts, proved_at, leaves}
 use types.Match.{live}
-use contract.Monad.{fact, fact_i}
-use contract.Running.{tables}
-use denote.Exit.{yes}
-use denote.RattleType.{RattleType, owns}
-use denote.Signature.{types_at, type_at, plain}
-use denote.RawPtr.{Ptr, block_ptr, null_ptr, ptr_val, tests_null}
-use denote.Steps.{nothing}
-use denote.Param.{layout}
-use denote.Triple.Walked.{Stays, stay_dropped, walk_of, Goes-dropped}
-use Rattle.std.proofs.alloc.Calls.{handle_tells}
 use Rattle.std.proofs.alloc.Shapes.{after}
-use Rattle.std.proofs.cell.Inside.{Good}
 use Rattle.std.proofs.option.Made.{Some-of, none_of}
-use Rattle.std.specs.Prelude.{None, Some}
 use Rattle.std.specs.contracts.alloc.Global as heap
 use Rattle.std.proofs.alloc.Global.TheLaws as heap_laws
-use Rattle.std.specs.contracts.impls.GlobalAllocator.TheImpl.{ghosts}
 use Rattle.std.proofs.ResultValues.{and_tt}
-use Rattle.std.proofs.raw_atomic.Walks.{proved_at, leaves}
 use Rattle.machine.specs.contracts.machines.Machine as machine
 use Rattle.calls.proofs.Values.{Session, Loose, al, both, one_field, loose_good, loose_in, session_out, either}
 use Rattle.calls.specs.contracts.sessions.Session.into_loose.{ended, clauses}

@@ -1,5 +1,4 @@
-use Rattle.std.proofs.Common.{◌<◌, ◌*◌, ◌/◌, ◌%◌, ◌^◌, ◌-◌, sym, ap, ◌∙◌, subst, arith}
-use Rattle.captures.specs.Pcapng.{units_per_second}
+use Rattle.captures.proofs.Common.{◌<◌, ◌*◌, ◌/◌, ◌%◌, ◌^◌, ◌-◌, sym, ap, ◌∙◌, subst, arith, units_per_second}
 use Rattle.captures.proofs.TimeLaws.{scaled_up, scaled_down, too_fine_10, too_fine_2, part_fits, ten_some}
 use Rattle.captures.proofs.interfaces.TimeScale.nanoseconds.Goals as goal
 

@@ -1,6 +1,4 @@
-use Rattle.std.proofs.Common.{◌≡◌, ◌-◌, [], refl, ap, ◌∙◌, arith}
-use Rattle.captures.specs.Captured.{first_offset}
-use Rattle.captures.specs.Reading.{Before}
+use Rattle.captures.proofs.Common.{◌≡◌, ◌-◌, [], refl, ap, ◌∙◌, arith, first_offset, Before}
 use Rattle.captures.proofs.CapturedLaws.{max_record-head}
 use Rattle.captures.proofs.reader.CaptureReader.begun.Goals as goal
 

@@ -1,6 +1,4 @@
-use Rattle.std.specs.Prelude.{◌≢◌}
-use Rattle.captures.specs.declared.packets.PacketEnd.{PacketEnd}
-use Rattle.captures.specs.Reading.{FindsPacket, Past, Unread, bytes_left}
+use Rattle.captures.proofs.Common.{◌≢◌, PacketEnd, FindsPacket, Past, Unread, bytes_left}
 use Rattle.captures.proofs.reader.CaptureReader.next.Given as goal
 
 -- nothing was found yet, by a reader that was before a record

@@ -1,9 +1,5 @@
-use Rattle.std.proofs.Common.{arith, ◌≡◌, ℕ, ◌+◌, ◌-◌, List, ◌++◌, length, take, drop, slice_range, min, ap, ◌∙◌, length-drop}
-use Rattle.std.proofs.lemmas.List.{length-take-le}
-use Rattle.std.specs.Prelude.{option_map}
+use Rattle.captures.proofs.Common.{arith, ◌≡◌, ℕ, ◌+◌, ◌-◌, List, ◌++◌, length, take, drop, slice_range, min, ap, ◌∙◌, length-drop, option_map, length-take-le, bytes_left, stream_rest}
 use Rattle.frames.proofs.BuffersLaws.{less_ahead, Consumes-prepended}
-use Rattle.captures.specs.Reading.{bytes_left}
-use Rattle.captures.specs.FrameBytes.{stream_rest}
 use Rattle.captures.proofs.StreamLaws.{rest-ended}
 use Rattle.captures.proofs.streams.CaptureStream.give.Goals as goal
 

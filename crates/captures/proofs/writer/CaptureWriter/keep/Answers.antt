@@ -1,8 +1,4 @@
-use Rattle.std.proofs.Common.{◌≡◌, ◌∙◌, ℕ, ◌+◌, ◌-◌, List, ◌++◌, length, take, ap, subst, sym, arith}
-use Rattle.std.proofs.Math.Logic.{∥∥₁_map}
-use Rattle.std.proofs.lemmas.Slice.{take-put_mid}
-use borrow.Rule.Slice.PartMut.{put_mid}
-use Rattle.exact_io.specs.Waiting.{held}
+use Rattle.captures.proofs.Common.{◌≡◌, ◌∙◌, ℕ, ◌+◌, ◌-◌, List, ◌++◌, length, take, ap, subst, sym, arith, ∥∥₁_map, take-put_mid, put_mid, held}
 use Rattle.captures.specs.Writing.{IsWrittenSoFar}
 use Rattle.captures.proofs.WritingLaws.{so_far-more}
 use Rattle.captures.proofs.writer.CaptureWriter.keep.Goals as goal

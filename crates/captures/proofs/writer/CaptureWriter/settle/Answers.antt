@@ -1,6 +1,4 @@
-use Rattle.std.proofs.Common.{◌≡◌, take, arith}
-use Rattle.std.proofs.Math.Logic.{∥∥₁_map}
-use Rattle.exact_io.specs.Waiting.{held}
+use Rattle.captures.proofs.Common.{◌≡◌, take, arith, ∥∥₁_map, held}
 use Rattle.captures.specs.declared.taking.PartTaken.TheVariants as taken
 use Rattle.captures.proofs.WritingLaws.{so_far-begun, so_far-failed, so_far-written}
 use Rattle.captures.proofs.writer.CaptureWriter.settle.Goals as goal

@@ -1,6 +1,4 @@
-use Rattle.std.proofs.Common.{take}
-use Rattle.std.proofs.Math.Logic.{∥∥₁_map}
-use Rattle.exact_io.specs.Waiting.{held}
+use Rattle.captures.proofs.Common.{take, ∥∥₁_map, held}
 use Rattle.captures.proofs.WritingLaws.{so_far-kept, so_far-stopped}
 use Rattle.captures.proofs.writer.CaptureWriterWrite.flush.Goals as goal
 

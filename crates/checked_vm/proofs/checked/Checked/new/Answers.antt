@@ -1,6 +1,4 @@
-use Rattle.std.proofs.Common.{◌≡◌, List, subst, ap, ◌∙◌}
-use Rattle.std.specs.Prelude.{IfOk}
-use Rattle.isa_model.specs.Machine.States.{KeyValues}
+use Rattle.checked_vm.proofs.Common.{◌≡◌, List, subst, ap, ◌∙◌, IfOk, KeyValues}
 use Rattle.maps.specs.Maps.{rows_of, contents_of}
 use Rattle.maps.proofs.MapLaws.{rows_of-starting, contents_of-starting}
 use Rattle.checked_vm.specs.Machines.{LoadedProgram}

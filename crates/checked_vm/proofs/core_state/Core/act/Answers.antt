@@ -1,8 +1,4 @@
-use Rattle.std.proofs.Common.{◌≡◌, length, sym, ap, ◌∙◌, FitsSigned, w32, rules, arith}
-use Rattle.std.proofs.lemmas.Int.{to_z-of_z}
-use Rattle.isa_model.specs.Code.Limits.{max_call_frames}
-use Rattle.isa_model.specs.Machine.Steps.{Next, act}
-use Rattle.checked_vm.specs.Machine.{state_of}
+use Rattle.checked_vm.proofs.Common.{◌≡◌, length, sym, ap, ◌∙◌, FitsSigned, w32, rules, arith, to_z-of_z, max_call_frames, Next, act, state_of}
 use Rattle.checked_vm.proofs.Acts.{stays_running, performs_in, performs_apart, calls_enter}
 use Rattle.checked_vm.proofs.core_state.Core.act.Goals as goal
 

@@ -1,13 +1,4 @@
-use Rattle.std.proofs.Common.{◌≡◌, ◌≤◌, length, take, Ok, sym, ap, ◌∙◌, FitsSigned, w64, rules, arith}
-use Rattle.std.proofs.lemmas.Int.{to_z-of_z}
-use Rattle.std.proofs.lemmas.List.{length-take-le}
-use Rattle.isa_model.specs.Code.Limits.{max_key_size}
-use Rattle.isa_model.specs.Machine.States.{State}
-use Rattle.isa_model.specs.Machine.Steps.{Next}
-use Rattle.isa_model.specs.Machine.MapContents.{delete_answer}
-use Rattle.live_maps.specs.Live.{content_at}
-use Rattle.maps.proofs.KeySizes.{KeyFits-most}
-use Rattle.checked_vm.specs.Machine.{state_of, helped_on}
+use Rattle.checked_vm.proofs.Common.{◌≡◌, ◌≤◌, length, take, Ok, sym, ap, ◌∙◌, FitsSigned, w64, rules, arith, to_z-of_z, length-take-le, max_key_size, State, Next, delete_answer, content_at, KeyFits-most, state_of, helped_on}
 use Rattle.checked_vm.proofs.Helpers.{deletes, deleted}
 use Rattle.checked_vm.proofs.core_state.Core.do_delete.Goals as goal
 

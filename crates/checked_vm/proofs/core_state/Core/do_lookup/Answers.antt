@@ -1,15 +1,5 @@
-use Rattle.std.proofs.Common.{◌≡◌, ◌+◌, ◌≤◌, length, take, Ok, sym, ap, ◌∙◌, FitsSigned, w64, rules, arith}
-use Rattle.std.proofs.lemmas.Int.{to_z-of_z}
-use Rattle.std.proofs.lemmas.List.{length-take-le}
-use Rattle.isa_model.specs.Code.Limits.{max_key_size}
-use Rattle.isa_model.specs.Machine.States.{State, go_to}
-use Rattle.isa_model.specs.Machine.Steps.{Next}
-use Rattle.isa_model.specs.Machine.MapContents.{at_key}
+use Rattle.checked_vm.proofs.Common.{◌≡◌, ◌+◌, ◌≤◌, length, take, Ok, sym, ap, ◌∙◌, FitsSigned, w64, rules, arith, to_z-of_z, length-take-le, max_key_size, State, go_to, Next, at_key, answered, Live, content_at, KeyFits-most, state_of, helped_on}
 use Rattle.isa_model.specs.Machine.MapHelpers.{pointer_or_zero}
-use Rattle.isa_model.specs.Machine.HelperCalls.{answered}
-use Rattle.live_maps.specs.Live.{Live, content_at}
-use Rattle.maps.proofs.KeySizes.{KeyFits-most}
-use Rattle.checked_vm.specs.Machine.{state_of, helped_on}
 use Rattle.checked_vm.proofs.Helpers.{looks_up, found_key, no_key}
 use Rattle.checked_vm.proofs.core_state.Core.do_lookup.Goals.{in-Some, in-None}
 use Rattle.checked_vm.proofs.core_state.Core.do_lookup.Goals as goal

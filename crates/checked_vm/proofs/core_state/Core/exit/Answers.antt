@@ -1,6 +1,4 @@
-use Rattle.std.proofs.Common.{sym, ap, ◌∙◌}
-use Rattle.isa_model.specs.Machine.Steps.{Next, act}
-use Rattle.checked_vm.specs.Machine.{state_of}
+use Rattle.checked_vm.proofs.Common.{sym, ap, ◌∙◌, Next, act, state_of}
 use Rattle.checked_vm.proofs.Acts.{exits_leave}
 use Rattle.checked_vm.proofs.core_state.Core.exit.Goals as goal
 

@@ -1,8 +1,4 @@
-use Rattle.std.proofs.Common.{FitsSigned, w32, rules, sym, subst, ◌∙◌}
-use Rattle.std.proofs.lemmas.Int.{to_z-of_z}
-use Rattle.isa_model.specs.Machine.Steps.{StepResult}
-use Rattle.checked_vm.specs.Machine.{state_of}
-use Rattle.checked_vm.specs.StepResults.{IsStep}
+use Rattle.checked_vm.proofs.Common.{FitsSigned, w32, rules, sym, subst, ◌∙◌, to_z-of_z, StepResult, state_of, IsStep}
 use Rattle.checked_vm.proofs.Acts.{performed_acts}
 use Rattle.checked_vm.proofs.core_state.Core.perform.Goals as goal
 

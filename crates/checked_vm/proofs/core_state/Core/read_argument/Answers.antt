@@ -1,6 +1,4 @@
-use Rattle.std.proofs.Common.{FitsSigned, w64, rules}
-use Rattle.std.proofs.lemmas.Int.{to_z-of_z}
-use Rattle.checked_vm.specs.Machine.{state_of}
+use Rattle.checked_vm.proofs.Common.{FitsSigned, w64, rules, to_z-of_z, state_of}
 use Rattle.checked_vm.proofs.Bytes.{bytes_at_part}
 use Rattle.checked_vm.proofs.core_state.Core.read_argument.Goals as goal
 

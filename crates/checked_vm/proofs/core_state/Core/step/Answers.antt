@@ -1,6 +1,4 @@
-use Rattle.std.proofs.Common.{None, sym, ◌∙◌}
-use Rattle.std.proofs.lemmas.Bool.{ltb-true}
-use Rattle.std.proofs.lemmas.List.{get_or_default}
+use Rattle.checked_vm.proofs.Common.{None, sym, ◌∙◌, ltb-true, get_or_default}
 use Rattle.checked_vm.proofs.core_state.Core.step.Goals as goal
 
 pub perform-requires-clause-named : goal.perform-requires-clause-named

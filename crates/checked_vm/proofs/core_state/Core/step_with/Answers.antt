@@ -1,10 +1,5 @@
-use Rattle.std.proofs.Common.{◌≡◌, ◌+◌, ◌<◌, ◌^◌, ℕ, [], length, refl, sym, ap, ◌∙◌, rules, arith}
-use Rattle.isa_model.specs.Code.Instructions.{Program}
-use Rattle.isa_model.specs.Machine.States.{State}
-use Rattle.isa_model.specs.Machine.Steps.{Next}
+use Rattle.checked_vm.proofs.Common.{◌≡◌, ◌+◌, ◌<◌, ◌^◌, ℕ, [], length, refl, sym, ap, ◌∙◌, rules, arith, Program, State, Next, state_of, after_time}
 use Rattle.image.specs.Images.{program_of}
-use Rattle.checked_vm.specs.Machine.{state_of}
-use Rattle.checked_vm.specs.StepResults.{after_time}
 use Rattle.checked_vm.proofs.Acts.{next_within}
 use Rattle.checked_vm.proofs.core_state.Core.step_with.Goals as goal
 

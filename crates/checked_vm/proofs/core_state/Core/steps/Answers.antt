@@ -1,7 +1,5 @@
-use Rattle.std.proofs.Common.{◌≡◌, ◌+◌, List, refl, sym, ap, ◌∙◌, subst, arith}
+use Rattle.checked_vm.proofs.Common.{◌≡◌, ◌+◌, List, refl, sym, ap, ◌∙◌, subst, arith, State, left}
 use Rattle.isa_model.specs.declared.ends.End.TheVariants.{Exit, Trap}
-use Rattle.isa_model.specs.Machine.States.{State}
-use Rattle.isa_model.specs.Running.Runs.{left}
 use Rattle.isa_model.proofs.RunLaws.{progress-zero}
 use Rattle.checked_vm.proofs.Turns.{progress-next, turn_of-finished, turn_of-trapped, state_at-finished, state_at-trapped, begun_in-zero, begun_in-next, begun_in-finished, begun_in-trapped}
 use Rattle.checked_vm.proofs.core_state.Core.steps.Goals as goal

@@ -1,9 +1,4 @@
-use Rattle.std.proofs.Common.{◌≡◌, ◌+◌, ◌≤◌, List, ◌++◌}
-use Rattle.isa_model.specs.Code.Instructions.{Program}
-use Rattle.isa_model.specs.Running.Runs.{GoesOn, progress}
-use Rattle.checked_vm.specs.Machine.{state_of, IsRunning}
-use Rattle.isa_model.specs.Machine.States.{State}
-use Rattle.checked_vm.specs.StepResults.{ClockAnswers}
+use Rattle.checked_vm.proofs.Common.{◌≡◌, ◌+◌, ◌≤◌, List, ◌++◌, Program, GoesOn, progress, state_of, IsRunning, State, ClockAnswers}
 use Rattle.checked_vm.specs.Watching.{begun_in}
 use Rattle.checked_vm.proofs.core_state.Core.steps.Given as goal
 

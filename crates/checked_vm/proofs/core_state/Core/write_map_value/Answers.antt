@@ -1,8 +1,4 @@
-use Rattle.std.proofs.Common.{Ok, map, sym, ap, ◌∙◌}
-use Rattle.std.proofs.lemmas.List.{length-map}
-use Rattle.isa_model.specs.declared.values.Cell.TheVariants.{Byte}
-use Rattle.live_maps.specs.Live.{Live}
-use Rattle.checked_vm.specs.Machine.{state_of}
+use Rattle.checked_vm.proofs.Common.{Ok, map, sym, ap, ◌∙◌, length-map, Byte, Live, state_of}
 use Rattle.checked_vm.proofs.Bytes.{write_map_value_part}
 use Rattle.checked_vm.proofs.core_state.Core.write_map_value.Goals as goal
 

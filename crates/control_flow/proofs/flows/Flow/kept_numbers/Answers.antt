@@ -1,5 +1,4 @@
-use Rattle.std.proofs.Common.{sym}
-use Rattle.control_flow.specs.declared.errors.FlowError.TheVariants.{TargetOutside}
+use Rattle.control_flow.proofs.Common.{sym, TargetOutside}
 use Rattle.control_flow.proofs.FlowLaws.{IsFlow-Fails}
 use Rattle.control_flow.proofs.LiveMasks.{keeps_tested}
 use Rattle.control_flow.proofs.flows.Flow.kept_numbers.Goals as goal

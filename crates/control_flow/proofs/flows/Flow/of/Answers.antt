@@ -1,5 +1,4 @@
-use Rattle.std.proofs.lemmas.Result.{err_from_is_err_and}
-use Rattle.control_flow.specs.declared.errors.FlowError.TheVariants.{TargetOutside}
+use Rattle.control_flow.proofs.Common.{err_from_is_err_and, TargetOutside}
 use Rattle.control_flow.proofs.FlowLaws.{IsFlow-Fails}
 use Rattle.control_flow.proofs.Whole.{only_memory}
 use Rattle.control_flow.proofs.flows.Flow.of.Goals as goal

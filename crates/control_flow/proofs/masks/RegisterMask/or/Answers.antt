@@ -1,5 +1,4 @@
-use Rattle.std.proofs.lemmas.Nat.{le_or_l}
-use Rattle.isa_model.specs.Code.Registers.{reg_number}
+use Rattle.control_flow.proofs.Common.{le_or_l, reg_number}
 use Rattle.control_flow.proofs.MaskLemmas.{or_has}
 use Rattle.control_flow.proofs.masks.RegisterMask.or.Goals as goal
 

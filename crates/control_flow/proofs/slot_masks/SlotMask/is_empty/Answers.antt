@@ -1,5 +1,4 @@
-use Rattle.std.proofs.Common.{rules, ◌≡◌, subst}
-use Rattle.control_flow.specs.Masks.{HasSlot, no_slots}
+use Rattle.control_flow.proofs.Common.{rules, ◌≡◌, subst, HasSlot, no_slots}
 use Rattle.control_flow.proofs.MaskLemmas.{no_slot}
 use Rattle.control_flow.proofs.slot_masks.SlotMask.is_empty.Goals as goal
 

@@ -1,5 +1,4 @@
-use Rattle.std.proofs.Common.{rules, ◌≡◌, sym, subst}
-use Rattle.control_flow.specs.Masks.{HasSlot, all_slots}
+use Rattle.control_flow.proofs.Common.{rules, ◌≡◌, sym, subst, HasSlot, all_slots}
 use Rattle.control_flow.proofs.MaskLemmas.{all_has}
 use Rattle.control_flow.proofs.slot_masks.SlotMask.is_full.Goals as goal
 

@@ -1,5 +1,4 @@
-use Rattle.std.proofs.Common.{arith}
-use Rattle.std.proofs.lemmas.Nat.{and_le_l}
+use Rattle.control_flow.proofs.Common.{arith, and_le_l}
 use Rattle.control_flow.proofs.MaskLemmas.{slots_meet}
 use Rattle.control_flow.proofs.slot_masks.SlotMask.meets.Goals as goal
 

@@ -1,8 +1,4 @@
-use Rattle.std.proofs.Common.{◌≡◌, ℕ, ◌<◌, List, length, All, sym, ap, ◌∙◌, subst}
-use Rattle.std.proofs.lemmas.List.{length-map}
-use Rattle.coverage.specs.Counted.{CountsExactly}
-use Rattle.coverage.specs.Ranks.{is_number}
-use Rattle.coverage.specs.Runs.{steps_by, ends_in, steps_in}
+use Rattle.coverage.proofs.Common.{◌≡◌, ℕ, ◌<◌, List, length, All, sym, ap, ◌∙◌, subst, length-map, CountsExactly, is_number, steps_by, ends_in, steps_in}
 use Rattle.coverage.proofs.RunsLaws.{steps_in-below}
 use Rattle.coverage.proofs.HitsLaws.{steps_counted}
 use Rattle.coverage.proofs.stream_hits.StreamHits.step_numbers.Goals as goal

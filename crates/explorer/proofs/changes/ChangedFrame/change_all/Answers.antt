@@ -1,5 +1,4 @@
-use Rattle.std.proofs.Common.{◌+◌, sym, subst, arith}
-use Rattle.explorer.specs.Changes.{IsChanged}
+use Rattle.explorer.proofs.Common.{◌+◌, sym, subst, arith, IsChanged}
 use Rattle.explorer.proofs.ChangeLaws.{IsChanged-none, IsChanged-more}
 use Rattle.explorer.proofs.changes.ChangedFrame.change_all.Goals as goal
 use Rattle.explorer.proofs.changes.ChangedFrame.change_all.Goals.{then-add+in-Ok, else-add}

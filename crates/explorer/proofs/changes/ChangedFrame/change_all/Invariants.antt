@@ -1,5 +1,4 @@
-use Rattle.std.proofs.Common.{◌≤◌}
-use Rattle.explorer.specs.Changes.{IsChanged}
+use Rattle.explorer.proofs.Common.{◌≤◌, IsChanged}
 use Rattle.explorer.proofs.changes.ChangedFrame.change_all.Given as goal
 
 abbrev pub invariant-loop-index : goal.invariant-loop-index

@@ -1,9 +1,5 @@
-use Rattle.std.proofs.Common.{◌≡◌, ◌∙◌, ℕ, ◌+◌, ◌-◌, [], ◌∷◌, take, drop, sym, ap, arith}
-use Rattle.std.proofs.lemmas.List.{drop_all}
-use Rattle.state_index.specs.declared.parts.Part.{Part}
-use Rattle.state_index.specs.Parts.{all_written}
+use Rattle.explorer.proofs.Common.{◌≡◌, ◌∙◌, ℕ, ◌+◌, ◌-◌, [], ◌∷◌, take, drop, sym, ap, arith, drop_all, Part, all_written, changes_of}
 use Rattle.explorer.specs.declared.changes.ChangedFrame.{ChangedFrame}
-use Rattle.explorer.specs.Changes.{changes_of}
 use Rattle.explorer.proofs.ChangeLaws.{changes_less, no_changes, undo_one, undo_none, drop_one}
 use Rattle.explorer.proofs.changes.ChangedFrame.undo.Goals as goal
 

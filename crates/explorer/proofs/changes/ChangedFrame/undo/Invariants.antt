@@ -1,6 +1,4 @@
-use Rattle.std.proofs.Common.{◌≡◌, ◌-◌, take, drop}
-use Rattle.state_index.specs.Parts.{all_written}
-use Rattle.explorer.specs.Changes.{changes_of}
+use Rattle.explorer.proofs.Common.{◌≡◌, ◌-◌, take, drop, all_written, changes_of}
 use Rattle.explorer.proofs.changes.ChangedFrame.undo.Given as goal
 
 -- the changes from here on are still to be taken back

@@ -1,9 +1,6 @@
-use Rattle.std.proofs.Common.{◌∙◌, take, drop, sym, ap}
-use Rattle.state_index.specs.Parts.{all_written}
+use Rattle.explorer.proofs.Common.{◌∙◌, take, drop, sym, ap, all_written, changes_of, seen}
 use Rattle.explorer.specs.declared.changing.ChangedState.{ChangedState}
 use Rattle.explorer.specs.Around.{state_around}
-use Rattle.explorer.specs.Changes.{changes_of}
-use Rattle.explorer.specs.HeldPlaces.{seen}
 use Rattle.explorer.proofs.PendingLaws.{changed_from}
 use Rattle.explorer.proofs.changing.Changing.keep.Goals as goal
 

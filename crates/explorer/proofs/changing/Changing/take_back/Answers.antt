@@ -1,5 +1,4 @@
-use Rattle.std.proofs.Common.{◌∙◌, ◌∷◌, sym, ap}
-use Rattle.explorer.specs.Pending.{states_from, states_below}
+use Rattle.explorer.proofs.Common.{◌∙◌, ◌∷◌, sym, ap, states_from, states_below}
 use Rattle.explorer.proofs.changing.Changing.take_back.Goals as goal
 
 pub returns-in-Whole : goal.returns-in-Whole

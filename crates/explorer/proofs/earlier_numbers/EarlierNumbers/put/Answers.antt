@@ -1,5 +1,4 @@
-use Rattle.std.proofs.Common.{◌∙◌, reverse}
-use Rattle.explorer.specs.EarlierNumbers.{NumberStacks}
+use Rattle.explorer.proofs.Common.{◌∙◌, reverse, NumberStacks}
 use Rattle.explorer.proofs.EarlierLaws.{number_back, stacks_back}
 use Rattle.explorer.proofs.earlier_numbers.EarlierNumbers.put.Goals as goal
 

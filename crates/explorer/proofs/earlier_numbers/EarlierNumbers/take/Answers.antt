@@ -1,13 +1,4 @@
-use Rattle.std.proofs.Common.{◌∙◌, reverse, sym, ap, ap₂, max, arith}
-use Rattle.std.specs.Int.{w32, w64, int_max}
-use Rattle.std.proofs.lemmas.Int.{to_z-of_z}
-use Rattle.known_bits.specs.declared.bits.Bits.{Bits}
-use Rattle.ranges.specs.declared.wide.Wide.{Wide}
-use Rattle.ranges.specs.declared.low.Low.{Low}
-use Rattle.ranges.specs.declared.range.Range.{Range}
-use Rattle.ranges.proofs.SameLimits.{same_wide, same_low}
-use Rattle.reg_state.specs.declared.scalars.Scalar.{Scalar}
-use Rattle.explorer.specs.EarlierNumbers.{NumberStacks, earlier_number, numbers_left}
+use Rattle.explorer.proofs.Common.{◌∙◌, reverse, sym, ap, ap₂, max, arith, w32, w64, int_max, to_z-of_z, Bits, Wide, Low, Range, same_wide, same_low, Scalar, NumberStacks, earlier_number, numbers_left}
 use Rattle.explorer.specs.SignedLimits.{signed_first, signed_second}
 use Rattle.explorer.proofs.EarlierLaws.{stacks_back}
 use Rattle.explorer.proofs.earlier_numbers.EarlierNumbers.take.Goals as goal

@@ -1,7 +1,4 @@
-use Rattle.std.proofs.Common.{option_to_list, sym, subst}
-use Rattle.std.specs.List.{All}
-use Rattle.state_index.specs.Parts.{IsPartOf}
-use Rattle.explorer.specs.Groups.{constant_of, others_of}
+use Rattle.explorer.proofs.Common.{option_to_list, sym, subst, All, IsPartOf, constant_of, others_of}
 use Rattle.explorer.proofs.GroupLaws.{All-others}
 use Rattle.explorer.proofs.groups.KeptParts.may_cover_few.Goals as goal
 

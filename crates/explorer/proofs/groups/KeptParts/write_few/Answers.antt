@@ -1,7 +1,4 @@
-use Rattle.std.proofs.Common.{◌++◌, ◌∙◌, Option, option_to_list, ap, ap₂, sym}
-use Rattle.state_index.specs.declared.parts.Part.{Part}
-use Rattle.state_index.specs.Parts.{all_written}
-use Rattle.explorer.specs.Groups.{others_of}
+use Rattle.explorer.proofs.Common.{◌++◌, ◌∙◌, Option, option_to_list, ap, ap₂, sym, Part, all_written, others_of}
 use Rattle.explorer.proofs.groups.KeptParts.write_few.Goals as goal
 use Rattle.explorer.proofs.groups.KeptParts.write_few.Goals.{in-Some, in-None}
 

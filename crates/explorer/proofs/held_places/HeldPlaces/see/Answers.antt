@@ -1,6 +1,4 @@
-use Rattle.std.proofs.Common.{◌∙◌, ap}
-use Rattle.state_index.specs.Parts.{all_written}
-use Rattle.explorer.specs.HeldPlaces.{held_registers, held_slots, seen}
+use Rattle.explorer.proofs.Common.{◌∙◌, ap, all_written, held_registers, held_slots, seen}
 use Rattle.explorer.proofs.held_places.HeldPlaces.see.Goals as goal
 
 pub returns : goal.returns

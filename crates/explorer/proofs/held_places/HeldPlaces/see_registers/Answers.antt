@@ -1,10 +1,4 @@
-use Rattle.std.proofs.Common.{◌∙◌, ℕ, ◌+◌, drop, get_or, ap, ap₂, sym, arith}
-use Rattle.std.specs.Prelude.{◌==◌}
-use Rattle.std.specs.Int.{bit_at}
-use Rattle.std.proofs.lemmas.List.{drop_all}
-use Rattle.state_index.specs.declared.parts.Part.TheVariants.{InRegister}
-use Rattle.state_index.specs.Parts.{all_written}
-use Rattle.explorer.specs.HeldPlaces.{held_part, held_registers}
+use Rattle.explorer.proofs.Common.{◌∙◌, ℕ, ◌+◌, drop, get_or, ap, ap₂, sym, arith, ◌==◌, bit_at, drop_all, InRegister, all_written, held_part, held_registers}
 use Rattle.explorer.proofs.HeldLaws.{held_registers-next}
 use Rattle.explorer.proofs.held_places.HeldPlaces.see_registers.Goals as goal
 

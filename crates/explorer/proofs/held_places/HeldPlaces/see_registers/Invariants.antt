@@ -1,6 +1,4 @@
-use Rattle.std.proofs.Common.{◌≡◌, drop}
-use Rattle.state_index.specs.Parts.{all_written}
-use Rattle.explorer.specs.HeldPlaces.{held_registers}
+use Rattle.explorer.proofs.Common.{◌≡◌, drop, all_written, held_registers}
 use Rattle.explorer.proofs.held_places.HeldPlaces.see_registers.Given as goal
 
 -- the registers from here on are still to be written

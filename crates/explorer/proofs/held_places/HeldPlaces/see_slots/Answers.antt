@@ -1,9 +1,4 @@
-use Rattle.std.proofs.Common.{◌∙◌, ℕ, ◌+◌, drop, get_or, ap, ap₂, sym, arith}
-use Rattle.std.proofs.lemmas.List.{drop_all}
-use Rattle.stack_state.specs.declared.slots.StackSlot.TheVariants.{Written}
-use Rattle.state_index.specs.declared.parts.Part.TheVariants.{InSlot}
-use Rattle.state_index.specs.Parts.{all_written}
-use Rattle.explorer.specs.HeldPlaces.{held_part, held_slots}
+use Rattle.explorer.proofs.Common.{◌∙◌, ℕ, ◌+◌, drop, get_or, ap, ap₂, sym, arith, drop_all, Written, InSlot, all_written, held_part, held_slots}
 use Rattle.explorer.proofs.HeldLaws.{held_slots-next}
 use Rattle.explorer.proofs.held_places.HeldPlaces.see_slots.Goals as goal
 

@@ -1,6 +1,4 @@
-use Rattle.std.proofs.Common.{◌∙◌, ap, sym, arith}
-use Rattle.stack_state.specs.declared.states.State.{State}
-use Rattle.explorer.specs.ProvedBytes.{with_proved}
+use Rattle.explorer.proofs.Common.{◌∙◌, ap, sym, arith, State, with_proved}
 use Rattle.explorer.proofs.ProvedBytesLaws.{with_nothing}
 use Rattle.explorer.proofs.kept.Kept.may_cover.Goals as goal
 

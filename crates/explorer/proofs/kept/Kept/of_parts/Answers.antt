@@ -1,8 +1,4 @@
-use Rattle.std.proofs.Common.{◌≡◌, ◌∙◌, refl, subst}
-use Rattle.std.specs.Prelude.{IfOk}
-use Rattle.stack_state.specs.declared.states.State.{State}
-use Rattle.explorer.specs.declared.proved_bytes.ProvedBytes.{ProvedBytes}
-use Rattle.explorer.specs.ProvedBytes.{with_proved}
+use Rattle.explorer.proofs.Common.{◌≡◌, ◌∙◌, refl, subst, IfOk, State, ProvedBytes, with_proved}
 use Rattle.explorer.proofs.ProvedBytesLaws.{with_nothing}
 use Rattle.explorer.proofs.kept.Kept.of_parts.Goals as goal
 

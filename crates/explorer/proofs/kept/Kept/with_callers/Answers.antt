@@ -1,7 +1,4 @@
-use Rattle.std.proofs.Common.{◌≡◌, ◌∙◌, refl, rules}
-use Rattle.stack_state.specs.declared.states.State.{State}
-use Rattle.explorer.specs.declared.proved_bytes.ProvedBytes.{ProvedBytes}
-use Rattle.explorer.specs.ProvedBytes.{with_proved}
+use Rattle.explorer.proofs.Common.{◌≡◌, ◌∙◌, refl, rules, State, ProvedBytes, with_proved}
 use Rattle.explorer.proofs.ProvedBytesLaws.{with_nothing}
 use Rattle.explorer.proofs.kept.Kept.with_callers.Goals as goal
 

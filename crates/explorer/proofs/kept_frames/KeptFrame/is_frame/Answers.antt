@@ -1,9 +1,4 @@
-use Rattle.std.proofs.Common.{rules, ◌≡◌, ◌++◌, ◌∙◌, Option, None, option_to_list, length, ap, sym}
-use Rattle.std.proofs.lemmas.List.{append-nil}
-use Rattle.state_index.specs.declared.parts.Part.{Part}
-use Rattle.state_index.specs.Parts.{unset_frame, all_written, parts_of, register_parts, slot_parts}
-use Rattle.state_index.proofs.PartLaws.{all_written-parts_of}
-use Rattle.explorer.specs.Groups.{whole, constant_of, others_of, few_of, groups_of}
+use Rattle.explorer.proofs.Common.{rules, ◌≡◌, ◌++◌, ◌∙◌, Option, None, option_to_list, length, ap, sym, append-nil, Part, unset_frame, all_written, parts_of, register_parts, slot_parts, all_written-parts_of, whole, constant_of, others_of, few_of, groups_of}
 use Rattle.explorer.proofs.kept_frames.KeptFrame.is_frame.Goals as goal
 
 pub returns : goal.returns

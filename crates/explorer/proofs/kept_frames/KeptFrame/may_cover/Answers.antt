@@ -1,7 +1,4 @@
-use Rattle.std.proofs.Common.{◌++◌, ◌∙◌, ap, sym, subst, arith}
-use Rattle.std.specs.List.{All}
-use Rattle.state_index.specs.Parts.{parts_of, IsPartOf}
-use Rattle.explorer.specs.Groups.{whole, few_of, groups_of}
+use Rattle.explorer.proofs.Common.{◌++◌, ◌∙◌, ap, sym, subst, arith, All, parts_of, IsPartOf, whole, few_of, groups_of}
 use Rattle.explorer.proofs.GroupLaws.{All-first, All-others, parts_all, group_all}
 use Rattle.explorer.proofs.kept_frames.KeptFrame.may_cover.Goals as goal
 

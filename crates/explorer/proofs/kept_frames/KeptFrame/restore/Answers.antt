@@ -1,8 +1,4 @@
-use Rattle.std.proofs.Common.{◌∙◌, ℕ, ◌+◌, drop, ap, sym, arith}
-use Rattle.std.proofs.lemmas.List.{drop_all}
-use Rattle.state_index.specs.Parts.{unset_frame, all_written}
-use Rattle.explorer.specs.Groups.{whole, few_of, groups_of}
-use Rattle.state_index.proofs.PartLaws.{all_written-append}
+use Rattle.explorer.proofs.Common.{◌∙◌, ℕ, ◌+◌, drop, ap, sym, arith, drop_all, unset_frame, all_written, whole, few_of, groups_of, all_written-append}
 use Rattle.explorer.proofs.GroupLaws.{all_written-next}
 use Rattle.explorer.proofs.kept_frames.KeptFrame.restore.Goals as goal
 

@@ -1,6 +1,4 @@
-use Rattle.std.proofs.Common.{◌≡◌, drop}
-use Rattle.state_index.specs.Parts.{all_written}
-use Rattle.explorer.specs.Groups.{whole}
+use Rattle.explorer.proofs.Common.{◌≡◌, drop, all_written, whole}
 use Rattle.explorer.proofs.kept_frames.KeptFrame.restore.Given as goal
 
 -- the groups from here on are still to be written

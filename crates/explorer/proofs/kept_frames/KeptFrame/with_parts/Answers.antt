@@ -1,6 +1,4 @@
-use Rattle.std.proofs.Common.{◌∙◌, ap, sym}
-use Rattle.state_index.specs.Parts.{parts_of, unset_frame, all_written}
-use Rattle.state_index.proofs.PartLaws.{all_written-parts_of}
+use Rattle.explorer.proofs.Common.{◌∙◌, ap, sym, parts_of, unset_frame, all_written, all_written-parts_of}
 use Rattle.explorer.proofs.kept_frames.KeptFrame.with_parts.Goals as goal
 
 pub returns : goal.returns

@@ -1,5 +1,4 @@
-use Rattle.std.proofs.Common.{ap}
-use Rattle.explorer.specs.Pending.{states_from, pending_states}
+use Rattle.explorer.proofs.Common.{ap, states_from, pending_states}
 use Rattle.explorer.proofs.pending.PendingStates.new.Goals as goal
 
 pub returns : goal.returns

@@ -1,5 +1,4 @@
-use Rattle.std.proofs.Common.{◌∙◌, ◌∷◌, [], reverse, length, length-append, sym, ap, arith}
-use Rattle.explorer.specs.Pending.{States}
+use Rattle.explorer.proofs.Common.{◌∙◌, ◌∷◌, [], reverse, length, length-append, sym, ap, arith, States}
 use Rattle.explorer.proofs.PendingLaws.{length-pending_states, no_items, pending_more}
 use Rattle.explorer.proofs.pending.PendingStates.pop.Goals as goal
 

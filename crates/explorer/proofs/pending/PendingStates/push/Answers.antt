@@ -1,5 +1,4 @@
-use Rattle.std.proofs.Common.{◌∙◌, ◌++◌, ◌∷◌, [], reverse, length, sym, ap}
-use Rattle.explorer.specs.Pending.{States}
+use Rattle.explorer.proofs.Common.{◌∙◌, ◌++◌, ◌∷◌, [], reverse, length, sym, ap, States}
 use Rattle.explorer.proofs.PendingLaws.{length-pending_states, pending_more}
 use Rattle.explorer.proofs.pending.PendingStates.push.Goals as goal
 

@@ -1,6 +1,5 @@
-use Rattle.std.proofs.Common.{rules, refl, inl, inr}
+use Rattle.explorer.proofs.Common.{rules, refl, inl, inr, beside}
 use Rattle.transfer.specs.declared.Ways.TheVariants as ways
-use Rattle.transfer.specs.Beside.{beside}
 use Rattle.explorer.proofs.Walking.{steps_again}
 use Rattle.explorer.proofs.retracing.Walker.go_on.Goals as goal
 

@@ -1,11 +1,6 @@
-use Rattle.std.proofs.Common.{◌≢◌, ◌∷◌, subst}
-use Rattle.walks.specs.Refused.{StopsAt}
-use Rattle.walks.specs.declared.refusals.Refusal.TheVariants.{TooLong}
-use Rattle.explorer.specs.Listening.{StepFails}
+use Rattle.explorer.proofs.Common.{◌≢◌, ◌∷◌, subst, StopsAt, TooLong, StepFails, IsNoFiner, precision_in}
 use Rattle.explorer.proofs.Stopping.{halted}
 use Rattle.explorer.proofs.Telling.{refused_step, told_step, ShowsStep-as, StepFails-as}
-use Rattle.walks.specs.Forgetting.{IsNoFiner}
-use Rattle.explorer.specs.Search.{precision_in}
 use Rattle.explorer.proofs.search.Search.advance.Goals as goal
 
 pub returns-in-Err-clause-ends : goal.returns-in-Err-clause-ends

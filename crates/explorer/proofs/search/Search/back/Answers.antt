@@ -1,11 +1,4 @@
-use Rattle.std.proofs.Common.{ℕ, Option, None, ◌≡◌, ◌∙◌, ◌++◌, ◌∷◌, [], ◌+◌, List, Some, refl, arith, sym, ap, length, subst}
-use Rattle.explorer.specs.declared.trail.Visit.{Visit}
-use Rattle.stack_state.specs.declared.states.State.{State}
-use Rattle.explorer.specs.Trail.{TakesLastPending}
-use Rattle.explorer.specs.Search.{Settles, HasSpent, Path, precision_in}
-use Rattle.stack_state.specs.Starts.{start}
-use Rattle.walks.specs.Forgetting.{Coarse}
-use Rattle.walks.proofs.PrecisionLaws.{Forgets-as}
+use Rattle.explorer.proofs.Common.{ℕ, Option, None, ◌≡◌, ◌∙◌, ◌++◌, ◌∷◌, [], ◌+◌, List, Some, refl, arith, sym, ap, length, subst, Visit, State, TakesLastPending, Settles, HasSpent, Path, precision_in, start, Coarse, Forgets-as}
 use Rattle.explorer.proofs.StoredStatesLaws.{Settles-start}
 use Rattle.explorer.proofs.Paths.{LastVisit, Path-pop, Path-none}
 use Rattle.explorer.proofs.Unfinished.{OnPath-pop}

@@ -1,11 +1,4 @@
-use Rattle.std.proofs.Common.{◌+◌, List, arith, refl, length, ap, sym, subst, ◌∙◌}
-use Rattle.std.proofs.lemmas.Result.{IfErr-weaker}
-use Rattle.explorer.specs.declared.trail.Visit.{Visit}
-use Rattle.explorer.specs.Listening.{ComesBackAt, BeginFails}
-use Rattle.stack_state.specs.Starts.{start}
-use Rattle.walks.specs.Forgetting.{Exact, Forgets}
-use Rattle.explorer.specs.Search.{precision_in}
-use Rattle.walks.proofs.Forgotten.{Forgets-forgotten}
+use Rattle.explorer.proofs.Common.{◌+◌, List, arith, refl, length, ap, sym, subst, ◌∙◌, IfErr-weaker, Visit, ComesBackAt, BeginFails, start, Exact, Forgets, precision_in, Forgets-forgotten}
 use Rattle.explorer.proofs.Counting.{CountsTo-here}
 use Rattle.explorer.proofs.Paths.{Path-here}
 use Rattle.explorer.proofs.Unfinished.{OnPath-start}

@@ -1,8 +1,4 @@
-use Rattle.std.proofs.Common.{subst}
-use Rattle.std.specs.Prelude.{IfOk, IfErr}
-use Rattle.std.proofs.lemmas.Result.{IfOk-weaker, IfErr-weaker}
-use Rattle.walks.specs.Refused.{StopsAt}
-use Rattle.explorer.specs.Search.{Arrives, RefusesArrival, AfterMove, precision_in}
+use Rattle.explorer.proofs.Common.{subst, IfOk, IfErr, IfOk-weaker, IfErr-weaker, StopsAt, Arrives, RefusesArrival, AfterMove, precision_in}
 use Rattle.explorer.proofs.SearchMoves.{comes_to}
 use Rattle.explorer.proofs.Walking.{arrival_refused}
 use Rattle.explorer.proofs.search.Search.come.Goals as goal

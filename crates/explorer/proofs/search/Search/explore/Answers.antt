@@ -1,7 +1,4 @@
-use Rattle.std.proofs.Common.{subst}
-use Rattle.walks.specs.Refused.{StopsAt}
-use Rattle.explorer.specs.Listening.{IfRefused}
-use Rattle.explorer.specs.Search.{precision_in}
+use Rattle.explorer.proofs.Common.{subst, StopsAt, IfRefused, precision_in}
 use Rattle.explorer.proofs.search.Search.explore.Goals as goal
 
 pub explore_all-requires : goal.explore_all-requires

@@ -1,18 +1,9 @@
-use Rattle.std.proofs.Common.{◌≡◌, ◌∙◌, ◌+◌, length, arith, refl, sym, subst}
-use Rattle.image.specs.Images.{IsImage}
-use Rattle.walks.specs.Refused.{StopsAt}
-use Rattle.walks.specs.declared.refusals.Refusal.TheVariants.{TooLong}
-use Rattle.explorer.specs.Search.{IsNext, IsTooLong, precision_in}
-use Rattle.explorer.specs.Listening.{BeginFails, FollowsNext}
+use Rattle.explorer.proofs.Common.{◌≡◌, ◌∙◌, ◌+◌, length, arith, refl, sym, subst, IsImage, StopsAt, TooLong, IsNext, IsTooLong, precision_in, BeginFails, FollowsNext, Takes, ItsOwn, start, Exact, Coarse, IsNoFiner, Forgets-as, WalksTo-as, IsNoFiner-trans}
 use Rattle.explorer.proofs.Stopping.{halted}
-use Rattle.walks.specs.Counts.{Takes, ItsOwn}
 use Rattle.explorer.proofs.Counting.{CountsTo-takes}
 use Rattle.explorer.proofs.Walking.{Path-walks}
 use Rattle.explorer.proofs.Telling.{told_begin, refused_begin, BeginsPath-as, BeginFails-as}
 use Rattle.explorer.proofs.Lengthening.{IsNext-as}
-use Rattle.stack_state.specs.Starts.{start}
-use Rattle.walks.specs.Forgetting.{Exact, Coarse, IsNoFiner}
-use Rattle.walks.proofs.PrecisionLaws.{Forgets-as, WalksTo-as, IsNoFiner-trans}
 use Rattle.explorer.specs.declared.moves.NextMove.TheVariants.{Explore}
 use Rattle.explorer.proofs.search.Search.explore_all.Goals as goal
 

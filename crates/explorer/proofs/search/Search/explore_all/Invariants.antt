@@ -1,6 +1,4 @@
-use Rattle.std.proofs.Common.{◌≡◌, ◌+◌, length, None, IsTrue}
-use Rattle.explorer.specs.Search.{IsNext, InEach}
-use Rattle.explorer.specs.Listening.{FollowsNext}
+use Rattle.explorer.proofs.Common.{◌≡◌, ◌+◌, length, None, IsTrue, IsNext, InEach, FollowsNext}
 use Rattle.explorer.proofs.search.Search.explore_all.Given as goal
 
 abbrev pub invariant-loop-explored : goal.invariant-loop-explored

@@ -1,10 +1,5 @@
-use Rattle.std.proofs.Common.{◌≡◌, sym, subst}
-use Rattle.std.proofs.lemmas.Result.{IfOk-weaker}
-use Rattle.transfer.specs.Beside.{beside}
-use Rattle.walks.specs.Forgetting.{Forgets}
-use Rattle.walks.proofs.Forgotten.{Forgets-forgotten}
+use Rattle.explorer.proofs.Common.{◌≡◌, sym, subst, IfOk-weaker, beside, Forgets, Forgets-forgotten, precision_in}
 use Rattle.walks.proofs.OtherCallers.{with_callers, Forgets-beside}
-use Rattle.explorer.specs.Search.{precision_in}
 use Rattle.explorer.proofs.search.Search.keep_other.Goals as goal
 
 pub keep_beside-requires : goal.keep_beside-requires

@@ -1,8 +1,4 @@
-use Rattle.std.proofs.Common.{◌≢◌, ◌∙◌, arith, subst}
-use Rattle.walks.specs.Refused.{StopsAt}
-use Rattle.walks.specs.declared.refusals.Refusal.TheVariants.{TooLong}
-use Rattle.explorer.specs.Search.{AfterMoveOrEnd, precision_in}
-use Rattle.explorer.specs.Listening.{IfReturns, ReturnFails, HeardPath, HearsMove}
+use Rattle.explorer.proofs.Common.{◌≢◌, ◌∙◌, arith, subst, StopsAt, TooLong, AfterMoveOrEnd, precision_in, IfReturns, ReturnFails, HeardPath, HearsMove}
 use Rattle.explorer.proofs.Stopping.{halted}
 use Rattle.explorer.proofs.Telling.{returns_less, has_ended, follows_end, told_back, refused_back}
 use Rattle.explorer.proofs.search.Search.settle.Goals as goal

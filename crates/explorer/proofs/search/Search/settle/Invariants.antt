@@ -1,6 +1,4 @@
-use Rattle.std.proofs.Common.{◌≡◌, ◌+◌, length}
-use Rattle.explorer.specs.Search.{AfterMove, InEach}
-use Rattle.explorer.specs.Listening.{IsToTell}
+use Rattle.explorer.proofs.Common.{◌≡◌, ◌+◌, length, AfterMove, InEach, IsToTell}
 use Rattle.explorer.proofs.Telling.{weight}
 use Rattle.explorer.proofs.search.Search.settle.Given as goal
 

@@ -1,18 +1,5 @@
-use Rattle.std.proofs.Common.{◌≡◌, ◌+◌, [], ◌∷◌, ◌++◌, Some, length, arith, refl, sym, ap, ◌∙◌, subst}
-use Rattle.std.proofs.lemmas.Result.{err_from_is_err_and}
-use Rattle.isa_model.specs.Code.Instructions.{fetch}
+use Rattle.explorer.proofs.Common.{◌≡◌, ◌+◌, [], ◌∷◌, ◌++◌, Some, length, arith, refl, sym, ap, ◌∙◌, subst, err_from_is_err_and, fetch, RefusesStep, beside, State, Search, Visit, Visits, precision_in, StepsTo, Forgets, Forgets-forgotten, ItsOwn}
 use Rattle.transfer.specs.declared.Ways.TheVariants as ways
-use Rattle.transfer.specs.Exact.{RefusesStep}
-use Rattle.transfer.specs.Beside.{beside}
-use Rattle.stack_state.specs.declared.states.State.{State}
-use Rattle.explorer.specs.declared.search.Search.{Search}
-use Rattle.explorer.specs.declared.trail.Visit.{Visit}
-use Rattle.explorer.specs.Trail.{Visits}
-use Rattle.explorer.specs.Search.{precision_in}
-use Rattle.walks.specs.Walks.{StepsTo}
-use Rattle.walks.specs.Forgetting.{Forgets}
-use Rattle.walks.proofs.Forgotten.{Forgets-forgotten}
-use Rattle.walks.specs.Counts.{ItsOwn}
 use Rattle.explorer.proofs.Counting.{spent_here}
 use Rattle.explorer.proofs.Walking.{Path-walks, into_by}
 use Rattle.explorer.proofs.SearchMoves.{Entered, fetched, one_way, two_ways, comes_into, step_ends}

@@ -1,9 +1,4 @@
-use Rattle.std.proofs.Common.{◌≡◌, ◌∙◌, Some, ap, sym, arith, subst}
-use Rattle.std.specs.Prelude.{slice_get}
-use Rattle.std.proofs.lemmas.Bool.{ltb-true}
-use Rattle.stack_state.specs.declared.states.State.{State}
-use Rattle.stack_state.specs.Meaning.{Covers}
-use Rattle.explorer.specs.declared.stored_states.StoredState.{StoredState}
+use Rattle.explorer.proofs.Common.{◌≡◌, ◌∙◌, Some, ap, sym, arith, subst, slice_get, ltb-true, State, Covers, StoredState}
 use Rattle.explorer.proofs.StoredStatesLaws.{found_at, read_at}
 use Rattle.explorer.proofs.stored_states.StoredStates.covering.Goals as goal
 use Rattle.explorer.proofs.stored_states.StoredStates.covering.Goals.{In_ok-stored, then-stored-eq0-via-then-stored-eq0, then-stored-eq0-via-else-stored-eq0+then-not-may_cover}

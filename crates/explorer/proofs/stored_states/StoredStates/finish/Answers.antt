@@ -1,7 +1,4 @@
-use Rattle.std.proofs.Common.{◌≡◌, ◌∙◌, ℕ, List, Option, Some, ap, sym, subst, set, get_or, refl}
-use Rattle.std.proofs.lemmas.Option.{get_or_from_slice_get}
-use Rattle.explorer.specs.declared.stored_states.StoredState.{StoredState}
-use Rattle.explorer.specs.StoredStates.{GetsNumber}
+use Rattle.explorer.proofs.Common.{◌≡◌, ◌∙◌, ℕ, List, Option, Some, ap, sym, subst, set, get_or, refl, get_or_from_slice_get, StoredState, GetsNumber}
 use Rattle.explorer.proofs.stored_states.StoredStates.finish.Goals as goal
 
 -- the stored state with this index, which was read as x, has its number now

@@ -1,5 +1,4 @@
-use Rattle.std.specs.Prelude.{IfSome}
-use Rattle.explorer.specs.StoredStates.{IsCovered}
+use Rattle.explorer.proofs.Common.{IfSome, IsCovered}
 use Rattle.explorer.proofs.stored_states.StoredStates.first_known.Given as goal
 
 abbrev pub invariant-loop-scanned : goal.invariant-loop-scanned

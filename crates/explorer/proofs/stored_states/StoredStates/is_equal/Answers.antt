@@ -1,9 +1,4 @@
-use Rattle.std.proofs.Common.{◌≡◌, ◌∙◌, ℕ, Some, ap, sym, subst}
-use Rattle.std.specs.Prelude.{slice_get}
-use Rattle.std.proofs.lemmas.Bool.{ltb-true}
-use Rattle.stack_state.specs.declared.states.State.{State}
-use Rattle.stack_state.specs.Meaning.{Covers}
-use Rattle.explorer.specs.declared.stored_states.StoredState.{StoredState}
+use Rattle.explorer.proofs.Common.{◌≡◌, ◌∙◌, ℕ, Some, ap, sym, subst, slice_get, ltb-true, State, Covers, StoredState}
 use Rattle.explorer.proofs.StoredStatesLaws.{found_at, read_at}
 use Rattle.explorer.proofs.stored_states.StoredStates.is_equal.Goals as goal
 use Rattle.explorer.proofs.stored_states.StoredStates.is_equal.Goals.{In-Some}

@@ -1,6 +1,4 @@
-use Rattle.std.proofs.Common.{◌≡◌, ◌∙◌, ◌++◌, ◌∷◌, [], None, false, refl, ap, sym, arith, length, length-append}
-use Rattle.std.proofs.lemmas.List.{append-nil}
-use Rattle.explorer.specs.Trail.{Visits, visits_of}
+use Rattle.explorer.proofs.Common.{◌≡◌, ◌∙◌, ◌++◌, ◌∷◌, [], None, false, refl, ap, sym, arith, length, length-append, append-nil, Visits, visits_of}
 use Rattle.explorer.proofs.Trails.{visits_of-more, waiting_count-less, last_idle, length-visits_of}
 use Rattle.explorer.proofs.trail.Trail.pop.Goals as goal
 use Rattle.explorer.proofs.trail.Trail.pop.Goals.{After-as_usize}

@@ -1,10 +1,4 @@
-use Rattle.std.proofs.Common.{◌≡◌, ◌∙◌, ℕ, ◌+◌, List, ◌++◌, ◌∷◌, [], Bool, true, false, Option, Some, None, ap, sym, refl, length, length-append, arith, max, not, set, take}
-use Rattle.std.specs.Prelude.{is_some}
-use Rattle.std.proofs.lemmas.List.{append-nil}
-use Rattle.stack_state.specs.declared.states.State.{State}
-use Rattle.explorer.specs.declared.trail.Visit.{Visit}
-use Rattle.explorer.specs.declared.trail.KeptVisit.{KeptVisit}
-use Rattle.explorer.specs.Trail.{Visits, visits_of, waiting_count, TakesLastPending}
+use Rattle.explorer.proofs.Common.{◌≡◌, ◌∙◌, ℕ, ◌+◌, List, ◌++◌, ◌∷◌, [], Bool, true, false, Option, Some, None, ap, sym, refl, length, length-append, arith, max, not, set, take, is_some, append-nil, State, Visit, KeptVisit, Visits, visits_of, waiting_count, TakesLastPending}
 use Rattle.explorer.proofs.Trails.{visits_of-more, waiting_count-more, waiting_count-less, waiting_count-taken, is_taken, length-visits_of, last_set, last_read, last_visit}
 use Rattle.explorer.proofs.trail.Trail.take_last_pending.Goals as goal
 use Rattle.explorer.proofs.trail.Trail.take_last_pending.Goals.{After-pop}

@@ -1,7 +1,4 @@
-use Rattle.std.proofs.Common.{arith, ◌≡◌, ℕ, ◌+◌, ◌-◌, ◌≤◌, List, ◌++◌, length, take, drop, slice_range, min, Option, sym, ap, ◌∙◌, subst, length-drop}
-use Rattle.std.proofs.lemmas.List.{length-take-le}
-use Rattle.std.specs.Io.KnownBytes.{ReadConsumes, prepend_known}
-use Rattle.std.specs.Io.Buffered.{reader_remaining}
+use Rattle.frames.proofs.Common.{arith, ◌≡◌, ℕ, ◌+◌, ◌-◌, ◌≤◌, List, ◌++◌, length, take, drop, slice_range, min, Option, sym, ap, ◌∙◌, subst, length-drop, length-take-le, ReadConsumes, prepend_known, reader_remaining}
 use Rattle.frames.proofs.BuffersLaws.{none_ahead, less_ahead, Consumes-prepended}
 use Rattle.frames.proofs.buffers.AheadSource.read_some.Goals as goal
 

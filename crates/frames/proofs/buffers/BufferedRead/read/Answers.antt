@@ -1,6 +1,4 @@
-use Rattle.std.proofs.Common.{arith, take, ap, ◌∙◌, length, le_refl}
-use Rattle.std.proofs.lemmas.List.{take-take}
-use Rattle.std.specs.Io.Buffered.{reader_buffer}
+use Rattle.frames.proofs.Common.{arith, take, ap, ◌∙◌, length, le_refl, take-take, reader_buffer}
 use Rattle.frames.proofs.BuffersLaws.{reader_consumes}
 use Rattle.frames.proofs.buffers.BufferedRead.read.Goals as goal
 

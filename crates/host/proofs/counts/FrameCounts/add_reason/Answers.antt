@@ -1,7 +1,4 @@
-use Rattle.std.proofs.Common.{rules, ◌≡◌, ◌<◌, length, get_or}
-use Rattle.host.specs.Counts.{totals_of}
-use Rattle.host.specs.EndCounts.{one_more}
-use Rattle.host.specs.Places.{place_of}
+use Rattle.host.proofs.Common.{rules, ◌≡◌, ◌<◌, length, get_or, totals_of, one_more, place_of}
 use Rattle.host.proofs.Places.{no_frames, add_met, add_new, add_other}
 use Rattle.host.proofs.counts.FrameCounts.add_reason.Goals as goal
 use Rattle.host.proofs.counts.FrameCounts.add_reason.Goals.{else-place-len-via-then-place-len+else-deref-place, else-place-len-via-else-place-len}

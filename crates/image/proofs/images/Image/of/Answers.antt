@@ -1,8 +1,4 @@
-use Rattle.std.proofs.Common.{◌≡◌, List, Option, None, sym, subst, rules}
-use Rattle.isa_model.specs.declared.map_defs.MapDef.{MapDef}
-use Rattle.isa_model.specs.declared.instructions.Insn.{Insn}
-use Rattle.image.specs.Images.{IsImage}
-use Rattle.image.specs.Refusals.{parts_refusal}
+use Rattle.image.proofs.Common.{◌≡◌, List, Option, None, sym, subst, rules, MapDef, Insn, IsImage, parts_refusal}
 use Rattle.image.proofs.Whole.{parts, IsImage-parts}
 use Rattle.image.proofs.images.Image.of.Goals as goal
 

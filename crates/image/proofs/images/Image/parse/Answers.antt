@@ -1,14 +1,4 @@
-use Rattle.std.proofs.Common.{◌≡◌, ℕ, List, Option, Some, None, Result, Ok, Err, inl, inr, sym, ap, ◌∙◌, arith, rules}
-use Rattle.std.specs.Prelude.{◌⊎◌}
-use Rattle.std.proofs.lemmas.Result.{err_from_is_err_and}
-use Rattle.isa_model.specs.declared.map_defs.MapDef.{MapDef}
-use Rattle.isa_model.specs.declared.instructions.Insn.{Insn}
-use Rattle.isa_model.specs.declared.versions.Version.{Version}
-use Rattle.isa_model.specs.Code.Instructions.{Program}
-use Rattle.image.specs.declared.errors.ImageError.{ImageError}
-use Rattle.image.specs.declared.errors.ImageError.TheVariants.{Memory}
-use Rattle.image.specs.Images.{IsImage, image_bytes}
-use Rattle.image.specs.Refusals.{size_refusal, version_read, program_read, refusal_of}
+use Rattle.image.proofs.Common.{◌≡◌, ℕ, List, Option, Some, None, Result, Ok, Err, inl, inr, sym, ap, ◌∙◌, arith, rules, ◌⊎◌, err_from_is_err_and, MapDef, Insn, Version, Program, ImageError, Memory, IsImage, image_bytes, size_refusal, version_read, program_read, refusal_of}
 use Rattle.image.proofs.CodeSpelling.{Laws}
 use Rattle.image.proofs.Whole.{parts, sizes, program_read-found, refusal_of-sizes, refusal_of-program, not_both, not_err, same_program}
 use Rattle.image.proofs.ImageSpelling.{image_bytes-read}

@@ -1,13 +1,5 @@
-use Rattle.std.proofs.Common.{◌≡◌, ℕ, List, ◌++◌, subst, length, rules, Option}
-use Rattle.std.specs.Prelude.{OnOk, OnErr}
-use Rattle.std.specs.List.{flat_map}
-use Rattle.std.specs.Io.KnownBytes.{Appends}
-use Rattle.isa_model.specs.declared.map_defs.MapDef.{MapDef}
-use Rattle.isa_model.specs.declared.instructions.Insn.{Insn}
-use Rattle.isa_model.specs.Code.Instructions.{Program}
-use Rattle.exact_io.specs.Transfers.{AppendsBeginning}
+use Rattle.image.proofs.Common.{◌≡◌, ℕ, List, ◌++◌, subst, length, rules, Option, OnOk, OnErr, flat_map, Appends, MapDef, Insn, Program, AppendsBeginning, row_bytes, code_bytes}
 use Rattle.exact_io.proofs.TransferLaws.{AppendsBeginning-first, AppendsBeginning-second, both_written, second_fails}
-use Rattle.image.specs.Images.{row_bytes, code_bytes}
 use Rattle.image.proofs.ImageSpelling.{image_bytes-written}
 use Rattle.image.proofs.Writing.{on_err}
 use Rattle.image.proofs.images.Image.write.Goals as goal

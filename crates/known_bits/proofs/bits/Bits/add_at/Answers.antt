@@ -1,8 +1,4 @@
-use Rattle.std.proofs.Common.{◌+◌, ◌%◌, ◌^◌}
-use Rattle.isa_model.proofs.NumberLaws.{low_wrapped}
-use Rattle.isa_model.specs.declared.instructions.AluOp.TheVariants.{Add}
-use Rattle.isa_model.specs.Code.Sizes.{width_bits}
-use Rattle.isa_model.specs.Code.Numbers.{result_of}
+use Rattle.known_bits.proofs.Common.{◌+◌, ◌%◌, ◌^◌, low_wrapped, Add, width_bits, result_of}
 use Rattle.known_bits.proofs.Sharp.{low_set, occurs_low}
 use Rattle.known_bits.proofs.bits.Bits.add_at.Goals as goal
 

@@ -1,8 +1,4 @@
-use Rattle.std.proofs.Common.{arith, rules, ap, ◌∙◌, bit_and, bit_or, bit_xor}
-use Rattle.std.proofs.lemmas.Nat.{and_mod, or_mod, xor_mod}
-use Rattle.isa_model.specs.declared.instructions.AluOp.TheVariants.{Add, Sub, Lsh, Rsh}
-use Rattle.isa_model.specs.Code.Numbers.{alu, result_of}
-use Rattle.isa_model.proofs.NumberLaws.{alu_below}
+use Rattle.known_bits.proofs.Common.{arith, rules, ap, ◌∙◌, bit_and, bit_or, bit_xor, and_mod, or_mod, xor_mod, Add, Sub, Lsh, Rsh, alu, result_of, alu_below}
 use Rattle.known_bits.proofs.LowParts.{AreLow, lifted_sharp, moved_sharp, low_constant, lifted_product, bitwise_sharp, constant_product}
 use Rattle.known_bits.proofs.bits.Bits.alu.Goals as goal
 

@@ -1,6 +1,4 @@
-use Rattle.std.proofs.Common.{◌≡◌, ◌-◌, ◌^◌, arith}
-use Rattle.isa_model.specs.Code.Sizes.{width_bits}
-use Rattle.isa_model.proofs.NumberLaws.{width_fits, width_most}
+use Rattle.known_bits.proofs.Common.{◌≡◌, ◌-◌, ◌^◌, arith, width_bits, width_fits, width_most}
 use Rattle.known_bits.proofs.Overlaps.{low_member, member_low}
 use Rattle.known_bits.proofs.bits.Bits.any.Goals as goal
 

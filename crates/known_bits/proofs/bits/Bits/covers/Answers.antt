@@ -1,6 +1,4 @@
-use Rattle.std.proofs.Common.{arith, bit_xor, sym, ap, ◌∙◌}
-use Rattle.std.proofs.lemmas.Bool.{eqb-true, eq-eqb}
-use Rattle.known_bits.specs.declared.bits.Bits.{Bits}
+use Rattle.known_bits.proofs.Common.{arith, bit_xor, sym, ap, ◌∙◌, eqb-true, eq-eqb, Bits}
 use Rattle.known_bits.proofs.Members.{is_apart}
 use Rattle.known_bits.proofs.Logic.{without}
 use Rattle.known_bits.proofs.Order.{covers_contains, without_self, without_same, included_mask, included_value}

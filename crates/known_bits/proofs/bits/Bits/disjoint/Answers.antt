@@ -1,5 +1,4 @@
-use Rattle.std.proofs.Common.{arith, ◌∙◌}
-use Rattle.std.proofs.lemmas.Nat.{and_comm}
+use Rattle.known_bits.proofs.Common.{arith, ◌∙◌, and_comm}
 use Rattle.known_bits.proofs.Members.{is_apart}
 use Rattle.known_bits.proofs.Overlaps.{and_value_zero}
 use Rattle.known_bits.proofs.Sharp.{least_member}

@@ -1,5 +1,4 @@
-use Rattle.std.proofs.Common.{arith, ◌≡◌, ◌-◌, ◌^◌}
-use Rattle.std.proofs.lemmas.Nat.{and_mask, and_le_l}
+use Rattle.known_bits.proofs.Common.{arith, ◌≡◌, ◌-◌, ◌^◌, and_mask, and_le_l}
 use Rattle.known_bits.proofs.Members.{is_apart}
 use Rattle.known_bits.proofs.Parts.{low_apart, low_contains}
 use Rattle.known_bits.proofs.Order.{low_fits}

@@ -1,6 +1,4 @@
-use Rattle.std.proofs.Common.{arith, ◌*◌, ◌+◌}
-use Rattle.isa_model.specs.Code.Sizes.{width_bits}
-use Rattle.isa_model.proofs.NumberLaws.{low_wrapped}
+use Rattle.known_bits.proofs.Common.{arith, ◌*◌, ◌+◌, width_bits, low_wrapped}
 use Rattle.known_bits.proofs.Members.{is_apart}
 use Rattle.known_bits.proofs.Sharp.{most_member}
 use Rattle.known_bits.proofs.ProductZeros.{low-multiple, low-limit}

@@ -1,5 +1,4 @@
-use Rattle.std.proofs.Common.{arith, bit_or}
-use Rattle.std.proofs.lemmas.Nat.{and_le_l, or_lt}
+use Rattle.known_bits.proofs.Common.{arith, bit_or, and_le_l, or_lt}
 use Rattle.known_bits.proofs.Members.{is_apart}
 use Rattle.known_bits.proofs.Product.{or_zero_contains}
 use Rattle.known_bits.proofs.bits.Bits.or_zero.Goals as goal

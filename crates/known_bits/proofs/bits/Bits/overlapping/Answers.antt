@@ -1,9 +1,4 @@
-use Rattle.std.proofs.Common.{◌≡◌, ◌≢◌, ℕ, ◌*◌, ◌%◌, ◌^◌, ◌<◌, arith, w64, sym, ap, ◌∙◌, bit_and, bit_or}
-use Rattle.std.specs.Int.{bit_at, trailing_zeros}
-use Rattle.std.proofs.lemmas.Nat.{and_le_l, and_le_r, or_lt, one_shl}
-use Rattle.std.proofs.lemmas.Nat.Bits.{bit_at-trailing_zeros}
-use Rattle.known_bits.specs.declared.bits.Bits.{Bits}
-use Rattle.known_bits.specs.Member.{IsMember}
+use Rattle.known_bits.proofs.Common.{◌≡◌, ◌≢◌, ℕ, ◌*◌, ◌%◌, ◌^◌, ◌<◌, arith, w64, sym, ap, ◌∙◌, bit_and, bit_or, bit_at, trailing_zeros, and_le_l, and_le_r, or_lt, one_shl, bit_at-trailing_zeros, Bits, IsMember}
 use Rattle.known_bits.proofs.Members.{Apart, is_apart}
 use Rattle.known_bits.proofs.Overlaps.{and_shared, shared_bit, same_position, one_position}
 use Rattle.known_bits.proofs.Sharp.{most_member}

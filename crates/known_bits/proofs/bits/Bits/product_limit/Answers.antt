@@ -1,6 +1,4 @@
-use Rattle.std.proofs.Common.{arith, ◌*◌, ◌^◌, ◌<◌}
-use Rattle.std.proofs.lemmas.Nat.{mul-le}
-use Rattle.std.proofs.Math.Nat.{mod-eq_of_lt}
+use Rattle.known_bits.proofs.Common.{arith, ◌*◌, ◌^◌, ◌<◌, mul-le, mod-eq_of_lt}
 use Rattle.known_bits.proofs.ProductZeros.{member-below}
 use Rattle.known_bits.proofs.bits.Bits.product_limit.Goals as goal
 

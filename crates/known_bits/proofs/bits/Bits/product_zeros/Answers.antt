@@ -1,6 +1,4 @@
-use Rattle.std.proofs.Common.{arith, ℕ, sym, ap, ◌∙◌, ◌≡◌, ◌+◌, ◌-◌, ◌*◌, ◌%◌, ◌^◌, w64, bit_and}
-use Rattle.std.specs.Int.{trailing_zeros}
-use Rattle.std.proofs.lemmas.Nat.{and_mask}
+use Rattle.known_bits.proofs.Common.{arith, ℕ, sym, ap, ◌∙◌, ◌≡◌, ◌+◌, ◌-◌, ◌*◌, ◌%◌, ◌^◌, w64, bit_and, trailing_zeros, and_mask}
 use Rattle.known_bits.proofs.Members.{is_apart}
 use Rattle.known_bits.proofs.ProductZeros.{mod-pow_smaller, mod-mod_pow, mod-pow-mul, mod-trailing_zeros, trailing_zeros-multiple, member-multiple}
 use Rattle.known_bits.proofs.bits.Bits.product_zeros.Goals as goal

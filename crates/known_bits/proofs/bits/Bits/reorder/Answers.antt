@@ -1,5 +1,4 @@
-use Rattle.std.proofs.Common.{arith, ap, ◌∙◌}
-use Rattle.isa_model.specs.Code.Numbers.{reordered}
+use Rattle.known_bits.proofs.Common.{arith, ap, ◌∙◌, reordered}
 use Rattle.known_bits.proofs.Members.{is_apart}
 use Rattle.known_bits.proofs.Copies.{copied_known, copied_contains, copied_fits, copied_sharp}
 use Rattle.known_bits.proofs.Reversed.{reorder_copies, reordered_zero}

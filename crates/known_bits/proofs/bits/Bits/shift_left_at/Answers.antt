@@ -1,13 +1,8 @@
-use Rattle.std.proofs.Common.{arith, ◌≡◌, ◌*◌, ◌^◌, ap, sym, ◌∙◌, ℕ, ◌%◌}
-use Rattle.isa_model.specs.Code.Numbers.{shift, result_of}
-use Rattle.isa_model.proofs.NumberLaws.{low_wrapped, low_below}
+use Rattle.known_bits.proofs.Common.{arith, ◌≡◌, ◌*◌, ◌^◌, ap, sym, ◌∙◌, ℕ, ◌%◌, shift, result_of, low_wrapped, low_below, Lsh, width_bits, IsMember}
 use Rattle.known_bits.proofs.Constants.{only_member}
-use Rattle.isa_model.specs.declared.instructions.AluOp.TheVariants.{Lsh}
-use Rattle.isa_model.specs.Code.Sizes.{width_bits}
 use Rattle.known_bits.proofs.Members.{is_apart}
 use Rattle.known_bits.proofs.Sharp.{low_set, occurs_low}
 use Rattle.known_bits.proofs.Precise.{left_sharp}
-use Rattle.known_bits.specs.Member.{IsMember}
 use Rattle.known_bits.proofs.bits.Bits.shift_left_at.Goals as goal
 
 pub returns-then-other-ne0-clause-contains : goal.returns-then-other-ne0-clause-contains

@@ -1,14 +1,9 @@
-use Rattle.std.proofs.Common.{◌/◌, ◌≡◌, ◌^◌, ap, sym, ◌∙◌, arith, ℕ, ◌%◌}
-use Rattle.std.proofs.Math.Nat.{div-le_self}
-use Rattle.isa_model.specs.Code.Numbers.{shift, result_of}
+use Rattle.known_bits.proofs.Common.{◌/◌, ◌≡◌, ◌^◌, ap, sym, ◌∙◌, arith, ℕ, ◌%◌, div-le_self, shift, result_of, Rsh, width_bits, IsMember}
 use Rattle.isa_model.specs.Code.NumberLaws.{low_same}
 use Rattle.known_bits.proofs.Constants.{only_member}
-use Rattle.isa_model.specs.declared.instructions.AluOp.TheVariants.{Rsh}
-use Rattle.isa_model.specs.Code.Sizes.{width_bits}
 use Rattle.known_bits.proofs.Members.{is_apart}
 use Rattle.known_bits.proofs.Sharp.{low_set, occurs_low}
 use Rattle.known_bits.proofs.Precise.{right_sharp}
-use Rattle.known_bits.specs.Member.{IsMember}
 use Rattle.known_bits.proofs.bits.Bits.shift_right_at.Goals as goal
 
 pub returns-then-other-ne0-clause-contains : goal.returns-then-other-ne0-clause-contains

@@ -1,8 +1,4 @@
-use Rattle.std.proofs.Common.{arith, ◌≡◌, ℕ, ap, sym}
-use Rattle.isa_model.specs.declared.instructions.AluOp.TheVariants.{Arsh}
-use Rattle.isa_model.specs.Code.Numbers.{alu}
-use Rattle.isa_model.proofs.NumberLaws.{alu_below}
-use Rattle.known_bits.specs.Member.{IsMember}
+use Rattle.known_bits.proofs.Common.{arith, ◌≡◌, ℕ, ap, sym, Arsh, alu, alu_below, IsMember}
 use Rattle.known_bits.proofs.Members.{is_apart}
 use Rattle.known_bits.proofs.Constants.{only_member}
 use Rattle.known_bits.proofs.Copies.{shift_copies, copied_known, copied_contains, copied_fits, copied_sharp, occurs_same}

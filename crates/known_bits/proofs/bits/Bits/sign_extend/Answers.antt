@@ -1,5 +1,4 @@
-use Rattle.std.proofs.Common.{arith, ap, ◌∙◌}
-use Rattle.isa_model.specs.Code.Numbers.{sign_extended}
+use Rattle.known_bits.proofs.Common.{arith, ap, ◌∙◌, sign_extended}
 use Rattle.known_bits.proofs.Members.{is_apart}
 use Rattle.known_bits.proofs.Copies.{extension_copies, copied_known, copied_contains, copied_fits, copied_sharp, extended_zero}
 use Rattle.known_bits.proofs.bits.Bits.sign_extend.Goals as goal

@@ -1,6 +1,4 @@
-use Rattle.std.proofs.Common.{arith, w64}
-use Rattle.std.specs.Int.{cast_unsigned}
-use Rattle.std.proofs.lemmas.Int.{ints}
+use Rattle.known_bits.proofs.Common.{arith, w64, cast_unsigned, ints}
 use Rattle.known_bits.proofs.bits.Bits.signed_at_most.Goals as goal
 
 pub returns-then-signed_least-signed_greatest-clause-found : goal.returns-then-signed_least-signed_greatest-clause-found

@@ -1,6 +1,4 @@
-use Rattle.std.proofs.Common.{◌-◌, ◌^◌, arith, w64, bit_or}
-use Rattle.std.proofs.lemmas.Int.{of_z-to_z}
-use Rattle.std.proofs.lemmas.Nat.{le_or_r, or_lt}
+use Rattle.known_bits.proofs.Common.{◌-◌, ◌^◌, arith, w64, bit_or, of_z-to_z, le_or_r, or_lt}
 use Rattle.known_bits.proofs.Members.{is_apart}
 use Rattle.known_bits.proofs.Sharp.{most_member}
 use Rattle.known_bits.proofs.Signs.{other_sign, signed_greatest_unknown, signed_greatest_known}

@@ -1,5 +1,4 @@
-use Rattle.std.proofs.Common.{◌+◌, ◌^◌, arith, w64}
-use Rattle.std.proofs.lemmas.Int.{of_z-to_z}
+use Rattle.known_bits.proofs.Common.{◌+◌, ◌^◌, arith, w64, of_z-to_z}
 use Rattle.known_bits.proofs.Members.{is_apart}
 use Rattle.known_bits.proofs.Sharp.{least_member}
 use Rattle.known_bits.proofs.Signs.{sign_unknown, other_sign, signed_least_unknown, signed_least_known}

@@ -1,5 +1,4 @@
-use Rattle.std.proofs.Common.{ℕ, ◌*◌, ◌%◌, ◌^◌}
-use Rattle.known_bits.specs.Bits.{Has}
+use Rattle.known_bits.proofs.Common.{ℕ, ◌*◌, ◌%◌, ◌^◌, Has}
 use Rattle.known_bits.proofs.bits.Bits.sum_of_terms.Given as goal
 
 -- the sum so far is the product of the low bits

@@ -1,7 +1,4 @@
-use Rattle.std.proofs.Common.{arith, ◌≡◌, ◌^◌, sym, ◌∙◌, inl, inr}
-use Rattle.std.specs.Int.{bit_at}
-use Rattle.std.proofs.lemmas.Nat.Bits.{shr_and_one, bit_at-lt}
-use Rattle.std.proofs.lemmas.Bool.{cases_lt}
+use Rattle.known_bits.proofs.Common.{arith, ◌≡◌, ◌^◌, sym, ◌∙◌, inl, inr, bit_at, shr_and_one, bit_at-lt, cases_lt}
 use Rattle.known_bits.proofs.Members.{is_apart, bits_between}
 use Rattle.known_bits.proofs.Product.{term_one, term_zero}
 use Rattle.known_bits.proofs.bits.Bits.term.Goals as goal

@@ -1,8 +1,4 @@
-use Rattle.std.proofs.Common.{◌≢◌, ◌+◌, inl, inr, arith, bit_or}
-use Rattle.std.proofs.lemmas.Nat.{or_disjoint}
-use Rattle.std.proofs.lemmas.Bool.{cases_lt}
-use Rattle.known_bits.specs.declared.bits.Bits.{Bits}
-use Rattle.known_bits.specs.Bits.{SomePair}
+use Rattle.known_bits.proofs.Common.{◌≢◌, ◌+◌, inl, inr, arith, bit_or, or_disjoint, cases_lt, Bits, SomePair}
 use Rattle.known_bits.proofs.Members.{is_apart, Apart}
 use Rattle.known_bits.proofs.Sharp.{least_member, most_member}
 use Rattle.known_bits.proofs.bits.Bits.unequal.Goals.{else-self-eq0-via-then-self-eq0+then-other-eq0+else-self-other, else-self-eq0-via-then-self-eq0+else-other-eq0, else-self-eq0-via-else-self-eq0}

@@ -1,5 +1,4 @@
-use Rattle.std.proofs.Common.{◌∷◌, rules, sym, subst}
-use Rattle.walks.specs.Explained.{ComesThrough}
+use Rattle.listeners.proofs.Common.{◌∷◌, rules, sym, subst, ComesThrough}
 use Rattle.listeners.proofs.Following.{count_of, came_through}
 use Rattle.listeners.proofs.Turning.{earlier_found, turn_before}
 use Rattle.listeners.proofs.explaining.Follower.explanation.Goals as goal

@@ -1,8 +1,5 @@
-use Rattle.std.proofs.Common.{◌≡◌, ◌∙◌, ◌-◌, ◌<◌, ◌≤◌, ◌∷◌, Some, length, arith, sym, ap, subst}
-use Rattle.std.specs.Prelude.{slice_get}
+use Rattle.listeners.proofs.Common.{◌≡◌, ◌∙◌, ◌-◌, ◌<◌, ◌≤◌, ◌∷◌, Some, length, arith, sym, ap, subst, slice_get, IsLed, HasFollowed}
 use Rattle.std.proofs.lemmas.Option.{slice_get-get_or}
-use Rattle.walks.specs.Explained.{IsLed}
-use Rattle.listeners.specs.Followed.{HasFollowed}
 use Rattle.listeners.proofs.Following.{slots_some, LedAt-first, LedAt-next, LedAt-last}
 use Rattle.listeners.proofs.explaining.Follower.way.Goals as goal
 

@@ -1,7 +1,4 @@
-use Rattle.std.proofs.Common.{List}
-use Rattle.stack_state.specs.declared.states.State.{State}
-use Rattle.walks.specs.Forgetting.{Precision}
-use Rattle.listeners.specs.Followed.{HasFollowed}
+use Rattle.listeners.proofs.Common.{List, State, Precision, HasFollowed}
 use Rattle.listeners.proofs.Following.{LedAt}
 use Rattle.listeners.proofs.explaining.Follower.way.Given as goal
 

@@ -1,11 +1,4 @@
-use Rattle.std.proofs.Common.{◌≡◌, ◌+◌, ◌-◌, ◌<◌, ◌≤◌, ℕ, List, [], Bool, Some, length, refl, sym, ap, subst, ◌∙◌, arith}
-use Rattle.std.specs.Prelude.{if◌then◌else◌, slice_index_or, slice_set, vec_len}
-use Rattle.std.specs.List.{insert}
-use Rattle.std.specs.declared.alloc.Global.{Global}
-use Rattle.std.specs.declared.vec.Vec.{Vec}
-use Rattle.std.proofs.lemmas.List.{get_or_append_left, length-append, length-set, nil_from_length, with_items_is}
-use Rattle.std.proofs.lemmas.List.Edits.{length-insert}
-use Rattle.live_maps.specs.Ranks.{IsChunk, all_places}
+use Rattle.live_maps.proofs.Common.{◌≡◌, ◌+◌, ◌-◌, ◌<◌, ◌≤◌, ℕ, List, [], Bool, Some, length, refl, sym, ap, subst, ◌∙◌, arith, if◌then◌else◌, slice_index_or, slice_set, vec_len, insert, Global, Vec, get_or_append_left, length-append, length-set, nil_from_length, with_items_is, length-insert, IsChunk, all_places}
 use Rattle.live_maps.proofs.ChunkLaws.{AreChunks-by, all_places-push, chunk-few, chunk_read, halved_in, insert_holds, popped, set_holds}
 use Rattle.live_maps.proofs.chunks.Chunks.halve.Goals as goal
 use Rattle.live_maps.proofs.chunks.Chunks.halve.Goals.{After-index_mut, After-insert-put}

@@ -1,9 +1,4 @@
-use Rattle.std.proofs.Common.{◌≡◌, ◌+◌, ◌-◌, ◌<◌, ◌≤◌, ℕ, List, Bool, length, refl, ap, ◌∙◌, arith}
-use Rattle.std.specs.Prelude.{if◌then◌else◌, slice_index_or, slice_set}
-use Rattle.std.specs.List.{insert}
-use Rattle.std.proofs.lemmas.List.{with_items_is}
-use Rattle.std.proofs.lemmas.List.Edits.{length-insert}
-use Rattle.live_maps.specs.Ranks.{IsChunk, all_places}
+use Rattle.live_maps.proofs.Common.{◌≡◌, ◌+◌, ◌-◌, ◌<◌, ◌≤◌, ℕ, List, Bool, length, refl, ap, ◌∙◌, arith, if◌then◌else◌, slice_index_or, slice_set, insert, with_items_is, length-insert, IsChunk, all_places}
 use Rattle.live_maps.proofs.ChunkLaws.{AreChunks-set, begin-set, chunk-few, chunk_read, list_read, put_in, spot_in}
 use Rattle.live_maps.proofs.chunks.Chunks.insert.Goals as goal
 use Rattle.live_maps.proofs.chunks.Chunks.insert.Goals.{After-index_mut, After-insert-put}

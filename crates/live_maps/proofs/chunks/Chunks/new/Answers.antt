@@ -1,9 +1,4 @@
-use Rattle.std.proofs.Common.{ℕ, List, length, sym, ap, subst, ◌∙◌, arith}
-use Rattle.std.specs.Prelude.{slice_index_or}
-use Rattle.std.specs.declared.alloc.Global.{Global}
-use Rattle.std.specs.declared.vec.Vec.{Vec}
-use Rattle.std.proofs.lemmas.List.{get_or-replicate}
-use Rattle.live_maps.specs.Ranks.{IsChunk, all_places, lists_of}
+use Rattle.live_maps.proofs.Common.{ℕ, List, length, sym, ap, subst, ◌∙◌, arith, slice_index_or, Global, Vec, get_or-replicate, IsChunk, all_places, lists_of}
 use Rattle.live_maps.proofs.ChunkLaws.{all_places-push, push_holds}
 use Rattle.live_maps.proofs.RanksLaws.{count-most}
 use Rattle.live_maps.proofs.chunks.Chunks.new.Goals as goal

@@ -1,6 +1,4 @@
-use Rattle.std.proofs.Common.{◌≡◌, ◌<◌, [], ℕ}
-use Rattle.std.specs.Prelude.{slice_index_or, vec_len, vec_capacity}
-use Rattle.live_maps.specs.Ranks.{IsChunk, all_places}
+use Rattle.live_maps.proofs.Common.{◌≡◌, ◌<◌, [], ℕ, slice_index_or, vec_len, vec_capacity, IsChunk, all_places}
 use Rattle.live_maps.proofs.chunks.Chunks.new.Given as goal
 
 abbrev pub invariant-loop-c : goal.invariant-loop-c

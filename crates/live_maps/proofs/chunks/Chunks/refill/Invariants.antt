@@ -1,5 +1,4 @@
-use Rattle.std.proofs.Common.{◌≡◌, take}
-use Rattle.std.specs.Prelude.{vec_capacity, vec_len}
+use Rattle.std.proofs.Common.{◌≡◌, take, vec_capacity, vec_len}
 use Rattle.live_maps.proofs.chunks.Chunks.refill.Given as goal
 
 abbrev pub invariant-loop-place : goal.invariant-loop-place

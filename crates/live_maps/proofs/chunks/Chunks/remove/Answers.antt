@@ -1,9 +1,4 @@
-use Rattle.std.proofs.Common.{◌≡◌, ◌+◌, ◌-◌, ℕ, List, length, refl, ap, ◌∙◌, arith}
-use Rattle.std.specs.Prelude.{slice_index_or, slice_set}
-use Rattle.std.specs.List.{remove}
-use Rattle.std.proofs.lemmas.List.{with_items_is}
-use Rattle.std.proofs.lemmas.List.Edits.{length-remove}
-use Rattle.live_maps.specs.Ranks.{IsChunk, all_places}
+use Rattle.live_maps.proofs.Common.{◌≡◌, ◌+◌, ◌-◌, ℕ, List, length, refl, ap, ◌∙◌, arith, slice_index_or, slice_set, remove, with_items_is, length-remove, IsChunk, all_places}
 use Rattle.live_maps.proofs.ChunkLaws.{AreChunks-set, begin-set, chunk_read, in_chunk, taken_out}
 use Rattle.live_maps.proofs.chunks.Chunks.remove.Goals as goal
 use Rattle.live_maps.proofs.chunks.Chunks.remove.Goals.{After-remove-place}

@@ -1,7 +1,4 @@
-use Rattle.std.proofs.Common.{◌+◌, ◌<◌, ◌++◌, ℕ, List, Bool, take, length, sym, ap, ◌∙◌, arith}
-use Rattle.std.specs.Prelude.{if◌then◌else◌, slice_index_or}
-use Rattle.std.specs.List.{concat}
-use Rattle.live_maps.specs.Ranks.{lists_of}
+use Rattle.live_maps.proofs.Common.{◌+◌, ◌<◌, ◌++◌, ℕ, List, Bool, take, length, sym, ap, ◌∙◌, arith, if◌then◌else◌, slice_index_or, concat, lists_of}
 use Rattle.live_maps.proofs.ChunkLaws.{count-more, length-lists, list_read}
 use Rattle.live_maps.proofs.RanksLaws.{count-most, one_more}
 use Rattle.live_maps.proofs.chunks.Chunks.respread.Goals as goal

@@ -1,7 +1,4 @@
-use Rattle.std.proofs.Common.{◌≡◌, ◌≤◌, take}
-use Rattle.std.specs.Prelude.{vec_capacity}
-use Rattle.std.specs.List.{concat}
-use Rattle.live_maps.specs.Ranks.{lists_of}
+use Rattle.live_maps.proofs.Common.{◌≡◌, ◌≤◌, take, vec_capacity, concat, lists_of}
 use Rattle.live_maps.proofs.chunks.Chunks.respread.Given as goal
 
 abbrev pub invariant-loop-c : goal.invariant-loop-c

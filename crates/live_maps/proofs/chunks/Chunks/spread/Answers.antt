@@ -1,9 +1,4 @@
-use Rattle.std.proofs.Common.{◌≡◌, ◌+◌, ◌-◌, ◌*◌, ◌<◌, ℕ, List, take, drop, length, sym, ap, subst, ◌∙◌, arith}
-use Rattle.std.specs.Prelude.{min}
-use Rattle.std.specs.declared.alloc.Global.{Global}
-use Rattle.std.specs.declared.vec.Vec.{Vec}
-use Rattle.std.proofs.lemmas.List.{length-set, length-take}
-use Rattle.live_maps.specs.Ranks.{IsChunk}
+use Rattle.live_maps.proofs.Common.{◌≡◌, ◌+◌, ◌-◌, ◌*◌, ◌<◌, ℕ, List, take, drop, length, sym, ap, subst, ◌∙◌, arith, min, Global, Vec, length-set, length-take, IsChunk}
 use Rattle.live_maps.proofs.ChunkLaws.{filled_next, set_holds, short_next}
 use Rattle.live_maps.proofs.chunks.Chunks.spread.Goals as goal
 

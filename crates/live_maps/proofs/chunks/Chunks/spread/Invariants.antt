@@ -1,7 +1,4 @@
-use Rattle.std.proofs.Common.{◌≡◌, ◌*◌, ◌<◌, ◌≤◌, ℕ, take, length}
-use Rattle.std.specs.Prelude.{slice_index_or}
-use Rattle.std.specs.List.{concat}
-use Rattle.live_maps.specs.Ranks.{IsChunk, lists_of}
+use Rattle.live_maps.proofs.Common.{◌≡◌, ◌*◌, ◌<◌, ◌≤◌, ℕ, take, length, slice_index_or, concat, IsChunk, lists_of}
 use Rattle.live_maps.proofs.RanksLaws.{list_in}
 use Rattle.live_maps.proofs.chunks.Chunks.spread.Given as goal
 

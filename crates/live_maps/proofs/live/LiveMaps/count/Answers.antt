@@ -1,11 +1,6 @@
-use Rattle.std.proofs.Common.{List, length, map, sym, ap, subst, ◌∙◌}
-use Rattle.std.proofs.lemmas.List.{length-map}
-use Rattle.isa_model.specs.Machine.States.{KeyValues, key_values_of}
+use Rattle.live_maps.proofs.Common.{List, length, map, sym, ap, subst, ◌∙◌, length-map, KeyValues, key_values_of, rows_of, serials_in, Live}
 use Rattle.isa_model.specs.Machine.MachineStates.{FitRows}
 use Rattle.maps.proofs.MapLaws.{FitRows-IsMap}
-use Rattle.maps.specs.Maps.{rows_of}
-use Rattle.live_maps.specs.PlaceOrders.{serials_in}
-use Rattle.live_maps.specs.Live.{Live}
 use Rattle.live_maps.proofs.ContentLaws.{key_values_of-live_contents}
 use Rattle.live_maps.proofs.live.LiveMaps.count.Goals as goal
 

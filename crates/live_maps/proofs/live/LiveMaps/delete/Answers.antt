@@ -1,8 +1,4 @@
-use Rattle.std.proofs.Common.{◌≡◌, ◌<◌, ◌∙◌, sym, ap, subst, ℕ, length, Option, None}
-use Rattle.std.specs.Prelude.{vec_capacity, ◌==◌, if◌then◌else◌}
-use Rattle.std.specs.FinMap.{get}
-use Rattle.maps.specs.Maps.{map_at}
-use Rattle.live_maps.specs.PlaceOrders.{AreLiveMaps, serials_in}
+use Rattle.live_maps.proofs.Common.{◌≡◌, ◌<◌, ◌∙◌, sym, ap, subst, ℕ, length, Option, None, vec_capacity, ◌==◌, if◌then◌else◌, get, map_at, AreLiveMaps, serials_in}
 use Rattle.live_maps.proofs.OneChanged.{OneChanged, row_known, changed-inside, changed-kept}
 use Rattle.live_maps.proofs.Settling.{HasKeySize, deleted-answer, deleted-settled, taken-inside}
 use Rattle.live_maps.proofs.live.LiveMaps.delete.Goals as goal

@@ -1,7 +1,4 @@
-use Rattle.std.proofs.Common.{map, sym, ap, ◌∙◌}
-use Rattle.isa_model.specs.Machine.States.{key_values_of}
-use Rattle.live_maps.specs.PlaceOrders.{serials_in}
-use Rattle.live_maps.specs.Live.{Live}
+use Rattle.live_maps.proofs.Common.{map, sym, ap, ◌∙◌, key_values_of, serials_in, Live}
 use Rattle.live_maps.proofs.ContentLaws.{key_values_of-live_contents}
 use Rattle.live_maps.proofs.live.LiveMaps.into_maps.Goals as goal
 

@@ -1,9 +1,4 @@
-use Rattle.std.proofs.Common.{◌≡◌, ◌∙◌, None, sym, ap, length, arith, rules}
-use Rattle.std.specs.Option.{option_map}
-use Rattle.isa_model.specs.declared.map_defs.MapDef.{MapDef}
-use Rattle.isa_model.specs.Machine.MapContents.{at_key}
-use Rattle.live_maps.specs.PlaceOrders.{serials_in}
-use Rattle.live_maps.specs.Live.{Live, content_at}
+use Rattle.live_maps.proofs.Common.{◌≡◌, ◌∙◌, None, sym, ap, length, arith, rules, option_map, MapDef, at_key, serials_in, Live, content_at}
 use Rattle.live_maps.proofs.LookUpLaws.{lookup-absent, lookup-present}
 use Rattle.live_maps.proofs.OneChanged.{row_known}
 use Rattle.live_maps.proofs.live.LiveMaps.lookup.Goals as goal

@@ -1,6 +1,4 @@
-use Rattle.std.proofs.Common.{ℕ, sym, subst, ◌∙◌, arith}
-use Rattle.live_maps.specs.PlaceOrders.{serials_in}
-use Rattle.live_maps.specs.Live.{AreLive}
+use Rattle.live_maps.proofs.Common.{ℕ, sym, subst, ◌∙◌, arith, serials_in, AreLive}
 use Rattle.live_maps.proofs.ContentLaws.{key_values_of-live_contents}
 use Rattle.live_maps.proofs.NumberingLaws.{AreLive-numbered}
 use Rattle.live_maps.proofs.live.LiveMaps.new.Goals as goal

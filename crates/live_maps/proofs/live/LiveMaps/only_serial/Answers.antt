@@ -1,10 +1,6 @@
-use Rattle.std.proofs.Common.{◌≡◌, ◌∙◌, sym, ap, subst, ℕ, Option, unwrap_or, arith}
-use Rattle.std.specs.Prelude.{IsSomeAnd, slice_get}
-use Rattle.isa_model.specs.declared.map_defs.MapDef.{MapDef}
-use Rattle.isa_model.specs.declared.map_defs.MapType.TheVariants.{Array}
+use Rattle.std.proofs.Common.{◌≡◌, ◌∙◌, sym, ap, subst, ℕ, Option, unwrap_or, arith, IsSomeAnd, slice_get}
+use Rattle.live_maps.proofs.Common.{MapDef, Array, serials_in, Live, content_at}
 use Rattle.isa_model.specs.Machine.Steps.{one_serial}
-use Rattle.live_maps.specs.PlaceOrders.{serials_in}
-use Rattle.live_maps.specs.Live.{Live, content_at}
 use Rattle.live_maps.proofs.ContentLaws.{rows_of-known}
 use Rattle.live_maps.proofs.LookUpLaws.{only-present}
 use Rattle.live_maps.proofs.live.LiveMaps.only_serial.Goals as goal

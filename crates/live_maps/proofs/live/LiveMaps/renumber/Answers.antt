@@ -1,9 +1,5 @@
-use Rattle.std.proofs.Common.{◌≡◌, ◌∙◌, ℕ, List, map, sym, ap, subst}
-use Rattle.isa_model.specs.Machine.States.{KeyValues, key_values_of}
+use Rattle.live_maps.proofs.Common.{◌≡◌, ◌∙◌, ℕ, List, map, sym, ap, subst, KeyValues, key_values_of, rows_of, contents_of, serials_in, Live, AreLive}
 use Rattle.isa_model.specs.Running.Runs.{numbered_maps, count_map_values}
-use Rattle.maps.specs.Maps.{rows_of, contents_of}
-use Rattle.live_maps.specs.PlaceOrders.{serials_in}
-use Rattle.live_maps.specs.Live.{Live, AreLive}
 use Rattle.live_maps.proofs.ContentLaws.{live_of, key_values_of-live_contents}
 use Rattle.live_maps.proofs.NumberingLaws.{AreLive-numbered, numbered-all}
 use Rattle.live_maps.proofs.live.LiveMaps.renumber.Goals as goal

@@ -1,5 +1,4 @@
-use Rattle.std.proofs.Common.{◌+◌, arith}
-use Rattle.live_maps.specs.PlaceOrders.{serials_in}
+use Rattle.live_maps.proofs.Common.{◌+◌, arith, serials_in}
 use Rattle.live_maps.proofs.LiveLaws.{AreLive-more}
 use Rattle.live_maps.proofs.live.LiveMaps.take_serial.Goals as goal
 

@@ -1,10 +1,4 @@
-use Rattle.std.proofs.Common.{◌≡◌, ◌<◌, ◌^◌, ◌∙◌, ℕ, length, Option, sym, ap, subst, arith}
-use Rattle.std.specs.Prelude.{vec_capacity}
-use Rattle.std.specs.FinMap.{get}
-use Rattle.isa_model.specs.declared.map_defs.MapDef.{MapDef}
-use Rattle.maps.specs.Maps.{map_at}
-use Rattle.live_maps.specs.Live.{Live, place_if_new}
-use Rattle.live_maps.specs.PlaceOrders.{AreLiveMaps, serials_in}
+use Rattle.live_maps.proofs.Common.{◌≡◌, ◌<◌, ◌^◌, ◌∙◌, ℕ, length, Option, sym, ap, subst, arith, vec_capacity, get, MapDef, map_at, Live, place_if_new, AreLiveMaps, serials_in}
 use Rattle.live_maps.proofs.OneChanged.{OneChanged, row_known, changed-inside, changed-count, changed-kept, changed-row}
 use Rattle.live_maps.proofs.Settling.{HaveSizes, given-inside, updated-answer, updated-settled}
 use Rattle.live_maps.proofs.live.LiveMaps.update.Goals as goal

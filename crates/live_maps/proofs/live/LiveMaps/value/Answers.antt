@@ -1,6 +1,4 @@
-use Rattle.std.proofs.Common.{◌∙◌, sym, ap, Some, arith}
-use Rattle.live_maps.specs.PlaceOrders.{serials_in}
-use Rattle.live_maps.specs.Live.{Live, content_at, value_bytes}
+use Rattle.live_maps.proofs.Common.{◌∙◌, sym, ap, Some, arith, serials_in, Live, content_at, value_bytes}
 use Rattle.live_maps.proofs.LookUpLaws.{serials-once, serial_place-none, serial_place-inside, serial_place-some}
 use Rattle.live_maps.proofs.live.LiveMaps.value.Goals as goal
 

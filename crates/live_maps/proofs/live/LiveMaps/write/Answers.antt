@@ -1,8 +1,4 @@
-use Rattle.std.proofs.Common.{◌≡◌, ◌+◌, ◌≤◌, ◌∙◌, sym, ap, subst, length, List, ℕ, Option, arith}
-use Rattle.std.specs.Prelude.{IsSomeAnd, vec_capacity}
-use Rattle.maps.specs.Maps.{IsMap, map_at}
-use Rattle.live_maps.specs.PlaceOrders.{serials_in}
-use Rattle.live_maps.specs.Live.{Live, AreLive, content_at, serials_at, value_bytes, with_value}
+use Rattle.live_maps.proofs.Common.{◌≡◌, ◌+◌, ◌≤◌, ◌∙◌, sym, ap, subst, length, List, ℕ, Option, arith, IsSomeAnd, vec_capacity, IsMap, map_at, serials_in, Live, AreLive, content_at, serials_at, value_bytes, with_value}
 use Rattle.live_maps.proofs.ContentLaws.{live_of, length-changed_maps}
 use Rattle.live_maps.proofs.LiveLaws.{live-written}
 use Rattle.live_maps.proofs.LookUpLaws.{serials-once, serial_place-none, position-serial}

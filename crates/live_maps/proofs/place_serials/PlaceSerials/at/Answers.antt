@@ -1,9 +1,4 @@
-use Rattle.std.proofs.Common.{◌≡◌, ℕ, List, Some, None, refl, sym, ap, subst, ◌∙◌, arith}
-use Rattle.std.proofs.lemmas.Option.{slice_get_within}
-use Rattle.live_maps.specs.declared.place_serials.Since.{Since}
-use Rattle.live_maps.specs.declared.place_serials.Since.TheVariants.{Same, Gone, Given, New}
-use Rattle.live_maps.specs.PlaceOrders.{PlaceOrder, since_in, start_serial}
-use Rattle.live_maps.specs.Numbering.{AreDistinct}
+use Rattle.live_maps.proofs.Common.{◌≡◌, ℕ, List, Some, None, refl, sym, ap, subst, ◌∙◌, arith, slice_get_within, Since, Same, Gone, Given, New, PlaceOrder, since_in, start_serial, AreDistinct}
 use Rattle.live_maps.proofs.PlaceOrderLaws.{serial_seen, start-at, start-out}
 use Rattle.live_maps.proofs.place_serials.PlaceSerials.at.Goals as goal
 

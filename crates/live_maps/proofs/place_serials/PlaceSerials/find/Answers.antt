@@ -1,7 +1,4 @@
-use Rattle.std.proofs.Common.{◌∙◌, List, sym, ap}
-use Rattle.std.specs.List.{position}
-use Rattle.live_maps.specs.declared.place_serials.Since.{Since}
-use Rattle.live_maps.specs.PlaceOrders.{PlaceOrder, is_given, serials_of}
+use Rattle.live_maps.proofs.Common.{◌∙◌, List, sym, ap, position, Since, PlaceOrder, is_given, serials_of}
 use Rattle.live_maps.proofs.PlaceOrderLaws.{position-later}
 use Rattle.live_maps.proofs.LookUpLaws.{position-once}
 use Rattle.live_maps.proofs.place_serials.PlaceSerials.find.Goals as goal

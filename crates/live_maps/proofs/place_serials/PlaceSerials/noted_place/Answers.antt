@@ -1,7 +1,4 @@
-use Rattle.std.proofs.Common.{◌≡◌, ◌∙◌, ℕ, List, Bool, Some, sym, ap, true}
-use Rattle.live_maps.specs.declared.place_serials.Since.{Since}
-use Rattle.live_maps.specs.PlaceOrders.{PlaceOrder, is_given, serials_of, since_in}
-use Rattle.live_maps.specs.Live.{serial_in}
+use Rattle.live_maps.proofs.Common.{◌≡◌, ◌∙◌, ℕ, List, Bool, Some, sym, ap, true, Since, PlaceOrder, is_given, serials_of, since_in, serial_in}
 use Rattle.live_maps.proofs.PlaceOrderLaws.{serial-given}
 use Rattle.live_maps.proofs.place_serials.PlaceSerials.noted_place.Goals as goal
 

@@ -1,9 +1,4 @@
-use Rattle.std.proofs.Common.{◌≡◌, ◌+◌, ◌-◌, ℕ, List, Some, sym, ap, subst, ◌∙◌, arith}
-use Rattle.std.specs.Prelude.{slice_get}
-use Rattle.live_maps.specs.declared.place_serials.Since.{Since}
-use Rattle.live_maps.specs.declared.place_serials.Since.TheVariants.{Same}
-use Rattle.live_maps.specs.PlaceOrders.{PlaceOrder, since_in, start_serial}
-use Rattle.live_maps.specs.Numbering.{AreDistinct}
+use Rattle.live_maps.proofs.Common.{◌≡◌, ◌+◌, ◌-◌, ℕ, List, Some, sym, ap, subst, ◌∙◌, arith, slice_get, Since, Same, PlaceOrder, since_in, start_serial, AreDistinct}
 use Rattle.live_maps.proofs.PlaceOrderLaws.{serial_seen, start-at, start-found}
 use Rattle.live_maps.proofs.place_serials.PlaceSerials.numbered.Goals as goal
 

@@ -1,9 +1,5 @@
-use Rattle.std.proofs.Common.{◌≡◌, ◌+◌, ◌/◌, ◌≤◌, ◌^◌, ◌++◌, ◌∷◌, [], ℕ, List, length, sym, subst, arith}
-use Rattle.std.specs.Prelude.{slice_set, vec_capacity}
-use Rattle.std.proofs.lemmas.List.{length-set}
-use Rattle.live_maps.specs.declared.place_serials.Since.{Since}
+use Rattle.live_maps.proofs.Common.{◌≡◌, ◌+◌, ◌/◌, ◌≤◌, ◌^◌, ◌++◌, ◌∷◌, [], ℕ, List, length, sym, subst, arith, slice_set, vec_capacity, length-set, Since, AreNoted}
 use Rattle.live_maps.specs.declared.place_serials.PlaceSerials.TheInside.{Inside}
-use Rattle.live_maps.specs.PlaceOrders.{AreNoted}
 use Rattle.live_maps.proofs.ReorderLaws.{covers-push, covers-full}
 use Rattle.live_maps.proofs.place_serials.PlaceSerials.set.Goals as goal
 use Rattle.live_maps.proofs.place_serials.PlaceSerials.set.Goals.{then-len-capacity, else-len-capacity}

@@ -1,8 +1,6 @@
-use Rattle.std.proofs.Common.{◌∙◌, sym, subst, true}
+use Rattle.machine.proofs.Common.{◌∙◌, sym, subst, true, KeyValues, row_at, CopiesKeyValue}
 use Rattle.std.specs.List.{slice_get}
-use Rattle.isa_model.specs.Machine.States.{KeyValues}
 use Rattle.maps.specs.Listing.{listed_key_values}
-use Rattle.machine.specs.BetweenRuns.{row_at, CopiesKeyValue}
 use Rattle.machine.proofs.BetweenRunsLaws.{inside, row_is, ordered_is, sized, found_size, copies}
 use Rattle.machine.proofs.machines.Machine.copy_key_value.Goals as goal
 

@@ -1,12 +1,5 @@
-use Rattle.std.proofs.Common.{◌≡◌, ◌≤◌, ◌∙◌, List, length, sym, ap, subst}
-use Rattle.isa_model.specs.Code.Limits.{max_maps}
-use Rattle.isa_model.specs.declared.map_defs.MapDef.{MapDef}
-use Rattle.isa_model.specs.Code.Instructions.{Program}
+use Rattle.machine.proofs.Common.{◌≡◌, ◌≤◌, ◌∙◌, List, length, sym, ap, subst, max_maps, MapDef, Program, FitRows, rows_of, contents_of, FitRows-IsMap, IsReady}
 use Rattle.isa_model.specs.Code.Versions.{version_number}
-use Rattle.isa_model.specs.Machine.MachineStates.{FitRows}
-use Rattle.maps.specs.Maps.{rows_of, contents_of}
-use Rattle.maps.proofs.MapLaws.{FitRows-IsMap}
-use Rattle.machine.specs.Ready.{IsReady}
 use Rattle.machine.proofs.Runs.{starts_running}
 use Rattle.machine.proofs.machines.Machine.new.Goals as goal
 

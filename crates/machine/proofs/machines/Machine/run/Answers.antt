@@ -1,6 +1,4 @@
-use Rattle.std.proofs.Common.{◌≡◌, length, subst, ap, arith}
-use Rattle.maps.specs.Maps.{contents_of}
-use Rattle.machine.specs.Running.{Running, ReturnsOutcome}
+use Rattle.machine.proofs.Common.{◌≡◌, length, subst, ap, arith, contents_of, Running, ReturnsOutcome}
 use Rattle.machine.proofs.Runs.{run_ends, run_returns, still_ready}
 use Rattle.machine.proofs.machines.Machine.run.Goals as goal
 

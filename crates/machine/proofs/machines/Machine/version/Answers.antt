@@ -1,6 +1,5 @@
-use Rattle.std.proofs.Common.{◌∙◌, ap}
+use Rattle.machine.proofs.Common.{◌∙◌, ap, Running}
 use Rattle.isa_model.specs.Code.Versions.{version_number}
-use Rattle.machine.specs.Running.{Running}
 use Rattle.machine.proofs.machines.Machine.version.Goals as goal
 
 pub returns : goal.returns

@@ -1,6 +1,4 @@
-use Rattle.std.proofs.Common.{◌≡◌, ◌∙◌, sym, ap, subst, length, List, ℕ, arith}
-use Rattle.std.specs.Prelude.{IsPermutation}
-use Rattle.std.proofs.lemmas.List.Sorted.{length_permutation}
+use Rattle.map_indexes.proofs.Common.{◌≡◌, ◌∙◌, sym, ap, subst, length, List, ℕ, arith, IsPermutation, length_permutation}
 use Rattle.map_indexes.proofs.ArrayOrder.{indexes-sorted}
 use Rattle.map_indexes.proofs.KeyLemmas.{lent_whole}
 use Rattle.map_indexes.proofs.arrays.ArrayIndex.list.Goals as goal

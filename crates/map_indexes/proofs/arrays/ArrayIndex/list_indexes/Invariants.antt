@@ -1,6 +1,4 @@
-use Rattle.std.proofs.Common.{◌≡◌}
-use Rattle.std.specs.Prelude.{vec_capacity}
-use Rattle.std.specs.List.{range_with_len}
+use Rattle.map_indexes.proofs.Common.{◌≡◌, vec_capacity, range_with_len}
 use Rattle.map_indexes.proofs.arrays.ArrayIndex.list_indexes.Given as goal
 
 abbrev pub invariant-loop-i : goal.invariant-loop-i

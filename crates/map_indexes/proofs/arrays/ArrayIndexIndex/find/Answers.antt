@@ -1,6 +1,4 @@
-use Rattle.std.proofs.Common.{◌≡◌, ℕ, ◌∙◌, ap, sym, arith, Bool, true, false, Some, None, List}
-use Rattle.std.specs.Prelude.{nat_lt, if◌then◌else◌}
-use Rattle.byteorder.specs.Endian.{little_number}
+use Rattle.map_indexes.proofs.Common.{◌≡◌, ℕ, ◌∙◌, ap, sym, arith, Bool, true, false, Some, None, List, nat_lt, if◌then◌else◌, little_number}
 use Rattle.map_indexes.proofs.ArrayLaws.{get-array_places}
 use Rattle.map_indexes.proofs.arrays.ArrayIndexIndex.find.Goals as goal
 

@@ -1,6 +1,4 @@
-use Rattle.std.proofs.Common.{◌≤◌, arith}
-use Rattle.std.specs.FinMap.{len}
-use Rattle.map_indexes.specs.ArrayPlaces.{array_places}
+use Rattle.map_indexes.proofs.Common.{◌≤◌, arith, len, array_places}
 use Rattle.map_indexes.proofs.ArrayLaws.{len-array_places}
 use Rattle.map_indexes.proofs.arrays.ArrayIndexIndex.is_full.Goals as goal
 

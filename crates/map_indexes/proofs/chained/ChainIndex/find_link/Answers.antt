@@ -1,9 +1,4 @@
-use Rattle.std.proofs.Common.{◌≡◌, ◌<◌, ℕ, List, Option, Some, true, sym, ap, subst, ◌∙◌}
-use Rattle.std.specs.Prelude.{is_some, nat_eq}
-use Rattle.std.specs.Cmp.Lexicographic.{pointwise, bytes_decides}
-use Rattle.map_indexes.specs.declared.chains.Link.{Link}
-use Rattle.map_indexes.specs.PlaceKeys.{key_in}
-use Rattle.map_indexes.specs.Chains.{in_chain, link_in, height}
+use Rattle.map_indexes.proofs.Common.{◌≡◌, ◌<◌, ℕ, List, Option, Some, true, sym, ap, subst, ◌∙◌, is_some, nat_eq, pointwise, bytes_decides, Link, key_in, in_chain, link_in, height}
 use Rattle.map_indexes.proofs.ChainLaws.{lower}
 use Rattle.map_indexes.proofs.ListedLinks.{link_in-is}
 use Rattle.map_indexes.proofs.ChainIndexesLaws.{Left, next_there, left_next, not_found}

@@ -1,6 +1,4 @@
-use Rattle.std.proofs.Common.{◌≡◌, ◌∙◌, sym, ap, subst, length, List, ℕ}
-use Rattle.std.specs.Prelude.{IsPermutation}
-use Rattle.std.proofs.lemmas.List.Sorted.{length_permutation}
+use Rattle.map_indexes.proofs.Common.{◌≡◌, ◌∙◌, sym, ap, subst, length, List, ℕ, IsPermutation, length_permutation}
 use Rattle.map_indexes.proofs.KeyOrderLaws.{values-sorted}
 use Rattle.map_indexes.proofs.KeyLemmas.{lent_whole}
 use Rattle.map_indexes.proofs.chained.ChainIndex.list.Goals as goal

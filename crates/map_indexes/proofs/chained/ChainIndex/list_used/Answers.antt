@@ -1,5 +1,4 @@
-use Rattle.std.proofs.Common.{ℕ, ◌++◌, ◌∷◌, [], List, length, sym, ap, ◌∙◌, arith}
-use Rattle.std.proofs.lemmas.List.{length-append}
+use Rattle.map_indexes.proofs.Common.{ℕ, ◌++◌, ◌∷◌, [], List, length, sym, ap, ◌∙◌, arith, length-append}
 use Rattle.map_indexes.proofs.KeyOrderLaws.{used_places-key, used_places-none}
 use Rattle.map_indexes.proofs.chained.ChainIndex.list_used.Goals as goal
 use Rattle.map_indexes.proofs.chained.ChainIndex.list_used.Goals.{then-is_used, else-is_used}

@@ -1,6 +1,4 @@
-use Rattle.std.proofs.Common.{◌≡◌, ◌≤◌, length, take}
-use Rattle.std.specs.Prelude.{vec_capacity}
-use Rattle.map_indexes.specs.KeyOrder.{used_places}
+use Rattle.map_indexes.proofs.Common.{◌≡◌, ◌≤◌, length, take, vec_capacity, used_places}
 use Rattle.map_indexes.proofs.chained.ChainIndex.list_used.Given as goal
 
 abbrev pub invariant-loop-i : goal.invariant-loop-i

@@ -1,10 +1,6 @@
-use Rattle.std.proofs.Common.{ℕ, sym, ap, subst, ◌∙◌}
-use Rattle.map_indexes.specs.PlaceKeys.{PlaceKeys, places, AreKeys}
+use Rattle.map_indexes.proofs.Common.{ℕ, sym, ap, subst, ◌∙◌, PlaceKeys, places, AreKeys, link_in, IsChainIndex, found_places, AreRising}
 use Rattle.map_indexes.proofs.KeyBytes.{AreKeys-none}
 use Rattle.map_indexes.proofs.ScanLaws.{places-none}
-use Rattle.map_indexes.specs.Chains.{link_in}
-use Rattle.map_indexes.specs.ChainIndexes.{IsChainIndex}
-use Rattle.map_indexes.specs.Overflow.{found_places, AreRising}
 use Rattle.map_indexes.proofs.ChainIndexesLaws.{chain_index-none}
 use Rattle.map_indexes.proofs.PlaceKeysLaws.{key_in-none}
 use Rattle.map_indexes.proofs.FoundPlaces.{found_nothing}

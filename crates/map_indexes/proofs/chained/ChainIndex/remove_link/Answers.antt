@@ -1,13 +1,6 @@
-use Rattle.std.proofs.Common.{◌≡◌, ◌-◌, ◌++◌, ◌∷◌, [], ℕ, List, length, Some, None, sym, subst, arith}
-use Rattle.std.specs.Prelude.{slice_set}
-use Rattle.map_indexes.specs.declared.chains.Link.{Link}
-use Rattle.map_indexes.specs.PlaceKeys.{PlaceKeys, key_in, AreKeys}
+use Rattle.map_indexes.proofs.Common.{◌≡◌, ◌-◌, ◌++◌, ◌∷◌, [], ℕ, List, length, Some, None, sym, subst, arith, slice_set, Link, PlaceKeys, key_in, AreKeys, key_inside, link_in, IsChainIndex, found_places, AreRising}
 use Rattle.map_indexes.proofs.KeyBytes.{AreKeys-cleared}
-use Rattle.map_indexes.specs.ScanLaws.{key_inside}
 use Rattle.map_indexes.proofs.ScanLaws.{scan_some}
-use Rattle.map_indexes.specs.Chains.{link_in}
-use Rattle.map_indexes.specs.ChainIndexes.{IsChainIndex}
-use Rattle.map_indexes.specs.Overflow.{found_places, AreRising}
 use Rattle.map_indexes.proofs.IndexChanges.{chain_index, some_link, linked_key, link_removed, rising_without, unlinked_without}
 use Rattle.map_indexes.proofs.chained.ChainIndex.remove_link.Goals as goal
 use Rattle.map_indexes.proofs.chained.ChainIndex.remove_link.Goals.{After-remove}

@@ -1,12 +1,6 @@
-use Rattle.std.proofs.Common.{◌≡◌, ◌<◌, ◌-◌, ◌++◌, ◌∷◌, [], ℕ, List, length, Some, None, true, sym, subst, arith}
-use Rattle.std.specs.Prelude.{slice_set}
-use Rattle.map_indexes.specs.PlaceKeys.{PlaceKeys, key_in, AreKeys}
+use Rattle.map_indexes.proofs.Common.{◌≡◌, ◌<◌, ◌-◌, ◌++◌, ◌∷◌, [], ℕ, List, length, Some, None, true, sym, subst, arith, slice_set, PlaceKeys, key_in, AreKeys, key_inside, link_in, IsChainIndex, is_listed, found_places, AreRising, AreUnlinked}
 use Rattle.map_indexes.proofs.KeyBytes.{AreKeys-cleared}
-use Rattle.map_indexes.specs.ScanLaws.{key_inside}
 use Rattle.map_indexes.proofs.ScanLaws.{scan_some}
-use Rattle.map_indexes.specs.Chains.{link_in}
-use Rattle.map_indexes.specs.ChainIndexes.{IsChainIndex}
-use Rattle.map_indexes.specs.Overflow.{is_listed, found_places, AreRising, AreUnlinked}
 use Rattle.map_indexes.proofs.IndexChanges.{chain_index, listed_key, listed_removed, rising_fewer, unlinked_fewer}
 use Rattle.map_indexes.proofs.OverflowLaws.{listed_at}
 use Rattle.map_indexes.proofs.chained.ChainIndex.remove_listed.Goals as goal

@@ -1,14 +1,7 @@
-use Rattle.std.proofs.Common.{◌≡◌, ◌<◌, ℕ, List, Some, sym, ap, subst, ◌∙◌, arith, rules}
+use Rattle.map_indexes.proofs.Common.{◌≡◌, ◌<◌, ℕ, List, Some, sym, ap, subst, ◌∙◌, arith, rules, slice_set, PlaceKeys, TakesPlace, key_in, places, AreKeys, got, chain_of, link_in, IsChainIndex, found_places, AreRising}
 use Rattle.std.proofs.lemmas.List.Elements.{All-from_get_or}
-use Rattle.std.specs.Prelude.{slice_set}
-use Rattle.map_indexes.specs.PlaceKeys.{PlaceKeys, TakesPlace, key_in, places, AreKeys}
 use Rattle.map_indexes.proofs.KeyBytes.{AreKeys-put}
-use Rattle.map_indexes.specs.PlaceKeyLaws.{got}
 use Rattle.map_indexes.proofs.PlaceKeysLaws.{places-added, set_here}
-use Rattle.map_indexes.specs.Hashing.{chain_of}
-use Rattle.map_indexes.specs.Chains.{link_in}
-use Rattle.map_indexes.specs.ChainIndexes.{IsChainIndex}
-use Rattle.map_indexes.specs.Overflow.{found_places, AreRising}
 use Rattle.map_indexes.proofs.IndexChanges.{TakesLast, chain_index, inside, vacant, link_free, still_rising, unlisted, link_added, still_unlinked, listed_added, more_unlinked}
 use Rattle.map_indexes.proofs.chained.ChainIndexIndex.add.Goals as goal
 use Rattle.map_indexes.proofs.chained.ChainIndexIndex.add.Goals.{In_ok-place, After-put}

@@ -1,6 +1,4 @@
-use Rattle.std.proofs.Common.{ℕ, List, Some, refl, sym, ap, ◌∙◌}
-use Rattle.map_indexes.specs.Chains.{link_in}
-use Rattle.map_indexes.specs.Overflow.{place_at}
+use Rattle.map_indexes.proofs.Common.{ℕ, List, Some, refl, sym, ap, ◌∙◌, link_in, place_at}
 use Rattle.map_indexes.proofs.ListedLinks.{link_own}
 use Rattle.map_indexes.proofs.ChainIndexesLaws.{found}
 use Rattle.map_indexes.proofs.FoundPlaces.{nowhere}

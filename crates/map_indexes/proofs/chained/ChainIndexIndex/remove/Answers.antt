@@ -1,8 +1,5 @@
-use Rattle.std.proofs.Common.{◌≡◌, ℕ, List, Some, None, refl, sym, ap, ◌∙◌}
+use Rattle.map_indexes.proofs.Common.{◌≡◌, ℕ, List, Some, None, refl, sym, ap, ◌∙◌, PlaceKeys, key_in, places, key_inside, link_in}
 use Rattle.std.specs.FinMap as map
-use Rattle.map_indexes.specs.PlaceKeys.{PlaceKeys, key_in, places}
-use Rattle.map_indexes.specs.ScanLaws.{key_inside}
-use Rattle.map_indexes.specs.Chains.{link_in}
 use Rattle.map_indexes.proofs.ListedLinks.{link_own}
 use Rattle.map_indexes.proofs.ChainIndexesLaws.{found}
 use Rattle.map_indexes.proofs.FoundPlaces.{nowhere}

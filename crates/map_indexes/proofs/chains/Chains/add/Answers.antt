@@ -1,6 +1,4 @@
-use Rattle.std.proofs.Common.{◌≡◌, ℕ, ◌<◌, List, length, Option, Some, ap, sym, subst, ◌∙◌, arith}
-use Rattle.std.specs.Prelude.{IfSome, slice_set}
-use Rattle.map_indexes.specs.Chains.{link_in, heads_led, nexts_led, chain_place, IsChained}
+use Rattle.map_indexes.proofs.Common.{◌≡◌, ℕ, ◌<◌, List, length, Option, Some, ap, sym, subst, ◌∙◌, arith, IfSome, slice_set, link_in, heads_led, nexts_led, chain_place, IsChained}
 use Rattle.map_indexes.proofs.ChainLaws.{place_or, length-heads_led, length-head_set, length-nexts_led}
 use Rattle.map_indexes.proofs.ListedLinks.{before_some, still_some, leads, fits, lists_added, added_chain_place, added_chain_places}
 use Rattle.map_indexes.proofs.chains.Chains.add.Goals as goal

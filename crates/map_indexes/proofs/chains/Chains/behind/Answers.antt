@@ -1,7 +1,5 @@
-use Rattle.std.proofs.Common.{◌≡◌, ℕ, length, Option, Some, ◌<◌, ◌∙◌, sym, subst, arith}
-use Rattle.map_indexes.specs.declared.chains.Link.{Link}
+use Rattle.map_indexes.proofs.Common.{◌≡◌, ℕ, length, Option, Some, ◌<◌, ◌∙◌, sym, subst, arith, Link, in_chain, link_in, height}
 use Rattle.map_indexes.proofs.LastBelowLaws.{last_is}
-use Rattle.map_indexes.specs.Chains.{in_chain, link_in, height}
 use Rattle.map_indexes.proofs.ChainLaws.{place_or, link_of, Passed, is_behind, passed_next, lower}
 use Rattle.map_indexes.proofs.ListedLinks.{link_in-is}
 use Rattle.map_indexes.proofs.chains.Chains.behind.Goals as goal

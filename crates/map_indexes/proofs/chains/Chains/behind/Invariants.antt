@@ -1,5 +1,4 @@
-use Rattle.std.specs.Prelude.{length}
-use Rattle.map_indexes.specs.Chains.{link_in, height}
+use Rattle.map_indexes.proofs.Common.{length, link_in, height}
 use Rattle.map_indexes.proofs.ChainLaws.{Passed}
 use Rattle.map_indexes.proofs.chains.Chains.behind.Given as goal
 

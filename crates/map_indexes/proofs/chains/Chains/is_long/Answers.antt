@@ -1,7 +1,4 @@
-use Rattle.std.proofs.Common.{◌≡◌, ℕ, Some, sym, ap, ◌∙◌, arith}
-use Rattle.map_indexes.specs.declared.chains.Link.{Link}
-use Rattle.map_indexes.specs.LastBelow.{last_below}
-use Rattle.map_indexes.specs.Chains.{in_chain, link_in}
+use Rattle.map_indexes.proofs.Common.{◌≡◌, ℕ, Some, sym, ap, ◌∙◌, arith, Link, last_below, in_chain, link_in}
 use Rattle.map_indexes.proofs.LastBelowLaws.{last_is, count_below-none, count_below-some}
 use Rattle.map_indexes.proofs.ChainLaws.{link_of}
 use Rattle.map_indexes.proofs.ListedLinks.{link_in-is}

@@ -1,6 +1,4 @@
-use Rattle.std.proofs.Common.{◌≡◌, ◌+◌, ℕ, length}
-use Rattle.map_indexes.specs.LastBelow.{last_below, count_below}
-use Rattle.map_indexes.specs.Chains.{in_chain, link_in}
+use Rattle.map_indexes.proofs.Common.{◌≡◌, ◌+◌, ℕ, length, last_below, count_below, in_chain, link_in}
 use Rattle.map_indexes.proofs.chains.Chains.is_long.Given as goal
 
 abbrev pub invariant-loop-followed : goal.invariant-loop-followed

@@ -1,7 +1,4 @@
-use Rattle.std.proofs.Common.{◌≡◌, ℕ, List, length, Option, None, ap, sym, subst, ◌∙◌, arith}
-use Rattle.std.proofs.lemmas.List.{length-replicate}
-use Rattle.std.specs.Prelude.{replicate, slice_index_or}
-use Rattle.map_indexes.specs.Chains.{IsChained, link_with, link_in}
+use Rattle.map_indexes.proofs.Common.{◌≡◌, ℕ, List, length, Option, None, ap, sym, subst, ◌∙◌, arith, replicate, slice_index_or, length-replicate, IsChained, link_with, link_in}
 use Rattle.map_indexes.proofs.ChainLaws.{chained_none, heads-none}
 use Rattle.map_indexes.proofs.chains.Chains.new.Goals as goal
 

@@ -1,7 +1,4 @@
-use Rattle.std.proofs.Common.{◌≡◌, ℕ, List, length, Option, Some, None, ap, sym, subst, ◌∙◌, arith}
-use Rattle.std.specs.Prelude.{slice_index_or, slice_set}
-use Rattle.map_indexes.specs.declared.chains.Link.{Link}
-use Rattle.map_indexes.specs.Chains.{link_with, link_in, heads_led, nexts_led, chain_place, IsChained}
+use Rattle.map_indexes.proofs.Common.{◌≡◌, ℕ, List, length, Option, Some, None, ap, sym, subst, ◌∙◌, arith, slice_index_or, slice_set, Link, link_with, link_in, heads_led, nexts_led, chain_place, IsChained}
 use Rattle.map_indexes.proofs.ChainLaws.{length-heads_led, length-head_set, length-nexts_led}
 use Rattle.map_indexes.proofs.ListedLinks.{fits, lists_removed, gone_here, gone_chain_places}
 use Rattle.map_indexes.proofs.chains.Chains.remove.Goals as goal

@@ -1,6 +1,4 @@
-use Rattle.std.proofs.Common.{ap, ◌∙◌, arith}
-use Rattle.std.specs.Prelude.{slice_set, None}
-use Rattle.map_indexes.specs.PlaceKeys.{KeysByPlace}
+use Rattle.map_indexes.proofs.Common.{ap, ◌∙◌, arith, slice_set, None, KeysByPlace}
 use Rattle.map_indexes.proofs.KeyLaws.{keys_by_place-unused}
 use Rattle.map_indexes.proofs.KeyLemmas.{block_places}
 use Rattle.map_indexes.proofs.keys.Keys.clear.Goals as goal

@@ -1,7 +1,4 @@
-use Rattle.std.proofs.Common.{ap, sym, ◌∙◌, arith, false}
-use Rattle.std.proofs.lemmas.List.{get_or_read}
-use Rattle.std.specs.Prelude.{is_some}
-use Rattle.map_indexes.specs.PlaceKeys.{KeysByPlace, key_in}
+use Rattle.map_indexes.proofs.Common.{ap, sym, ◌∙◌, arith, false, is_some, get_or_read, KeysByPlace, key_in}
 use Rattle.map_indexes.proofs.KeyLaws.{is_some-key_in}
 use Rattle.map_indexes.proofs.KeyLemmas.{block_places}
 use Rattle.map_indexes.proofs.keys.Keys.is_used.Goals as goal

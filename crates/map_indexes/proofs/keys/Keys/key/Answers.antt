@@ -1,9 +1,4 @@
-use Rattle.std.proofs.Common.{◌≡◌, ℕ, ◌+◌, ◌*◌, ◌-◌, ◌≤◌, List, length, take, drop, ap, sym, ◌∙◌, arith, true, Bool, Some}
-use Rattle.std.proofs.lemmas.List.{length-take, length-drop}
-use Rattle.std.specs.Prelude.{is_some}
-use Rattle.map_indexes.specs.BlockRows.{block_row}
-use Rattle.map_indexes.specs.BlockRowLaws.{row_end}
-use Rattle.map_indexes.specs.PlaceKeys.{KeysByPlace, key_in, keys_by_place}
+use Rattle.map_indexes.proofs.Common.{◌≡◌, ℕ, ◌+◌, ◌*◌, ◌-◌, ◌≤◌, List, length, take, drop, ap, sym, ◌∙◌, arith, true, Bool, Some, is_some, length-take, length-drop, block_row, row_end, KeysByPlace, key_in, keys_by_place}
 use Rattle.map_indexes.proofs.KeyLaws.{key_in-used, used_inside}
 use Rattle.map_indexes.proofs.keys.Keys.key.Goals as goal
 

@@ -1,6 +1,4 @@
-use Rattle.std.proofs.Common.{◌≡◌, ap, ◌∙◌, List, Bool, false}
-use Rattle.std.specs.Prelude.{replicate}
-use Rattle.map_indexes.specs.PlaceKeys.{keys_by_place}
+use Rattle.map_indexes.proofs.Common.{◌≡◌, ap, ◌∙◌, List, Bool, false, replicate, keys_by_place}
 use Rattle.map_indexes.proofs.KeyLaws.{keys_by_place-replicate}
 use Rattle.map_indexes.proofs.keys.Keys.new.Goals as goal
 

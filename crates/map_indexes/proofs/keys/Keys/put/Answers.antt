@@ -1,8 +1,4 @@
-use Rattle.std.proofs.Common.{◌≡◌, ℕ, ◌<◌, List, length, ap, sym, ◌∙◌, arith, true}
-use Rattle.std.specs.Prelude.{slice_set, Some}
-use Rattle.map_indexes.specs.BlockRows.{with_block_row}
-use Rattle.map_indexes.specs.BlockRowLaws.{row_end, length-with_block_row}
-use Rattle.map_indexes.specs.PlaceKeys.{KeysByPlace, keys_by_place}
+use Rattle.map_indexes.proofs.Common.{◌≡◌, ℕ, ◌<◌, List, length, ap, sym, ◌∙◌, arith, true, slice_set, Some, with_block_row, row_end, length-with_block_row, KeysByPlace, keys_by_place}
 use Rattle.map_indexes.proofs.KeyLaws.{keys_by_place-put}
 use Rattle.map_indexes.proofs.KeyLemmas.{block_places, lent_whole}
 use Rattle.map_indexes.proofs.keys.Keys.put.Goals as goal

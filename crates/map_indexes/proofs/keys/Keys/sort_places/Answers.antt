@@ -1,9 +1,5 @@
 use Rattle.std.proofs.Common.{rules, is_lt}
-use Rattle.std.proofs.lemmas.Fn.{always_returns_same}
-use Rattle.std.proofs.lemmas.List.Sorted.{ranks_by}
-use Rattle.std.specs.Cmp.Lexicographic.{nat_list_cmp_total}
-use Rattle.isa_model.specs.Machine.MapContents.{key_order}
-use Rattle.map_indexes.specs.KeyOrder.{key_or_none}
+use Rattle.map_indexes.proofs.Common.{always_returns_same, ranks_by, nat_list_cmp_total, key_order, key_or_none}
 use Rattle.map_indexes.proofs.keys.Keys.sort_places.Goals as goal
 
 pub returns-clause-sorted : goal.returns-clause-sorted

@@ -1,7 +1,4 @@
-use Rattle.std.proofs.Common.{ℕ, List, length, Option, None, sym, ap, ◌∙◌, arith}
-use Rattle.std.proofs.lemmas.List.{get_or-map, get_or_read, length-map}
-use Rattle.std.specs.Prelude.{slice_index_or}
-use Rattle.map_indexes.specs.OptionalNumbers.{number_of}
+use Rattle.map_indexes.proofs.Common.{ℕ, List, length, Option, None, sym, ap, ◌∙◌, arith, slice_index_or, get_or-map, get_or_read, length-map, number_of}
 use Rattle.map_indexes.proofs.numbers.OptionalNumbers.at.Goals as goal
 
 pub index-requires : goal.index-requires

@@ -1,6 +1,4 @@
-use Rattle.std.proofs.Common.{◌≡◌, ℕ, zero, suc, List, ◌∷◌, map, Option, None, refl, ap, ◌∙◌}
-use Rattle.std.specs.Prelude.{replicate}
-use Rattle.map_indexes.specs.OptionalNumbers.{number_of}
+use Rattle.map_indexes.proofs.Common.{◌≡◌, ℕ, zero, suc, List, ◌∷◌, map, Option, None, refl, ap, ◌∙◌, replicate, number_of}
 use Rattle.map_indexes.proofs.numbers.OptionalNumbers.new.Goals as goal
 
 none : (n : ℕ) → map number_of (replicate n 0) ≡ replicate n None

@@ -1,7 +1,4 @@
-use Rattle.std.proofs.Common.{ℕ, List, length, Option, ap, ◌∙◌, arith}
-use Rattle.std.proofs.lemmas.List.{length-map, map-set}
-use Rattle.std.specs.Prelude.{slice_set}
-use Rattle.map_indexes.specs.OptionalNumbers.{number_of}
+use Rattle.map_indexes.proofs.Common.{ℕ, List, length, Option, ap, ◌∙◌, arith, slice_set, length-map, map-set, number_of}
 use Rattle.map_indexes.proofs.numbers.OptionalNumbers.set.Goals as goal
 
 pub index_mut-requires : goal.index_mut-requires

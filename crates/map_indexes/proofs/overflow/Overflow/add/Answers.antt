@@ -1,6 +1,4 @@
-use Rattle.std.proofs.Common.{◌≡◌, ◌<◌, ℕ, List, length, sym, ap, subst, ◌∙◌, arith, rules}
-use Rattle.std.specs.List.{insert}
-use Rattle.map_indexes.specs.Overflow.{place_at, is_listed, AreRising}
+use Rattle.map_indexes.proofs.Common.{◌≡◌, ◌<◌, ℕ, List, length, sym, ap, subst, ◌∙◌, arith, rules, insert, place_at, is_listed, AreRising}
 use Rattle.map_indexes.proofs.OverflowLaws.{key_at, listed_at, listed-insert, rising-insert, searchable}
 use Rattle.map_indexes.proofs.overflow.Overflow.add.Goals as goal
 use Rattle.map_indexes.proofs.overflow.Overflow.add.Goals.{After-insert}

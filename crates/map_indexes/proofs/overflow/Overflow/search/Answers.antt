@@ -1,8 +1,4 @@
-use Rattle.std.proofs.Common.{ℕ, List, subst, rules}
-use Rattle.std.proofs.lemmas.Fn.{always_returns_same}
-use Rattle.std.specs.List.Sorted.{IsBinarySearchResult}
-use Rattle.isa_model.specs.Machine.MapContents.{key_order}
-use Rattle.map_indexes.specs.KeyOrder.{key_or_none}
+use Rattle.map_indexes.proofs.Common.{ℕ, List, subst, rules, always_returns_same, IsBinarySearchResult, key_order, key_or_none}
 use Rattle.map_indexes.proofs.overflow.Overflow.search.Goals as goal
 
 pub returns-clause-position : goal.returns-clause-position

@@ -1,5 +1,4 @@
-use Rattle.std.proofs.Common.{ap, sym, ◌∙◌, subst}
-use Rattle.map_indexes.specs.PlaceKeys.{PlaceKeys, IsScan, places}
+use Rattle.map_indexes.proofs.Common.{ap, sym, ◌∙◌, subst, PlaceKeys, IsScan, places}
 use Rattle.map_indexes.proofs.ScanLaws.{scan-none, places-none}
 use Rattle.map_indexes.proofs.scan.ScanIndex.new.Goals as goal
 

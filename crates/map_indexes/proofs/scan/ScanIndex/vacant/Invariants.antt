@@ -1,6 +1,4 @@
-use Rattle.std.proofs.Common.{◌≡◌, ℕ, ◌<◌, true}
-use Rattle.std.specs.Prelude.{is_some}
-use Rattle.map_indexes.specs.PlaceKeys.{key_in}
+use Rattle.map_indexes.proofs.Common.{◌≡◌, ℕ, ◌<◌, true, is_some, key_in}
 use Rattle.map_indexes.proofs.scan.ScanIndex.vacant.Given as goal
 
 abbrev pub invariant-loop-i : goal.invariant-loop-i

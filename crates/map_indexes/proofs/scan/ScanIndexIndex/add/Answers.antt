@@ -1,8 +1,5 @@
-use Rattle.std.proofs.Common.{ap, sym, ◌∙◌, subst, arith, ◌+◌}
-use Rattle.map_indexes.specs.PlaceKeys.{PlaceKeys, IsScan, places}
-use Rattle.map_indexes.specs.PlaceKeyLaws.{got}
+use Rattle.map_indexes.proofs.Common.{ap, sym, ◌∙◌, subst, arith, ◌+◌, PlaceKeys, IsScan, places, got, scan_few}
 use Rattle.map_indexes.proofs.PlaceKeysLaws.{places-added}
-use Rattle.map_indexes.specs.ScanLaws.{scan_few}
 use Rattle.map_indexes.proofs.ScanLaws.{scan-added}
 use Rattle.map_indexes.proofs.scan.ScanIndexIndex.add.Goals as goal
 

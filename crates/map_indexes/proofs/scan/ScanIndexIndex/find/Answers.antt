@@ -1,7 +1,5 @@
-use Rattle.std.proofs.Common.{ap, sym, ◌∙◌, arith, Some}
-use Rattle.std.specs.Cmp.Lexicographic.{bytes_decides}
+use Rattle.map_indexes.proofs.Common.{ap, sym, ◌∙◌, arith, Some, bytes_decides, key_inside}
 use Rattle.map_indexes.proofs.PlaceKeysLaws.{get_here, get_none}
-use Rattle.map_indexes.specs.ScanLaws.{key_inside}
 use Rattle.map_indexes.proofs.scan.ScanIndexIndex.find.Goals as goal
 
 pub returns-then-eq : goal.returns-then-eq

@@ -1,5 +1,4 @@
-use Rattle.std.proofs.Common.{◌≡◌, ℕ, ◌<◌, Some}
-use Rattle.map_indexes.specs.PlaceKeys.{key_in}
+use Rattle.map_indexes.proofs.Common.{◌≡◌, ℕ, ◌<◌, Some, key_in}
 use Rattle.map_indexes.proofs.scan.ScanIndexIndex.find.Given as goal
 
 abbrev pub invariant-loop-i : goal.invariant-loop-i

@@ -1,5 +1,4 @@
-use Rattle.std.proofs.Common.{arith}
-use Rattle.map_indexes.specs.ScanLaws.{scan_few}
+use Rattle.map_indexes.proofs.Common.{arith, scan_few}
 use Rattle.map_indexes.proofs.scan.ScanIndexIndex.is_full.Goals as goal
 
 pub returns : goal.returns

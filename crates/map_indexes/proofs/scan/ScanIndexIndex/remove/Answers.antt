@@ -1,9 +1,6 @@
-use Rattle.std.proofs.Common.{ap, sym, ◌∙◌, subst, rules, ◌-◌}
-use Rattle.map_indexes.specs.PlaceKeys.{PlaceKeys, IsScan, places}
-use Rattle.map_indexes.specs.PlaceKeyLaws.{got}
+use Rattle.map_indexes.proofs.Common.{ap, sym, ◌∙◌, subst, rules, ◌-◌, PlaceKeys, IsScan, places, got, key_inside}
 use Rattle.map_indexes.proofs.PlaceKeysLaws.{places-emptied}
 use Rattle.map_indexes.proofs.PlaceKeysLaws.{remove_absent}
-use Rattle.map_indexes.specs.ScanLaws.{key_inside}
 use Rattle.map_indexes.proofs.ScanLaws.{scan_some, scan-emptied}
 use Rattle.map_indexes.proofs.scan.ScanIndexIndex.remove.Goals as goal
 

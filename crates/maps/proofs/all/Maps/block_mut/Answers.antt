@@ -1,8 +1,4 @@
-use Rattle.std.proofs.Common.{ℕ, List, length, refl, ap, sym, ◌∙◌}
-use Rattle.std.specs.List.{refill}
-use Rattle.maps.specs.Maps.{MapState}
-use Rattle.maps.specs.Lending.{with_values}
-use Rattle.std.specs.Prelude.{vec_capacity}
+use Rattle.maps.proofs.Common.{ℕ, List, length, refl, ap, sym, ◌∙◌, vec_capacity, refill, MapState, with_values}
 use Rattle.maps.proofs.AllMaps.{block-set, map_at-state, HaveRoom-set, inside}
 use Rattle.maps.proofs.all.Maps.block_mut.Goals as goal
 

@@ -1,7 +1,4 @@
-use Rattle.std.proofs.Common.{ℕ, ◌<◌, List, length, subst}
-use Rattle.std.specs.Prelude.{slice_index_or, All}
-use Rattle.std.proofs.lemmas.List.Elements.{All-map}
-use Rattle.maps.specs.Maps.{MapState, IsMap}
+use Rattle.maps.proofs.Common.{ℕ, ◌<◌, List, length, subst, slice_index_or, All, All-map, MapState, IsMap}
 use Rattle.maps.proofs.AllMaps.{EitherStore, state, IsMap-state}
 use Rattle.maps.proofs.all.Maps.count.Goals as goal
 

@@ -1,15 +1,6 @@
-use Rattle.std.proofs.Common.{◌≡◌, ℕ, ◌≤◌, ◌+◌, ◌++◌, ◌∷◌, [], length, map, take, sym, ap, subst, ◌∙◌, arith}
-use Rattle.std.specs.Prelude.{slice_index_or, vec_capacity, All}
-use Rattle.std.proofs.lemmas.List.{map-append, map_more, length-append, take_all}
-use Rattle.std.proofs.lemmas.List.Elements.{All-push}
-use Rattle.isa_model.specs.declared.map_defs.MapType.TheVariants.{Hash}
-use Rattle.isa_model.specs.declared.map_defs.MapDef.{MapDef}
-use Rattle.maps.specs.Either.{places_of}
-use Rattle.isa_model.specs.Code.MapRows.{IsRow}
+use Rattle.maps.proofs.Common.{◌≡◌, ℕ, ◌≤◌, ◌+◌, ◌++◌, ◌∷◌, [], length, map, take, sym, ap, subst, ◌∙◌, arith, slice_index_or, vec_capacity, All, map-append, map_more, length-append, take_all, All-push, Hash, MapDef, places_of, IsRow, rows_of, starting_map, IsListed}
 use Rattle.maps.proofs.KeySizes.{KeyFits-index}
-use Rattle.maps.specs.Maps.{rows_of, starting_map}
 use Rattle.maps.proofs.MapLaws.{rows_of-starting}
-use Rattle.maps.specs.StoreStates.{IsListed}
 use Rattle.maps.proofs.AllMaps.{state, rows-stores}
 use Rattle.maps.proofs.all.Maps.of_rows.Goals as goal
 

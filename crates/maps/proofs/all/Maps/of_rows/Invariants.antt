@@ -1,8 +1,4 @@
-use Rattle.std.proofs.Common.{◌≡◌, length, map, take, All}
-use Rattle.std.specs.Prelude.{vec_capacity}
-use Rattle.maps.specs.Either.{places_of}
-use Rattle.maps.specs.Maps.{starting_map}
-use Rattle.maps.specs.StoreStates.{state_by, IsListed}
+use Rattle.maps.proofs.Common.{◌≡◌, length, map, take, All, vec_capacity, places_of, starting_map, state_by, IsListed}
 use Rattle.maps.proofs.all.Maps.of_rows.Given as goal
 
 abbrev pub invariant-loop-i : goal.invariant-loop-i

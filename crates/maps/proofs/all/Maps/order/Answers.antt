@@ -1,5 +1,4 @@
-use Rattle.std.proofs.Common.{map, refl, ap, ◌∙◌}
-use Rattle.maps.specs.Maps.{map_at, ordered_in}
+use Rattle.maps.proofs.Common.{map, refl, ap, ◌∙◌, map_at, ordered_in}
 use Rattle.maps.proofs.AllMaps.{state}
 use Rattle.maps.proofs.all.Maps.order.Goals as goal
 

@@ -1,8 +1,4 @@
-use Rattle.std.proofs.Common.{ap, ◌∙◌}
-use Rattle.std.specs.Prelude.{vec_capacity}
-use Rattle.isa_model.specs.declared.map_defs.MapDef.{MapDef}
-use Rattle.maps.specs.Contents.{content}
-use Rattle.maps.specs.Maps.{Updated}
+use Rattle.maps.proofs.Common.{ap, ◌∙◌, vec_capacity, MapDef, content, Updated}
 use Rattle.maps.proofs.AllMaps.{state, map_changed, others-set, HaveRoom-set, inside}
 use Rattle.maps.proofs.all.Maps.update.Goals as goal
 

@@ -1,6 +1,4 @@
-use Rattle.std.proofs.Common.{refl}
-use Rattle.std.specs.Prelude.{vec_capacity}
-use Rattle.maps.specs.Maps.{WritesValue}
+use Rattle.maps.proofs.Common.{refl, vec_capacity, WritesValue}
 use Rattle.maps.proofs.AllMaps.{map_changed, others-set, HaveRoom-set, inside}
 use Rattle.maps.proofs.all.Maps.write_value.Goals as goal
 

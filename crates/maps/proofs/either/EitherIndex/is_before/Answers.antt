@@ -1,12 +1,5 @@
-use Rattle.std.proofs.Common.{◌≡◌, ℕ, List, Some, sym, ap, ◌∙◌, arith}
-use Rattle.std.specs.Prelude.{is_some}
-use Rattle.std.specs.FinMap.{get}
-use Rattle.std.specs.Ordering.{is_lt}
+use Rattle.maps.proofs.Common.{◌≡◌, ℕ, List, Some, sym, ap, ◌∙◌, arith, is_some, get, is_lt, got, key_order, places_of, EitherIndex}
 use Rattle.map_indexes.specs.ArrayLaws.{got_index}
-use Rattle.map_indexes.specs.PlaceKeyLaws.{got}
-use Rattle.isa_model.specs.Machine.MapContents.{key_order}
-use Rattle.maps.specs.Either.{places_of}
-use Rattle.maps.specs.declared.either.EitherIndex.{EitherIndex}
 use Rattle.maps.proofs.either.EitherIndex.is_before.Goals as goal
 
 -- what is known of the places of an index is known of it as one kind

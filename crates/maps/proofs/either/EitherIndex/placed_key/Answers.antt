@@ -1,11 +1,4 @@
-use Rattle.std.proofs.Common.{◌≡◌, ℕ, ◌+◌, List, ◌++◌, drop, Some, None, length, sym, ap, ◌∙◌, arith}
-use Rattle.std.proofs.lemmas.Option.{slice_get-get_or, slice_get_past}
-use Rattle.std.specs.FinMap.{values}
-use Rattle.std.specs.List.{slice_get}
-use Rattle.std.specs.Option.{option_map}
-use Rattle.byteorder.specs.Endian.{little_bytes}
-use Rattle.maps.specs.Either.{places_of, kind_of}
-use Rattle.maps.specs.ReportOrder.{listed_of, with_key_of}
+use Rattle.maps.proofs.Common.{◌≡◌, ℕ, ◌+◌, List, ◌++◌, drop, Some, None, length, sym, ap, ◌∙◌, arith, slice_get-get_or, slice_get_past, values, slice_get, option_map, little_bytes, places_of, kind_of, listed_of, with_key_of}
 use Rattle.maps.proofs.ReportOrderLaws.{listed-index, listed-past, listed-some, listed-key, listed-none}
 use Rattle.maps.proofs.either.EitherIndex.placed_key.Goals as goal
 use Rattle.maps.proofs.either.EitherIndex.placed_key.Goals.{After-slice_known-in-Array-1}

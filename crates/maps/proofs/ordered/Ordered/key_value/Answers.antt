@@ -1,7 +1,5 @@
-use Rattle.std.proofs.Common.{Some, None, ap, refl, ◌∙◌}
-use Rattle.std.specs.Prelude.{option_copied}
+use Rattle.maps.proofs.Common.{Some, None, ap, refl, ◌∙◌, option_copied, ordered_in}
 use Rattle.maps.proofs.AllMaps.{state, pair_inside, pair_value, pair_key}
-use Rattle.maps.specs.Maps.{ordered_in}
 use Rattle.maps.proofs.ordered.Ordered.key_value.Goals as goal
 
 pub value-requires : goal.value-requires

@@ -1,5 +1,4 @@
-use Rattle.std.proofs.Common.{refl}
-use Rattle.maps.specs.Lending.{with_values-same}
+use Rattle.maps.proofs.Common.{refl, with_values-same}
 use Rattle.maps.proofs.store.Store.block_mut.Goals as goal
 
 pub returns : goal.returns

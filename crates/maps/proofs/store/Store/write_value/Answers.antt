@@ -1,7 +1,4 @@
-use Rattle.std.proofs.Common.{◌≡◌, ◌+◌, ◌*◌, ℕ, List, length, drop, sym, ap, ◌∙◌}
-use Rattle.std.proofs.lemmas.List.{take_at}
-use Rattle.std.specs.List.{splice}
-use Rattle.map_indexes.specs.BlockRowLaws.{splice_in_row, changed_row, length-changed_row, length-with_block_row}
+use Rattle.maps.proofs.Common.{◌≡◌, ◌+◌, ◌*◌, ℕ, List, length, drop, sym, ap, ◌∙◌, take_at, splice, splice_in_row, changed_row, length-changed_row, length-with_block_row}
 use Rattle.maps.proofs.store.Store.write_value.Goals as goal
 
 pub returns-clause-block : goal.returns-clause-block

@@ -1,5 +1,4 @@
-use Rattle.std.proofs.Common.{◌≡◌, ℕ, ◌+◌, ◌-◌, ◌*◌, take, drop, refl, ap, ◌∙◌, arith}
-use Rattle.maps.specs.Lending.{with_values-same}
+use Rattle.maps.proofs.Common.{◌≡◌, ℕ, ◌+◌, ◌-◌, ◌*◌, take, drop, refl, ap, ◌∙◌, arith, with_values-same}
 use Rattle.maps.proofs.store.StoreMapStore.value_mut.Goals as goal
 
 pub returns : goal.returns

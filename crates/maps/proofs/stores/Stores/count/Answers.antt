@@ -1,8 +1,4 @@
-use Rattle.std.proofs.Common.{◌≡◌, ◌<◌, ◌≤◌, List, length, All, ap, subst, ◌∙◌, arith}
-use Rattle.std.specs.Prelude.{slice_index_or}
-use Rattle.std.proofs.lemmas.List.{take_all}
-use Rattle.std.proofs.lemmas.List.Elements.{All-more}
-use Rattle.isa_model.specs.Machine.MachineStates.{AreBytes}
+use Rattle.maps.proofs.Common.{◌≡◌, ◌<◌, ◌≤◌, List, length, All, ap, subst, ◌∙◌, arith, slice_index_or, take_all, All-more, AreBytes}
 use Rattle.maps.proofs.AllMaps.{EitherStore}
 use Rattle.maps.proofs.stores.Stores.count.Goals as goal
 

@@ -1,5 +1,4 @@
-use Rattle.std.proofs.Common.{take, All}
-use Rattle.isa_model.specs.Machine.MachineStates.{AreBytes}
+use Rattle.maps.proofs.Common.{take, All, AreBytes}
 use Rattle.maps.proofs.AllMaps.{EitherStore}
 use Rattle.maps.proofs.stores.Stores.count.Given as goal
 

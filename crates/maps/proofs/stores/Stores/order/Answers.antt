@@ -1,9 +1,5 @@
-use Rattle.std.proofs.Common.{◌≡◌, ℕ, ◌<◌, List, Option, Some, map, length, refl, sym, ap, ◌∙◌, subst, arith}
-use Rattle.std.specs.Prelude.{slice_index_or}
-use Rattle.maps.specs.Maps.{MapState, ordered_in}
-use Rattle.maps.specs.StoreStates.{IsListOf}
+use Rattle.maps.proofs.Common.{◌≡◌, ℕ, ◌<◌, List, Option, Some, map, length, refl, sym, ap, ◌∙◌, subst, arith, slice_index_or, MapState, ordered_in, IsListOf, length-map}
 use Rattle.maps.proofs.AllMaps.{EitherStore, state, map_at-state}
-use Rattle.std.proofs.lemmas.List.{length-map}
 use Rattle.maps.proofs.stores.Stores.order.Goals as goal
 
 pub returns : goal.returns

@@ -1,6 +1,4 @@
-use Rattle.std.proofs.Common.{◌++◌, ℕ, List, codes, ap}
-use Rattle.image.proofs.Writing.{on_err}
-use Rattle.messages.specs.Messages.{sentence_of, position_of}
+use Rattle.messages.proofs.Common.{◌++◌, ℕ, List, codes, ap, on_err, sentence_of, position_of}
 use Rattle.messages.proofs.Written.{first_failed, ok_behind, err_behind}
 use Rattle.messages.proofs.rejections.Rejection.say.Goals as goal
 

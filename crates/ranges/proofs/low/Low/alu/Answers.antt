@@ -1,7 +1,4 @@
-use Rattle.isa_model.specs.declared.sizes.Width.TheVariants.{Low32}
-use Rattle.isa_model.specs.declared.instructions.AluOp.TheVariants.{Add, Sub, SignedDiv, SignedMod, Arsh}
-use Rattle.isa_model.specs.Code.Numbers.{alu}
-use Rattle.isa_model.specs.Code.NumberLaws.{low_same}
+use Rattle.ranges.proofs.Common.{Low32, Add, Sub, SignedDiv, SignedMod, Arsh, alu, low_same}
 use Rattle.ranges.proofs.KeepsWeaker.{kept_limits, kept_signed_limits}
 use Rattle.ranges.proofs.low.Low.alu.Goals as goal
 

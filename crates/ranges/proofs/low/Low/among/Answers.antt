@@ -1,6 +1,4 @@
-use Rattle.std.proofs.Common.{ℕ, ◌≡◌, ◌+◌, ◌<◌, ◌/◌, ◌%◌, ◌^◌, inl, inr, arith}
-use Rattle.std.proofs.lemmas.Bool.{cases_lt}
-use Rattle.ranges.specs.Joint.{IsHalfBetween}
+use Rattle.ranges.proofs.Common.{ℕ, ◌≡◌, ◌+◌, ◌<◌, ◌/◌, ◌%◌, ◌^◌, inl, inr, arith, cases_lt, IsHalfBetween}
 use Rattle.ranges.specs.Lows.{Has}
 use Rattle.ranges.proofs.EnclosesLaws.{enclosed_low}
 use Rattle.ranges.proofs.LowLaws.{reached_weaker, either_reached, among_same, among_start, among_end, among_middle}

@@ -1,5 +1,4 @@
-use Rattle.std.proofs.Common.{arith}
-use Rattle.std.proofs.lemmas.Int.{ints}
+use Rattle.ranges.proofs.Common.{arith, ints}
 use Rattle.ranges.proofs.low.Low.covers.Goals as goal
 
 pub returns-then-self-other-2 : goal.returns-then-self-other-2

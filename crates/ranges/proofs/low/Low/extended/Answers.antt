@@ -1,5 +1,4 @@
-use Rattle.std.proofs.Common.{subst, sym, arith}
-use Rattle.std.proofs.lemmas.Int.{ints}
+use Rattle.ranges.proofs.Common.{subst, sym, arith, ints}
 use Rattle.ranges.specs.Lows.{Has}
 use Rattle.ranges.proofs.Extended.{extended_half}
 use Rattle.ranges.proofs.low.Low.extended.Goals as goal

@@ -1,6 +1,4 @@
-use Rattle.std.proofs.Common.{◌+◌, inl, inr, arith}
-use Rattle.std.proofs.lemmas.Int.{ints, clamps}
-use Rattle.std.proofs.lemmas.Bool.{cases_lt}
+use Rattle.ranges.proofs.Common.{◌+◌, inl, inr, arith, ints, clamps, cases_lt}
 use borrow.Author.Differences.{up, down}
 use Rattle.ranges.proofs.low.Low.hull.Goals as goal
 

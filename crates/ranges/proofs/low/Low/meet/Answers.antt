@@ -1,6 +1,4 @@
-use Rattle.std.proofs.Common.{arith}
-use Rattle.std.proofs.lemmas.Int.{ints}
-use Rattle.std.proofs.lemmas.Option.{IfSome_then}
+use Rattle.ranges.proofs.Common.{arith, ints, IfSome_then}
 use Rattle.ranges.proofs.low.Low.meet.Goals as goal
 
 pub returns-clause-enclosed : goal.returns-clause-enclosed

@@ -1,5 +1,4 @@
-use Rattle.std.proofs.Common.{◌*◌, ◌%◌, ◌^◌, sym, subst, arith}
-use Rattle.std.specs.Prelude.{◌≤ℤ◌}
+use Rattle.std.proofs.Common.{◌*◌, ◌%◌, ◌^◌, sym, subst, arith, ◌≤ℤ◌}
 use Rattle.ranges.specs.Wides.{Has}
 use Rattle.ranges.proofs.low.Low.raised.Goals as goal
 

@@ -1,5 +1,4 @@
-use Rattle.std.proofs.Common.{◌*◌, ◌%◌, ◌^◌, ◌<◌, arith}
-use Rattle.std.proofs.lemmas.Int.{ints}
+use Rattle.ranges.proofs.Common.{◌*◌, ◌%◌, ◌^◌, ◌<◌, arith, ints}
 use Rattle.ranges.proofs.Raised.{raised_signed}
 use Rattle.ranges.proofs.low.Low.raised_signed.Goals as goal
 

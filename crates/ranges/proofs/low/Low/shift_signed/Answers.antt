@@ -1,12 +1,4 @@
-use Rattle.std.proofs.Common.{◌≡◌, ap, sym, ◌∙◌, rules, arith}
-use Rattle.std.specs.Prelude.{FitsSigned}
-use Rattle.std.specs.Int.{w32, int_shr}
-use Rattle.std.proofs.lemmas.Int.{ints}
-use Rattle.isa_model.specs.declared.sizes.Width.TheVariants.{Low32}
-use Rattle.isa_model.specs.declared.instructions.AluOp.TheVariants.{Arsh}
-use Rattle.isa_model.specs.Code.Numbers.{alu, shift}
-use Rattle.isa_model.proofs.NumberLaws.{alu_below}
-use Rattle.isa_model.specs.Code.NumberLaws.{low_same}
+use Rattle.ranges.proofs.Common.{◌≡◌, ap, sym, ◌∙◌, rules, arith, FitsSigned, w32, int_shr, ints, Low32, Arsh, alu, shift, alu_below, low_same}
 use Rattle.ranges.proofs.LowResults.{signed_kept}
 use Rattle.ranges.proofs.Raised.{shifted_low, half_fits}
 use Rattle.ranges.proofs.low.Low.shift_signed.Goals as goal

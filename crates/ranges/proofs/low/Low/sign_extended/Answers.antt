@@ -1,6 +1,4 @@
-use Rattle.std.proofs.Common.{◌≡◌, ◌<◌, ◌^◌, arith, w64}
-use Rattle.std.specs.Int.{w32, cast_signed, cast_unsigned}
-use Rattle.std.proofs.lemmas.Int.{ints}
+use Rattle.ranges.proofs.Common.{◌≡◌, ◌<◌, ◌^◌, arith, w64, w32, cast_signed, cast_unsigned, ints}
 use Rattle.ranges.proofs.LowLaws.{low_signed_equation}
 use Rattle.ranges.proofs.low.Low.sign_extended.Goals as goal
 

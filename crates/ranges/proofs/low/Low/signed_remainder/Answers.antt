@@ -1,14 +1,4 @@
-use Rattle.std.proofs.Common.{◌≡◌, w64, ap, sym, subst, ◌∙◌, rules, arith}
-use Rattle.std.specs.Prelude.{FitsSigned, int_rem, unsigned_abs}
-use Rattle.std.specs.Int.{w32, cast_signed, cast_unsigned}
-use Rattle.std.proofs.lemmas.Int.{to_z-of_z}
-use Rattle.std.proofs.Math.Facts.{sfits_to_z}
-use Rattle.isa_model.specs.declared.sizes.Width.TheVariants.{Low32}
-use Rattle.isa_model.specs.declared.instructions.AluOp.TheVariants.{SignedMod}
-use Rattle.isa_model.specs.Code.Numbers.{alu}
-use Rattle.isa_model.proofs.NumberLaws.{alu_below}
-use Rattle.isa_model.specs.Code.NumberLaws.{low_same}
-use Rattle.ranges.specs.Keeps.{KeepsSignedRemainder}
+use Rattle.ranges.proofs.Common.{◌≡◌, w64, ap, sym, subst, ◌∙◌, rules, arith, FitsSigned, int_rem, unsigned_abs, w32, cast_signed, cast_unsigned, to_z-of_z, sfits_to_z, Low32, SignedMod, alu, alu_below, low_same, KeepsSignedRemainder}
 use Rattle.ranges.specs.Wides as W
 use Rattle.ranges.specs.Lows.{Has}
 use Rattle.ranges.proofs.LowResults.{widened}

@@ -1,5 +1,4 @@
-use Rattle.std.proofs.Common.{refl, subst}
-use Rattle.isa_model.specs.declared.instructions.AluOp.TheVariants.{Add}
+use Rattle.ranges.proofs.Common.{refl, subst, Add}
 use Rattle.ranges.specs.Lows.{Has}
 use Rattle.ranges.proofs.LowResults.{low_of_extended, signed_kept, widened}
 use Rattle.ranges.proofs.low.Low.signed_sum.Goals as goal

@@ -1,8 +1,4 @@
-use Rattle.std.proofs.Common.{subst, arith}
-use Rattle.isa_model.specs.declared.sizes.Width.TheVariants.{Low32}
-use Rattle.isa_model.specs.Code.Numbers.{alu}
-use Rattle.isa_model.proofs.NumberLaws.{alu_below}
-use Rattle.isa_model.specs.Code.NumberLaws.{low_same}
+use Rattle.ranges.proofs.Common.{subst, arith, Low32, alu, alu_below, low_same}
 use Rattle.ranges.specs.Wides as W
 use Rattle.ranges.specs.Lows.{Has, IsBetween}
 use Rattle.ranges.proofs.KeepsWeaker.{keeps_weaker}

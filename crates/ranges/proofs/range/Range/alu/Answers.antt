@@ -1,6 +1,4 @@
-use Rattle.std.proofs.Common.{◌≡◌, arith, rules}
-use Rattle.std.proofs.lemmas.Int.{ints}
-use Rattle.isa_model.specs.declared.instructions.AluOp.TheVariants.{Lsh}
+use Rattle.ranges.proofs.Common.{◌≡◌, arith, rules, ints, Lsh}
 use Rattle.ranges.proofs.KeepsWeaker.{kept_limits, kept_signed_limits, kept_wide_limits, kept_wide_signed_limits}
 use Rattle.ranges.proofs.RangeLaws.{constant_tight}
 use Rattle.ranges.proofs.ConstantLaws.{OfConstants, constants_contain, constants_fit, constants_kept, constants_kept_signed, constants_kept_low, constants_kept_low_signed, constants_raised, constants_raised_signed}

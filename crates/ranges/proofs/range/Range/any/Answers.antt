@@ -1,12 +1,6 @@
-use Rattle.std.proofs.Common.{ℕ, ◌<◌, ◌%◌, ◌^◌, arith}
-use Rattle.std.proofs.Math.Nat.{mod-eq_of_lt}
-use Rattle.isa_model.specs.declared.sizes.Width.{Width}
-use Rattle.isa_model.specs.declared.sizes.Width.TheVariants.{Low32, Full64}
-use Rattle.isa_model.specs.Code.Sizes.{width_bits}
+use Rattle.ranges.proofs.Common.{ℕ, ◌<◌, ◌%◌, ◌^◌, arith, mod-eq_of_lt, Width, Low32, Full64, width_bits, Has, HasLow, Range}
 use Rattle.ranges.specs.Wides as W
 use Rattle.ranges.specs.Lows as L
-use Rattle.ranges.specs.Ranges.{Has, HasLow}
-use Rattle.ranges.specs.declared.range.Range.{Range}
 use Rattle.ranges.proofs.LowLaws.{reached_weaker}
 use Rattle.ranges.proofs.range.Range.any.Goals as goal
 

@@ -1,5 +1,4 @@
-use Rattle.std.proofs.Common.{◌%◌, ◌<◌, ◌^◌, subst, sym, arith}
-use Rattle.isa_model.specs.Code.Numbers.{alu}
+use Rattle.ranges.proofs.Common.{◌%◌, ◌<◌, ◌^◌, subst, sym, arith, alu}
 use Rattle.ranges.specs.Lows as L
 use Rattle.ranges.proofs.LowResults.{low_result}
 use Rattle.ranges.proofs.range.Range.low_alu.Goals as goal

@@ -1,5 +1,4 @@
-use Rattle.std.proofs.Common.{◌%◌, ◌^◌, subst, sym, ℕ}
-use Rattle.ranges.specs.Keeps.{extension_signed}
+use Rattle.ranges.proofs.Common.{◌%◌, ◌^◌, subst, sym, ℕ, extension_signed}
 use Rattle.ranges.specs.Lows.{Has}
 use Rattle.ranges.proofs.FitsLaws.{narrower_fits}
 use Rattle.ranges.proofs.range.Range.low_extended.Goals as goal

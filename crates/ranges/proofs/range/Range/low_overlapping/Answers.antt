@@ -1,6 +1,4 @@
-use Rattle.std.proofs.Common.{arith, bit_and, ◌<◌, ◌%◌, ◌^◌}
-use Rattle.std.proofs.lemmas.Nat.{and_le_l, and_le_r}
-use Rattle.std.proofs.lemmas.Option.{IfSome_then}
+use Rattle.ranges.proofs.Common.{arith, bit_and, ◌<◌, ◌%◌, ◌^◌, and_le_l, and_le_r, IfSome_then}
 use Rattle.ranges.proofs.range.Range.low_overlapping.Goals as goal
 
 pub returns-clause-common : goal.returns-clause-common

@@ -1,8 +1,4 @@
-use Rattle.std.proofs.Common.{◌%◌, ◌^◌, arith}
-use Rattle.std.specs.Prelude.{FitsSigned}
-use Rattle.std.specs.Int.{w32}
-use Rattle.std.proofs.lemmas.Int.{ints, to_z-of_z}
-use Rattle.std.proofs.lemmas.Option.{IfSome_then}
+use Rattle.ranges.proofs.Common.{◌%◌, ◌^◌, arith, FitsSigned, w32, ints, to_z-of_z, IfSome_then}
 use Rattle.ranges.proofs.range.Range.low_signed_from_to.Goals as goal
 
 pub returns-clause-common : goal.returns-clause-common

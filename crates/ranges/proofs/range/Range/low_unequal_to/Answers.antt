@@ -1,7 +1,4 @@
-use Rattle.std.proofs.Common.{ℕ, ◌≢◌, ◌%◌, ◌^◌, subst, sym, ◌∙◌}
-use Rattle.std.proofs.lemmas.Option.{IfSome_then, none-some}
-use Rattle.ranges.specs.Lows.{IsLimit}
-use Rattle.ranges.specs.Ranges.{Has}
+use Rattle.ranges.proofs.Common.{ℕ, ◌≢◌, ◌%◌, ◌^◌, subst, sym, ◌∙◌, IfSome_then, none-some, IsLimit, Has}
 use Rattle.ranges.proofs.range.Range.low_unequal_to.Goals as goal
 
 pub returns-in-Some-clause-limit : goal.returns-in-Some-clause-limit

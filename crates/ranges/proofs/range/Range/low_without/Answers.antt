@@ -1,6 +1,4 @@
-use Rattle.std.proofs.Common.{◌≡◌, inl, inr, arith}
-use Rattle.std.specs.Int.{w32, cast_signed}
-use Rattle.std.proofs.lemmas.Int.{ints}
+use Rattle.ranges.proofs.Common.{◌≡◌, inl, inr, arith, w32, cast_signed, ints}
 use Rattle.ranges.proofs.range.Range.low_without.Goals as goal
 
 pub returns-in_err-unsigned-clause-common : goal.returns-in_err-unsigned-clause-common

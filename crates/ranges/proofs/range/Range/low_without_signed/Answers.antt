@@ -1,7 +1,4 @@
-use Rattle.std.proofs.Common.{ℕ, ◌≢◌, ◌<◌, ◌^◌, ◌%◌, sym, ap, ◌∙◌, arith}
-use Rattle.std.specs.Int.{w32, cast_signed, cast_unsigned}
-use Rattle.std.proofs.lemmas.Int.{ints, of_z-to_z}
-use Rattle.std.proofs.lemmas.Option.{IfSome_then}
+use Rattle.ranges.proofs.Common.{ℕ, ◌≢◌, ◌<◌, ◌^◌, ◌%◌, sym, ap, ◌∙◌, arith, w32, cast_signed, cast_unsigned, ints, of_z-to_z, IfSome_then}
 use Rattle.ranges.proofs.range.Range.low_without_signed.Goals as goal
 
 -- numbers that differ do so read with a sign

@@ -1,6 +1,4 @@
-use Rattle.std.proofs.lemmas.Option.{IfSome_then}
-use Rattle.ranges.specs.declared.range.Range.{Range}
-use Rattle.ranges.specs.Ranges.{Encloses}
+use Rattle.ranges.proofs.Common.{IfSome_then, Range, Encloses}
 use Rattle.ranges.proofs.EnclosesLaws.{enclosed_has}
 use Rattle.ranges.proofs.RangeLaws.{wide_trans, low_trans}
 use Rattle.ranges.proofs.range.Range.meet.Goals as goal

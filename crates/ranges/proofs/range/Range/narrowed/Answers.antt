@@ -1,12 +1,5 @@
-use Rattle.std.proofs.Common.{ℕ, ◌≡◌, ◌≤◌, ◌%◌, ◌^◌, ◌∙◌, sym, subst, ap, inl, inr, w64, arith}
-use Rattle.std.specs.Prelude.{◌≤ℤ◌}
-use Rattle.std.specs.Int.{cast_signed, cast_unsigned}
-use Rattle.std.proofs.lemmas.Int.{ints, of_z-to_z}
-use Rattle.isa_model.specs.Code.NumberLaws.{signed_equation}
-use Rattle.ranges.specs.Joint.{IsHalfBetween}
+use Rattle.ranges.proofs.Common.{ℕ, ◌≡◌, ◌≤◌, ◌%◌, ◌^◌, ◌∙◌, sym, subst, ap, inl, inr, w64, arith, ◌≤ℤ◌, cast_signed, cast_unsigned, ints, of_z-to_z, signed_equation, IsHalfBetween, Has, HasLow, Range}
 use Rattle.ranges.specs.Lows as L
-use Rattle.ranges.specs.Ranges.{Has, HasLow}
-use Rattle.ranges.specs.declared.range.Range.{Range}
 use Rattle.ranges.proofs.LowLaws.{reached_weaker}
 use Rattle.ranges.proofs.range.Range.narrowed.Goals as goal
 

@@ -1,6 +1,4 @@
-use Rattle.std.proofs.Common.{rules, w64}
-use Rattle.std.specs.Prelude.{FitsSigned}
-use Rattle.std.specs.Int.{w32}
+use Rattle.ranges.proofs.Common.{rules, w64, FitsSigned, w32}
 use Rattle.ranges.proofs.LowResults.{reads_difference}
 use Rattle.ranges.proofs.Limits.{negative_fits}
 use Rattle.ranges.proofs.range.Range.negate.Goals as goal

@@ -1,9 +1,5 @@
-use Rattle.std.proofs.Common.{◌≡◌, ℕ, ◌+◌, ◌-◌, ◌/◌, ◌%◌, ◌^◌, ◌≤◌, ap, sym, subst, arith}
-use Rattle.std.proofs.lemmas.Nat.{mod_below, pow_pos}
+use Rattle.ranges.proofs.Common.{◌≡◌, ℕ, ◌+◌, ◌-◌, ◌/◌, ◌%◌, ◌^◌, ◌≤◌, ap, sym, subst, arith, mod_below, pow_pos, mod-eq_of_lt, Has, div_mono}
 use Rattle.std.proofs.lemmas.Nat.Bits.{ones_shr}
-use Rattle.std.proofs.Math.Nat.{mod-eq_of_lt}
-use Rattle.ranges.specs.Ranges.{Has}
-use Rattle.isa_model.proofs.NumberLaws.{div_mono}
 use Rattle.ranges.proofs.range.Range.part.Goals as goal
 
 most_is : (count : ℕ) → count ≤ 64 → (2 ^ 64 - 1) / 2 ^ (64 - count) + 1 ≡ 2 ^ count

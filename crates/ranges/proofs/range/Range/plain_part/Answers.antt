@@ -1,5 +1,4 @@
-use Rattle.std.proofs.Common.{arith}
-use Rattle.std.proofs.lemmas.Option.{IfSome_then}
+use Rattle.ranges.proofs.Common.{arith, IfSome_then}
 use Rattle.ranges.proofs.RangeLaws.{wide_trans}
 use Rattle.ranges.proofs.range.Range.plain_part.Goals as goal
 

@@ -1,11 +1,6 @@
-use Rattle.std.proofs.Common.{ℕ, ◌≡◌, ◌%◌, ◌<◌, ◌^◌, subst, ap, ◌∙◌, arith}
-use Rattle.std.proofs.Math.Nat.{mod-eq_of_lt}
+use Rattle.ranges.proofs.Common.{ℕ, ◌≡◌, ◌%◌, ◌<◌, ◌^◌, subst, ap, ◌∙◌, arith, mod-eq_of_lt, reordered, reordered_below, span_bits, Has}
 use Rattle.isa_model.specs.declared.sizes.SwapWidth.{SwapWidth}
 use Rattle.isa_model.specs.declared.sizes.SwapWidth.TheVariants.{B16, B32, B64}
-use Rattle.isa_model.specs.Code.Numbers.{reordered}
-use Rattle.isa_model.proofs.NumberLaws.{reordered_below}
-use Rattle.isa_model.specs.Code.Sizes.{span_bits}
-use Rattle.ranges.specs.Ranges.{Has}
 use Rattle.ranges.proofs.RangeLaws.{constant_tight}
 use Rattle.ranges.proofs.range.Range.reorder.Goals as goal
 

@@ -1,7 +1,4 @@
-use Rattle.std.proofs.Common.{◌≡◌, subst, sym, ◌∙◌, arith}
-use Rattle.std.proofs.lemmas.Int.{ints}
-use Rattle.isa_model.specs.declared.sizes.Width.TheVariants.{Full64}
-use Rattle.isa_model.specs.Code.Numbers.{shift}
+use Rattle.ranges.proofs.Common.{◌≡◌, subst, sym, ◌∙◌, arith, ints, Full64, shift}
 use Rattle.ranges.specs.Wides as W
 use Rattle.ranges.proofs.Raised.{shifted_raised}
 use Rattle.ranges.proofs.range.Range.shifted_left.Goals as goal

@@ -1,8 +1,4 @@
-use Rattle.std.proofs.Common.{◌≡◌, ◌%◌, ◌^◌, arith, subst, ap, ◌∙◌}
-use Rattle.isa_model.specs.Code.Numbers.{sign_extended}
-use Rattle.isa_model.proofs.ExtensionLaws.{sign_extended_below}
-use Rattle.ranges.specs.Keeps.{extension_signed}
-use Rattle.ranges.specs.Ranges.{Has}
+use Rattle.ranges.proofs.Common.{◌≡◌, ◌%◌, ◌^◌, arith, subst, ap, ◌∙◌, sign_extended, sign_extended_below, extension_signed, Has}
 use Rattle.ranges.proofs.Limits.{extended_same, extended_signed, extended_small}
 use Rattle.ranges.proofs.Extended.{extended_half, half_extended_signed}
 use Rattle.ranges.proofs.FitsLaws.{narrower_fits}

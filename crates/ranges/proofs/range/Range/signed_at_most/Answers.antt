@@ -1,6 +1,4 @@
-use Rattle.std.proofs.Common.{arith}
-use Rattle.std.proofs.lemmas.Int.{ints}
-use Rattle.std.proofs.lemmas.Option.{IfSome_then}
+use Rattle.ranges.proofs.Common.{arith, ints, IfSome_then}
 use Rattle.ranges.proofs.range.Range.signed_at_most.Goals as goal
 
 pub returns-clause-common : goal.returns-clause-common

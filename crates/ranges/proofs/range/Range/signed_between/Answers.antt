@@ -1,6 +1,4 @@
-use Rattle.std.proofs.Common.{rules, arith, w64}
-use Rattle.std.specs.Prelude.{FitsSigned}
-use Rattle.std.proofs.lemmas.Int.{to_z-of_z}
+use Rattle.ranges.proofs.Common.{rules, arith, w64, FitsSigned, to_z-of_z}
 use Rattle.ranges.proofs.RangeLaws.{signed_between_tight}
 use Rattle.ranges.proofs.range.Range.signed_between.Goals as goal
 

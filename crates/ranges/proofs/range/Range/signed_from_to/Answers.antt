@@ -1,7 +1,4 @@
-use Rattle.std.proofs.Common.{w64}
-use Rattle.std.specs.Prelude.{FitsSigned}
-use Rattle.std.proofs.lemmas.Int.{to_z-of_z}
-use Rattle.std.proofs.lemmas.Option.{IfSome_then}
+use Rattle.ranges.proofs.Common.{w64, FitsSigned, to_z-of_z, IfSome_then}
 use Rattle.ranges.proofs.range.Range.signed_from_to.Goals as goal
 
 pub returns-clause-common : goal.returns-clause-common

@@ -1,5 +1,4 @@
-use Rattle.std.proofs.Common.{sym, subst}
-use Rattle.ranges.specs.Ranges.{Has}
+use Rattle.ranges.proofs.Common.{sym, subst, Has}
 use Rattle.ranges.proofs.EnclosesLaws.{constant_enclosed}
 use Rattle.ranges.proofs.RangeLaws.{constant_tight}
 use Rattle.ranges.proofs.range.Range.tightened.Goals as goal

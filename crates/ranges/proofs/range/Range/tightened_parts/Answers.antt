@@ -1,9 +1,6 @@
-use Rattle.std.proofs.Common.{◌^◌, inl, inr}
-use Rattle.std.proofs.lemmas.Bool.{cases_lt}
-use Rattle.std.proofs.lemmas.Option.{IfSome_then}
+use Rattle.ranges.proofs.Common.{◌^◌, inl, inr, cases_lt, IfSome_then, Encloses}
 use Rattle.ranges.proofs.EnclosesLaws.{enclosed_has}
 use Rattle.ranges.proofs.RangeLaws.{low_trans, either_tight}
-use Rattle.ranges.specs.Ranges.{Encloses}
 use Rattle.ranges.proofs.range.Range.tightened_parts.Goals as goal
 
 pub returns-then-covers-clause-common : goal.returns-then-covers-clause-common

@@ -1,12 +1,6 @@
-use Rattle.std.proofs.Common.{ℕ, ◌≡◌, ◌%◌, ◌^◌, ◌∙◌, sym, subst, ap, rules, w32, w64, arith}
-use Rattle.std.specs.Prelude.{◌≤ℤ◌, FitsSigned}
-use Rattle.std.specs.Int.{cast_signed, cast_unsigned}
-use Rattle.std.proofs.lemmas.Int.{ints, of_z-to_z, to_z-of_z}
-use Rattle.std.proofs.Math.Nat.{mod-eq_of_lt}
-use Rattle.isa_model.specs.Code.NumberLaws.{signed_equation}
+use Rattle.std.proofs.Common.{ℕ, ◌≡◌, ◌%◌, ◌^◌, ◌∙◌, sym, subst, ap, rules, w32, w64, arith, ◌≤ℤ◌, FitsSigned}
+use Rattle.ranges.proofs.Common.{cast_signed, cast_unsigned, ints, of_z-to_z, to_z-of_z, mod-eq_of_lt, signed_equation, Has, HasLow, Range}
 use Rattle.ranges.specs.Lows as L
-use Rattle.ranges.specs.Ranges.{Has, HasLow}
-use Rattle.ranges.specs.declared.range.Range.{Range}
 use Rattle.ranges.proofs.LowLaws.{reached_weaker}
 use Rattle.ranges.proofs.RangeLaws.{wide_trans}
 use Rattle.ranges.proofs.range.Range.tightened_small.Goals as goal

@@ -1,5 +1,4 @@
-use Rattle.std.proofs.Common.{ℕ, subst, refl, sym, ◌∙◌}
-use Rattle.std.proofs.lemmas.Option.{IfSome_then, none-some}
+use Rattle.ranges.proofs.Common.{ℕ, subst, refl, sym, ◌∙◌, IfSome_then, none-some}
 use Rattle.ranges.specs.Ranges.{Has, IsLimit}
 use Rattle.ranges.proofs.range.Range.unequal_to.Goals as goal
 

@@ -1,7 +1,5 @@
-use Rattle.std.proofs.Common.{ℕ}
+use Rattle.ranges.proofs.Common.{ℕ, Has, HasLow, Range}
 use Rattle.ranges.specs.Wides as W
-use Rattle.ranges.specs.Ranges.{Has, HasLow}
-use Rattle.ranges.specs.declared.range.Range.{Range}
 use Rattle.ranges.proofs.LowLaws.{reached_weaker}
 use Rattle.ranges.proofs.range.Range.within_limits.Goals as goal
 

@@ -1,6 +1,5 @@
-use Rattle.std.proofs.Common.{◌≡◌, inl, inr, arith}
+use Rattle.ranges.proofs.Common.{◌≡◌, inl, inr, arith, ints}
 use Rattle.std.specs.Int.{w64, cast_signed}
-use Rattle.std.proofs.lemmas.Int.{ints}
 use Rattle.ranges.proofs.range.Range.without.Goals as goal
 
 pub returns-in_err-unsigned-clause-common : goal.returns-in_err-unsigned-clause-common

@@ -1,6 +1,4 @@
-use Rattle.std.proofs.Common.{arith, rules, w64, ◌+◌, ◌%◌, ◌^◌, ◌<◌}
-use Rattle.std.specs.Prelude.{FitsSigned}
-use Rattle.std.proofs.lemmas.Int.{to_z-of_z}
+use Rattle.ranges.proofs.Common.{arith, rules, w64, ◌+◌, ◌%◌, ◌^◌, ◌<◌, FitsSigned, to_z-of_z}
 use Rattle.ranges.proofs.Limits.{sum_from, sum_to}
 use Rattle.ranges.proofs.wide.Wide.add_signed.Goals as goal
 

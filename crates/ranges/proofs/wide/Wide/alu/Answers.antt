@@ -1,8 +1,4 @@
-use Rattle.std.proofs.Common.{arith, ◌<◌, ◌^◌}
-use Rattle.std.proofs.lemmas.Int.{ints}
-use Rattle.isa_model.specs.Code.Numbers.{alu}
-use Rattle.isa_model.proofs.NumberLaws.{alu_below, low_below}
-use Rattle.isa_model.specs.Code.Sizes.{width_bits}
+use Rattle.ranges.proofs.Common.{arith, ◌<◌, ◌^◌, ints, alu, alu_below, low_below, width_bits}
 use Rattle.ranges.proofs.wide.Wide.alu.Goals as goal
 
 pub returns-in-Add-clause-contains : goal.returns-in-Add-clause-contains

@@ -1,5 +1,4 @@
-use Rattle.std.proofs.Common.{arith, ◌≤◌, bit_and}
-use Rattle.std.proofs.lemmas.Nat.{and_le_l, and_le_r}
+use Rattle.ranges.proofs.Common.{arith, ◌≤◌, bit_and, and_le_l, and_le_r}
 use Rattle.ranges.proofs.wide.Wide.and.Goals as goal
 
 pub returns-clause-contains : goal.returns-clause-contains

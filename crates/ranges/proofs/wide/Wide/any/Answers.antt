@@ -1,5 +1,4 @@
-use Rattle.std.proofs.Common.{rules, arith, w64}
-use Rattle.std.specs.Prelude.{FitsSigned}
+use Rattle.std.proofs.Common.{rules, arith, w64, FitsSigned}
 use Rattle.ranges.proofs.RangeLaws.{between_tight}
 use Rattle.ranges.proofs.wide.Wide.any.Goals as goal
 

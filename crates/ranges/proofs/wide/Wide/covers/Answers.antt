@@ -1,5 +1,4 @@
-use Rattle.std.proofs.Common.{arith}
-use Rattle.std.proofs.lemmas.Int.{ints}
+use Rattle.ranges.proofs.Common.{arith, ints}
 use Rattle.ranges.proofs.wide.Wide.covers.Goals as goal
 
 pub returns-then-self-other-2-clause-yes : goal.returns-then-self-other-2-clause-yes

@@ -1,9 +1,4 @@
-use Rattle.std.proofs.Common.{◌≡◌, w64, ap, sym, subst, ◌∙◌, rules, arith}
-use Rattle.std.specs.Prelude.{FitsSigned, int_div}
-use Rattle.std.specs.Int.{cast_signed, cast_unsigned}
-use Rattle.std.proofs.lemmas.Int.{to_z-of_z}
-use Rattle.isa_model.specs.declared.sizes.Width.TheVariants.{Full64}
-use Rattle.isa_model.specs.declared.instructions.AluOp.TheVariants.{SignedDiv}
+use Rattle.ranges.proofs.Common.{◌≡◌, w64, ap, sym, subst, ◌∙◌, rules, arith, FitsSigned, int_div, cast_signed, cast_unsigned, to_z-of_z, Full64, SignedDiv}
 use Rattle.ranges.specs.Wides.{Has}
 use Rattle.ranges.proofs.QuotientLaws.{quotient_is, result_below}
 use Rattle.ranges.proofs.wide.Wide.full_quotient.Goals as goal

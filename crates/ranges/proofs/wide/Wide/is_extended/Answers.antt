@@ -1,9 +1,4 @@
-use Rattle.std.proofs.Common.{arith, rules, ◌≡◌, sym, w64}
-use Rattle.std.specs.Prelude.{◌≤ℤ◌, FitsSigned}
-use Rattle.std.proofs.lemmas.Int.{ints, to_z-of_z}
-use Rattle.isa_model.specs.declared.sizes.Width.TheVariants.{Full64}
-use Rattle.isa_model.proofs.ExtensionLaws.{sign_extended-small}
-use Rattle.isa_model.specs.Code.Sizes.{extension_width}
+use Rattle.ranges.proofs.Common.{arith, rules, ◌≡◌, sym, w64, ◌≤ℤ◌, FitsSigned, ints, to_z-of_z, Full64, sign_extended-small, extension_width}
 use Rattle.ranges.proofs.Limits.{extended_same, sign_bit_fits, test_le}
 use Rattle.ranges.proofs.wide.Wide.is_extended.Goals as goal
 

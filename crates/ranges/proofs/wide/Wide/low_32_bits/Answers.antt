@@ -1,5 +1,4 @@
-use Rattle.std.proofs.Common.{arith, ◌%◌, ◌^◌}
-use Rattle.std.proofs.lemmas.Nat.{and_mask}
+use Rattle.ranges.proofs.Common.{arith, ◌%◌, ◌^◌, and_mask}
 use Rattle.ranges.proofs.wide.Wide.low_32_bits.Goals as goal
 
 pub returns-then-self-clause-contains : goal.returns-then-self-clause-contains

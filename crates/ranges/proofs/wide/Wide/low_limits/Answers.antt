@@ -1,9 +1,5 @@
-use Rattle.std.proofs.Common.{◌^◌, inl, inr, arith}
-use Rattle.std.proofs.lemmas.Int.{ints}
-use Rattle.std.proofs.lemmas.Bool.{cases_lt}
+use Rattle.ranges.proofs.Common.{◌^◌, inl, inr, arith, ints, cases_lt, IsHalfBetween, HasHalf}
 use Rattle.ranges.proofs.EnclosesLaws.{enclosed_low}
-use Rattle.ranges.specs.Joint.{IsHalfBetween}
-use Rattle.ranges.specs.Wides.{HasHalf}
 use Rattle.ranges.proofs.LowLaws.{reached_weaker, either_reached, fits_between}
 use Rattle.ranges.proofs.RangeLaws.{among_half}
 use Rattle.ranges.proofs.wide.Wide.low_limits.Goals as goal

@@ -1,6 +1,4 @@
-use Rattle.std.proofs.Common.{arith, ◌*◌, ◌%◌, ◌^◌, ◌<◌}
-use Rattle.std.proofs.lemmas.Nat.{mul-le}
-use Rattle.std.proofs.Math.Nat.{mod-eq_of_lt}
+use Rattle.ranges.proofs.Common.{arith, ◌*◌, ◌%◌, ◌^◌, ◌<◌, mul-le, mod-eq_of_lt}
 use Rattle.ranges.proofs.wide.Wide.mul.Goals as goal
 
 pub returns-in-Some-clause-contains : goal.returns-in-Some-clause-contains

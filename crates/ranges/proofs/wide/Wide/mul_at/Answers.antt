@@ -1,5 +1,4 @@
-use Rattle.std.proofs.Common.{◌*◌, arith}
-use Rattle.isa_model.proofs.NumberLaws.{low_wrapped, width_fits}
+use Rattle.ranges.proofs.Common.{◌*◌, arith, low_wrapped, width_fits}
 use Rattle.ranges.proofs.wide.Wide.mul_at.Goals as goal
 
 pub returns-clause-contains : goal.returns-clause-contains

@@ -1,6 +1,4 @@
-use Rattle.std.proofs.Common.{arith}
-use Rattle.std.proofs.lemmas.Int.{ints, clamps}
-use Rattle.isa_model.specs.Code.NumberLaws.{signed_equation}
+use Rattle.ranges.proofs.Common.{arith, ints, clamps, signed_equation}
 use Rattle.ranges.proofs.wide.Wide.plain_part.Goals as goal
 
 pub returns-clause-common : goal.returns-clause-common

@@ -1,6 +1,4 @@
-use Rattle.std.proofs.Common.{◌+◌, ◌^◌, ◌<◌, arith, sym, subst}
-use Rattle.isa_model.specs.declared.instructions.AluOp.TheVariants.{SignedMod}
-use Rattle.isa_model.specs.Code.Sizes.{width_bits}
+use Rattle.ranges.proofs.Common.{◌+◌, ◌^◌, ◌<◌, arith, sym, subst, SignedMod, width_bits}
 use Rattle.ranges.specs.Wides.{Has}
 use Rattle.ranges.proofs.QuotientLaws.{plain_remainder, result_below}
 use Rattle.ranges.proofs.wide.Wide.plain_remainder.Goals as goal

@@ -1,7 +1,4 @@
-use Rattle.std.proofs.Common.{ℤ, pos, negsuc, w64, rules, arith}
-use Rattle.std.specs.Prelude.{◌<ℤ◌, ◌≤ℤ◌, FitsSigned, int_div}
-use Rattle.std.specs.Int.{cast_signed, cast_unsigned}
-use Rattle.std.proofs.lemmas.Int.{ints, to_z-of_z, quot_fits}
+use Rattle.ranges.proofs.Common.{ℤ, pos, negsuc, w64, rules, arith, ◌<ℤ◌, ◌≤ℤ◌, FitsSigned, int_div, cast_signed, cast_unsigned, ints, to_z-of_z, quot_fits}
 use Rattle.ranges.proofs.Limits.{cast_fits, signed_below_64}
 use Rattle.ranges.proofs.QuotientLaws.{quotient_up}
 use Rattle.ranges.proofs.wide.Wide.quotient_by_positive.Goals as goal

@@ -1,5 +1,4 @@
-use Rattle.std.proofs.Common.{arith, ◌%◌, cond}
-use Rattle.std.specs.Prelude.{nat_eq}
+use Rattle.std.proofs.Common.{arith, ◌%◌, cond, nat_eq}
 use Rattle.ranges.proofs.Limits.{self_or_mod, mod_not_by_zero}
 use Rattle.ranges.proofs.wide.Wide.remainder.Goals as goal
 

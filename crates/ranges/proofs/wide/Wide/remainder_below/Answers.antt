@@ -1,6 +1,4 @@
-use Rattle.std.proofs.Common.{w64, rules, arith}
-use Rattle.std.specs.Prelude.{FitsSigned}
-use Rattle.std.proofs.lemmas.Int.{ints, clamps}
+use Rattle.ranges.proofs.Common.{w64, rules, arith, FitsSigned, ints, clamps}
 use Rattle.ranges.proofs.wide.Wide.remainder_below.Goals as goal
 
 pub signed_between-requires : goal.signed_between-requires

@@ -1,6 +1,4 @@
-use Rattle.std.proofs.Common.{◌≡◌, ◌*◌, ◌^◌, ap, sym, ◌∙◌, arith}
-use Rattle.isa_model.specs.Code.Numbers.{shift}
-use Rattle.isa_model.proofs.NumberLaws.{low_wrapped, low_below}
+use Rattle.ranges.proofs.Common.{◌≡◌, ◌*◌, ◌^◌, ap, sym, ◌∙◌, arith, shift, low_wrapped, low_below}
 use Rattle.ranges.proofs.wide.Wide.shift_left_at.Goals as goal
 
 pub returns-then-other-clause-contains : goal.returns-then-other-clause-contains

@@ -1,6 +1,4 @@
-use Rattle.std.proofs.Common.{◌≡◌, ◌/◌, ◌^◌, ap, sym, ◌∙◌, arith}
-use Rattle.std.proofs.Math.Nat.{div-le_self}
-use Rattle.isa_model.specs.Code.Numbers.{shift}
+use Rattle.ranges.proofs.Common.{◌≡◌, ◌/◌, ◌^◌, ap, sym, ◌∙◌, arith, div-le_self, shift}
 use Rattle.ranges.proofs.wide.Wide.shift_right_at.Goals as goal
 
 pub returns-then-other-clause-contains : goal.returns-then-other-clause-contains

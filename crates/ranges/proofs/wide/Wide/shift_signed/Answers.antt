@@ -1,7 +1,4 @@
-use Rattle.std.proofs.Common.{rules, w64, ◌^◌}
-use Rattle.std.specs.Prelude.{FitsSigned}
-use Rattle.std.specs.Int.{cast_signed, cast_unsigned, int_shr}
-use Rattle.std.proofs.lemmas.Int.{to_z-of_z}
+use Rattle.ranges.proofs.Common.{rules, w64, ◌^◌, FitsSigned, cast_signed, cast_unsigned, int_shr, to_z-of_z}
 use Rattle.ranges.proofs.Limits.{shr_mono, shr_fits, cast_fits, signed_below_64}
 use Rattle.ranges.proofs.wide.Wide.shift_signed.Goals as goal
 

@@ -1,7 +1,4 @@
-use Rattle.std.proofs.Common.{◌≡◌, ◌%◌, ◌^◌, ◌<◌, ap, sym, ◌∙◌, arith}
-use Rattle.std.proofs.Math.Nat.{mod-eq_of_lt}
-use Rattle.isa_model.specs.Code.Numbers.{shift}
-use Rattle.isa_model.proofs.NumberLaws.{arithmetic_shift_below}
+use Rattle.ranges.proofs.Common.{◌≡◌, ◌%◌, ◌^◌, ◌<◌, ap, sym, ◌∙◌, arith, mod-eq_of_lt, shift, arithmetic_shift_below}
 use Rattle.ranges.proofs.wide.Wide.shift_signed_at.Goals as goal
 
 pub returns-then-other-clause-contains : goal.returns-then-other-clause-contains

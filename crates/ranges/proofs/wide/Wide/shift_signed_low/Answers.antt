@@ -1,6 +1,4 @@
-use Rattle.std.proofs.Common.{arith}
-use Rattle.isa_model.proofs.NumberLaws.{arithmetic_shift_below}
-use Rattle.isa_model.specs.declared.sizes.Width.TheVariants.{Low32}
+use Rattle.ranges.proofs.Common.{arith, arithmetic_shift_below, Low32}
 use Rattle.ranges.proofs.Limits.{shift_low_small}
 use Rattle.ranges.proofs.wide.Wide.shift_signed_low.Goals as goal
 

@@ -1,5 +1,4 @@
-use Rattle.std.proofs.Common.{arith, ◌≡◌, ◌∙◌}
-use Rattle.isa_model.proofs.ExtensionLaws.{sign_extended_below}
+use Rattle.ranges.proofs.Common.{arith, ◌≡◌, ◌∙◌, sign_extended_below}
 use Rattle.ranges.proofs.Limits.{extended_same, extended_signed, extended_small}
 use Rattle.ranges.proofs.wide.Wide.sign_extend.Goals as goal
 

@@ -1,9 +1,4 @@
-use Rattle.std.proofs.Common.{◌^◌, ◌<◌, arith}
-use Rattle.std.proofs.lemmas.Int.{ints}
-use Rattle.isa_model.specs.declared.sizes.Width.TheVariants.{Full64}
-use Rattle.isa_model.specs.declared.instructions.AluOp.TheVariants.{SignedDiv}
-use Rattle.isa_model.specs.Code.Sizes.{width_bits}
-use Rattle.ranges.specs.Wides.{IsSignedBetween}
+use Rattle.ranges.proofs.Common.{◌^◌, ◌<◌, arith, ints, Full64, SignedDiv, width_bits, IsSignedBetween}
 use Rattle.ranges.proofs.KeepsWeaker.{keeps_signed_weaker}
 use Rattle.ranges.proofs.wide.Wide.signed_divide_at.Goals as goal
 

@@ -1,11 +1,4 @@
-use Rattle.std.proofs.Common.{◌≡◌, false, ℤ, pos, negsuc, zero, suc, w64, arith, refl}
-use Rattle.std.specs.Prelude.{◌<ℤ◌, FitsSigned, int_div, int_lt}
-use Rattle.std.specs.Int.{cast_signed, cast_unsigned}
-use Rattle.std.proofs.lemmas.Int.{ints, to_z-of_z}
-use Rattle.std.proofs.Math.Nat.{div-zero}
-use Rattle.ranges.specs.Keeps.{KeepsSignedQuotient}
-use Rattle.ranges.specs.Wides.{IsSignedBetween}
-use Rattle.ranges.specs.declared.wide.Wide.{Wide}
+use Rattle.ranges.proofs.Common.{◌≡◌, false, ℤ, pos, negsuc, zero, suc, w64, arith, refl, ◌<ℤ◌, FitsSigned, int_div, int_lt, cast_signed, cast_unsigned, ints, to_z-of_z, div-zero, KeepsSignedQuotient, IsSignedBetween, Wide}
 use Rattle.ranges.proofs.wide.Wide.signed_quotient.Goals as goal
 
 by_zero : (a : ℤ) → int_div a (pos 0) ≡ pos 0

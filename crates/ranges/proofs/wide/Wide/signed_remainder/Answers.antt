@@ -1,11 +1,5 @@
-use Rattle.std.proofs.Common.{◌≡◌, ℕ, zero, suc, ◌-◌, ◌<◌, ℤ, pos, negsuc, w64, rules, arith, refl}
-use Rattle.std.specs.Prelude.{◌-ℤ◌, FitsSigned, unsigned_abs, int_rem}
-use Rattle.std.specs.Int.{cast_signed, cast_unsigned, int_min, int_max}
-use Rattle.std.proofs.lemmas.Int.{ints, to_z-of_z}
+use Rattle.ranges.proofs.Common.{◌≡◌, ℕ, zero, suc, ◌-◌, ◌<◌, ℤ, pos, negsuc, w64, rules, arith, refl, ◌-ℤ◌, FitsSigned, unsigned_abs, int_rem, cast_signed, cast_unsigned, int_min, int_max, ints, to_z-of_z, KeepsSignedRemainder, IsSignedBetween, Wide}
 use Rattle.ranges.proofs.Limits.{cast_fits, signed_below_64}
-use Rattle.ranges.specs.Keeps.{KeepsSignedRemainder}
-use Rattle.ranges.specs.Wides.{IsSignedBetween}
-use Rattle.ranges.specs.declared.wide.Wide.{Wide}
 use Rattle.ranges.proofs.QuotientLaws.{remainder_fits, remainder_within, remainder_near, negative_of}
 use Rattle.ranges.proofs.wide.Wide.signed_remainder.Goals as goal
 

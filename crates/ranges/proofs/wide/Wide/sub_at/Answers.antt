@@ -1,7 +1,4 @@
-use Rattle.std.proofs.Common.{arith, ◌<◌, ◌^◌}
-use Rattle.std.proofs.lemmas.Int.{ints}
-use Rattle.isa_model.specs.Code.Sizes.{width_bits}
-use Rattle.isa_model.proofs.NumberLaws.{low_difference}
+use Rattle.ranges.proofs.Common.{arith, ◌<◌, ◌^◌, ints, width_bits, low_difference}
 use Rattle.ranges.proofs.wide.Wide.sub_at.Goals as goal
 
 pub returns-clause-contains : goal.returns-clause-contains

@@ -1,6 +1,4 @@
-use Rattle.std.proofs.Common.{arith, rules, w64, ◌+◌, ◌-◌, ◌%◌, ◌^◌, ◌<◌}
-use Rattle.std.specs.Prelude.{FitsSigned}
-use Rattle.std.proofs.lemmas.Int.{to_z-of_z}
+use Rattle.ranges.proofs.Common.{arith, rules, w64, ◌+◌, ◌-◌, ◌%◌, ◌^◌, ◌<◌, FitsSigned, to_z-of_z}
 use Rattle.ranges.proofs.Limits.{difference_from, difference_to}
 use Rattle.ranges.proofs.wide.Wide.sub_signed.Goals as goal
 

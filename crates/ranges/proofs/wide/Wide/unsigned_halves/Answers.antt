@@ -1,9 +1,5 @@
-use Rattle.std.proofs.Common.{ℕ, ◌≡◌, ◌<◌, ◌%◌, ◌^◌, rules, w32, arith}
-use Rattle.std.specs.Prelude.{FitsSigned}
-use Rattle.std.proofs.lemmas.Int.{ints}
-use Rattle.std.proofs.Math.Nat.{mod-eq_of_lt}
-use Rattle.isa_model.specs.Code.NumberLaws.{signed_equation}
-use Rattle.ranges.specs.Joint.{IsHalfBetween}
+use Rattle.std.proofs.Common.{ℕ, ◌≡◌, ◌<◌, ◌%◌, ◌^◌, rules, w32, arith, FitsSigned}
+use Rattle.ranges.proofs.Common.{ints, mod-eq_of_lt, signed_equation, IsHalfBetween}
 use Rattle.ranges.specs.Lows.{Has}
 use Rattle.ranges.proofs.LowLaws.{reached_weaker, low_between_tight, low_signed_equation}
 use Rattle.ranges.proofs.wide.Wide.unsigned_halves.Goals as goal

@@ -1,5 +1,4 @@
-use Rattle.std.proofs.Common.{arith}
-use Rattle.std.proofs.lemmas.Int.{ints, clamps}
+use Rattle.ranges.proofs.Common.{arith, ints, clamps}
 use Rattle.ranges.proofs.wide.Wide.within.Goals as goal
 
 pub returns-then-least-greatest-clause-common : goal.returns-then-least-greatest-clause-common

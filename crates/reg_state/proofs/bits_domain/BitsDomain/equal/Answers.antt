@@ -1,10 +1,4 @@
-use Rattle.std.proofs.Common.{ℕ, ◌≡◌, subst, sym}
-use Rattle.std.specs.Prelude.{IsSomeAnd}
-use Rattle.std.proofs.lemmas.Option.{IfSome_then}
-use Rattle.known_bits.specs.Bits.{Has}
-use Rattle.isa_model.specs.Code.Numbers.{low}
-use Rattle.isa_model.specs.declared.sizes.Width.TheVariants.{Low32, Full64}
-use Rattle.isa_model.specs.Code.NumberLaws.{low_same}
+use Rattle.reg_state.proofs.Common.{ℕ, ◌≡◌, subst, sym, IsSomeAnd, IfSome_then, Has, low, Low32, Full64, low_same}
 use Rattle.reg_state.proofs.bits_domain.BitsDomain.equal.Goals as goal
 
 pub returns-in-Full64-clause-common : goal.returns-in-Full64-clause-common

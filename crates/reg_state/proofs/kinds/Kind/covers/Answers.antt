@@ -1,7 +1,4 @@
-use Rattle.std.specs.Prelude.{ℕ}
-use Rattle.reg_state.specs.declared.kinds.Kind.{Kind}
-use Rattle.reg_state.specs.declared.kinds.Kind.TheVariants.{Number}
-use Rattle.reg_state.specs.KindCover.{KindCovers, KindEncloses, IsNoNumber}
+use Rattle.reg_state.proofs.Common.{ℕ, Kind, Number, KindCovers, KindEncloses, IsNoNumber}
 use Rattle.reg_state.proofs.kinds.Kind.covers.Goals as goal
 
 -- the two differ in numbers only

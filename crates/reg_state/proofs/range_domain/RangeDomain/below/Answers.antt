@@ -1,5 +1,4 @@
-use Rattle.isa_model.specs.declared.sizes.Width.TheVariants.{Full64}
-use Rattle.isa_model.specs.Code.NumberLaws.{low_same}
+use Rattle.reg_state.proofs.Common.{Full64, low_same}
 use Rattle.reg_state.proofs.range_domain.RangeDomain.below.Goals as goal
 
 pub returns-in-Full64-clause-common : goal.returns-in-Full64-clause-common

@@ -1,9 +1,5 @@
-use Rattle.std.proofs.Common.{ℕ, ◌≡◌, subst, sym}
-use Rattle.std.specs.Prelude.{IsSomeAnd}
-use Rattle.std.proofs.lemmas.Option.{IfSome_then}
+use Rattle.reg_state.proofs.Common.{ℕ, ◌≡◌, subst, sym, IsSomeAnd, IfSome_then, Full64, low_same}
 use Rattle.ranges.specs.Ranges.{Has}
-use Rattle.isa_model.specs.declared.sizes.Width.TheVariants.{Full64}
-use Rattle.isa_model.specs.Code.NumberLaws.{low_same}
 use Rattle.reg_state.proofs.range_domain.RangeDomain.equal.Goals as goal
 
 pub returns-in-Full64-clause-common : goal.returns-in-Full64-clause-common

@@ -1,6 +1,4 @@
-use Rattle.std.proofs.lemmas.Option.{IfSome_then}
-use Rattle.isa_model.specs.declared.sizes.Width.TheVariants.{Full64}
-use Rattle.isa_model.specs.Code.NumberLaws.{low_same}
+use Rattle.reg_state.proofs.Common.{IfSome_then, Full64, low_same}
 use Rattle.reg_state.proofs.range_domain.RangeDomain.signed_below.Goals as goal
 
 pub returns-in-Full64-clause-common : goal.returns-in-Full64-clause-common

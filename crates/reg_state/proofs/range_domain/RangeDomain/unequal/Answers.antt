@@ -1,10 +1,6 @@
-use Rattle.std.proofs.Common.{subst, sym, ◌∙◌, arith}
-use Rattle.std.proofs.lemmas.Int.{ints}
-use Rattle.std.proofs.lemmas.Option.{IfSome_then}
+use Rattle.reg_state.proofs.Common.{subst, sym, ◌∙◌, arith, ints, IfSome_then, Full64, low_same}
 use Rattle.ranges.specs.Ranges.{Has}
 use Rattle.reg_state.proofs.ConstantsLaws.{range_limits-IsLimit, low_limits-IsLimit}
-use Rattle.isa_model.specs.declared.sizes.Width.TheVariants.{Full64}
-use Rattle.isa_model.specs.Code.NumberLaws.{low_same}
 use Rattle.reg_state.proofs.range_domain.RangeDomain.unequal.Goals as goal
 
 pub returns-in-Full64-clause-common : goal.returns-in-Full64-clause-common

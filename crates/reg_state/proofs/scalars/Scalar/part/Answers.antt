@@ -1,6 +1,4 @@
-use Rattle.std.proofs.Common.{◌<◌, ◌^◌, ap, sym, ◌∙◌, arith}
-use Rattle.std.specs.Int.{bit_at}
-use Rattle.known_bits.proofs.MemberLaws.{bit_at-differing}
+use Rattle.reg_state.proofs.Common.{◌<◌, ◌^◌, ap, sym, ◌∙◌, arith, bit_at, bit_at-differing}
 use Rattle.reg_state.proofs.scalars.Scalar.part.Goals as goal
 
 pub returns : goal.returns

@@ -1,9 +1,4 @@
-use Rattle.std.proofs.Common.{ℕ, ◌<◌, ◌≤◌, ◌≡◌, ◌%◌, ◌^◌, ◌-◌, ap, sym, ◌∙◌, subst, arith}
-use Rattle.std.specs.Prelude.{Option, None, Some, IfSome}
-use Rattle.std.specs.Int.{bit_at}
-use Rattle.std.proofs.lemmas.Nat.{pow_pos}
-use Rattle.known_bits.specs.Bits.{spliced}
-use Rattle.known_bits.proofs.MemberLaws.{bit_at-differing}
+use Rattle.reg_state.proofs.Common.{ℕ, ◌<◌, ◌≤◌, ◌≡◌, ◌%◌, ◌^◌, ◌-◌, ap, sym, ◌∙◌, subst, arith, Option, None, Some, IfSome, bit_at, pow_pos, spliced, bit_at-differing}
 use Rattle.known_bits.proofs.Splices.{spliced_least, spliced_greatest, spliced_wider}
 use Rattle.ranges.specs.declared.low.Low.{Low}
 use Rattle.ranges.specs.Lows as L

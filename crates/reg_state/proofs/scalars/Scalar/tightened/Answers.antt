@@ -1,8 +1,5 @@
-use Rattle.std.proofs.Common.{arith, refl, subst, ℕ, ◌≡◌, ◌<◌, ◌^◌}
-use Rattle.std.specs.Prelude.{IsSomeAnd}
-use Rattle.std.proofs.lemmas.Option.{none-some, same_Some}
+use Rattle.reg_state.proofs.Common.{arith, refl, subst, ℕ, ◌≡◌, ◌<◌, ◌^◌, IsSomeAnd, none-some, same_Some, bits_constant_only, bits_constant_has, range_constant_has}
 use Rattle.reg_state.specs.Scalars.{Has, IsConstant}
-use Rattle.reg_state.specs.Constants.{bits_constant_only, bits_constant_has, range_constant_has}
 use Rattle.reg_state.proofs.scalars.Scalar.tightened.Goals as goal
 
 pub returns-in-Some-clause-common : goal.returns-in-Some-clause-common

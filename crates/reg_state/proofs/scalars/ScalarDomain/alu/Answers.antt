@@ -1,7 +1,4 @@
-use Rattle.std.proofs.Common.{◌<◌, ◌^◌, arith}
-use Rattle.std.proofs.lemmas.Int.{ints}
-use Rattle.known_bits.proofs.MemberLaws.{bit_at-differing}
-use Rattle.isa_model.specs.declared.sizes.Width.TheVariants.{Low32, Full64}
+use Rattle.reg_state.proofs.Common.{◌<◌, ◌^◌, arith, ints, bit_at-differing, Low32, Full64}
 use Rattle.ranges.proofs.KeepsWeaker.{keeps_weaker, keeps_signed_weaker}
 use Rattle.reg_state.proofs.scalars.ScalarDomain.alu.Goals as goal
 

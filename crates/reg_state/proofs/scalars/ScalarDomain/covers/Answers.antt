@@ -1,5 +1,4 @@
-use Rattle.std.proofs.Common.{sym, subst, ◌∙◌}
-use Rattle.std.specs.Prelude.{T}
+use Rattle.std.proofs.Common.{sym, subst, ◌∙◌, T}
 use Rattle.reg_state.proofs.scalars.ScalarDomain.covers.Goals as goal
 
 pub returns-else-covers-clause-exact : goal.returns-else-covers-clause-exact

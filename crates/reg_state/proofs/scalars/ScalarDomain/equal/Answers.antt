@@ -1,9 +1,5 @@
-use Rattle.std.proofs.Common.{ℕ}
-use Rattle.std.proofs.lemmas.Option.{IfSome_then}
+use Rattle.reg_state.proofs.Common.{ℕ, IfSome_then, Low32, Full64, bits_allows, range_allows, allows}
 use Rattle.isa_model.specs.declared.sizes.Width.{Width}
-use Rattle.isa_model.specs.declared.sizes.Width.TheVariants.{Low32, Full64}
-use Rattle.reg_state.specs.Limits.{bits_allows, range_allows}
-use Rattle.reg_state.specs.Scalars.{allows}
 use Rattle.reg_state.specs.declared.scalars.Scalar.{Scalar}
 use Rattle.reg_state.proofs.scalars.ScalarDomain.equal.Goals as goal
 

@@ -1,6 +1,4 @@
-use Rattle.std.proofs.Common.{◌<◌, ◌^◌, arith}
-use Rattle.std.proofs.lemmas.Int.{ints}
-use Rattle.known_bits.proofs.MemberLaws.{bit_at-differing}
+use Rattle.reg_state.proofs.Common.{◌<◌, ◌^◌, arith, ints, bit_at-differing}
 use Rattle.reg_state.proofs.scalars.ScalarDomain.negate.Goals as goal
 
 pub returns-clause-contains : goal.returns-clause-contains

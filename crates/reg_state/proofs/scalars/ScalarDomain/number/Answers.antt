@@ -1,6 +1,4 @@
-use Rattle.std.proofs.Common.{◌≡◌, refl, inl, inr}
-use Rattle.std.proofs.lemmas.Option.{none-some}
-use Rattle.reg_state.specs.Constants.{bits_constant_only}
+use Rattle.reg_state.proofs.Common.{◌≡◌, refl, inl, inr, none-some, bits_constant_only}
 use Rattle.reg_state.proofs.scalars.ScalarDomain.number.Goals as goal
 
 pub returns-in-Some-clause-constant : goal.returns-in-Some-clause-constant

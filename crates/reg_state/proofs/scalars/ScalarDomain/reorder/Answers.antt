@@ -1,6 +1,4 @@
-use Rattle.std.proofs.Common.{◌<◌, ◌^◌, arith, ap, sym, ◌∙◌}
-use Rattle.std.specs.Int.{bit_at}
-use Rattle.known_bits.proofs.MemberLaws.{bit_at-differing}
+use Rattle.reg_state.proofs.Common.{◌<◌, ◌^◌, arith, ap, sym, ◌∙◌, bit_at, bit_at-differing}
 use Rattle.reg_state.proofs.scalars.ScalarDomain.reorder.Goals as goal
 
 pub returns-clause-contains : goal.returns-clause-contains

@@ -1,6 +1,4 @@
-use Rattle.std.proofs.Common.{◌<◌, ◌%◌, ◌^◌, arith}
-use Rattle.known_bits.proofs.MemberLaws.{bit_at-differing}
-use Rattle.std.specs.Int.{w32, cast_signed}
+use Rattle.reg_state.proofs.Common.{◌<◌, ◌%◌, ◌^◌, arith, bit_at-differing, w32, cast_signed}
 use Rattle.ranges.proofs.FitsLaws.{fits_within}
 use Rattle.ranges.specs.Keeps.{extension_signed}
 use Rattle.ranges.proofs.EnclosesLaws.{enclosed_has, enclosed_low}

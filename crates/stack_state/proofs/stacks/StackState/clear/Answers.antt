@@ -1,8 +1,4 @@
-use Rattle.std.proofs.Common.{◌≡◌, ◌++◌, List, length, drop, replicate, ap, arith, ◌∙◌}
-use Rattle.std.proofs.lemmas.List.{append-nil, length-append, length-replicate, nil_from_length}
-use Rattle.stack_state.specs.declared.slots.StackSlot.{StackSlot}
-use Rattle.stack_state.specs.declared.slots.StackSlot.TheVariants.{Written}
-use Rattle.stack_state.specs.Slots.{frame_slots}
+use Rattle.stack_state.proofs.Common.{◌≡◌, ◌++◌, List, length, drop, replicate, ap, arith, ◌∙◌, append-nil, length-append, length-replicate, nil_from_length, StackSlot, Written, frame_slots}
 use Rattle.stack_state.proofs.stacks.StackState.clear.Goals as goal
 
 pub returns : goal.returns

@@ -1,10 +1,6 @@
-use Rattle.std.proofs.Common.{◌≡◌, ◌≤◌, ◌-◌, ◌++◌, List, length, take, drop, replicate, ap, sym, arith, ◌∙◌}
-use Rattle.std.proofs.lemmas.List.{take_all, take-append-drop, take-append-le, length-replicate, length-drop}
+use Rattle.stack_state.proofs.Common.{◌≡◌, ◌≤◌, ◌-◌, ◌++◌, List, length, take, drop, replicate, ap, sym, arith, ◌∙◌, take_all, take-append-drop, take-append-le, length-replicate, length-drop, StackSlot, Written, StackSlots, frame_slots}
 use Rattle.std.proofs.lemmas.Slice.{take-put_mid}
 use borrow.Rule.Slice.PartMut.{put_mid, same_len_mid}
-use Rattle.stack_state.specs.declared.slots.StackSlot.{StackSlot}
-use Rattle.stack_state.specs.declared.slots.StackSlot.TheVariants.{Written}
-use Rattle.stack_state.specs.Slots.{StackSlots, frame_slots}
 use Rattle.stack_state.proofs.BlankLaws.{blank_taken}
 use Rattle.stack_state.proofs.stacks.StackState.copy_from.Goals as goal
 

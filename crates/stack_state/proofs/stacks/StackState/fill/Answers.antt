@@ -1,8 +1,4 @@
-use Rattle.std.proofs.Common.{◌∙◌, List, get_or, ap, arith, subst}
-use Rattle.std.proofs.lemmas.List.{get_or_default}
-use Rattle.stack_state.specs.declared.slots.StackSlot.{StackSlot}
-use Rattle.stack_state.specs.declared.slots.StackSlot.TheVariants.{Written}
-use Rattle.stack_state.specs.Slots.{StackSlots, IsFill}
+use Rattle.stack_state.proofs.Common.{◌∙◌, List, get_or, ap, arith, subst, get_or_default, StackSlot, Written, StackSlots, IsFill}
 use Rattle.stack_state.proofs.FillLaws.{fills}
 use Rattle.stack_state.proofs.stacks.StackState.fill.Goals as goal
 

@@ -1,8 +1,5 @@
-use Rattle.std.proofs.Common.{◌≡◌, ◌≤◌, ◌++◌, List, length, drop, replicate, set, ap, sym, subst, arith, ◌∙◌}
+use Rattle.stack_state.proofs.Common.{◌≡◌, ◌≤◌, ◌++◌, List, length, drop, replicate, set, ap, sym, subst, arith, ◌∙◌, StackSlot, Written, StackSlots, frame_slots}
 use Rattle.std.proofs.lemmas.List.{length-set}
-use Rattle.stack_state.specs.declared.slots.StackSlot.{StackSlot}
-use Rattle.stack_state.specs.declared.slots.StackSlot.TheVariants.{Written}
-use Rattle.stack_state.specs.Slots.{StackSlots, frame_slots}
 use Rattle.stack_state.proofs.BlankLaws.{blank_first, blank_more}
 use Rattle.stack_state.proofs.stacks.StackState.forget_before.Goals as goal
 

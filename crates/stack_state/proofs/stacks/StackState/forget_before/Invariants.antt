@@ -1,6 +1,4 @@
-use Rattle.std.proofs.Common.{◌≡◌, ◌++◌, length, drop, replicate}
-use Rattle.stack_state.specs.declared.slots.StackSlot.TheVariants.{Written}
-use Rattle.stack_state.specs.Slots.{frame_slots}
+use Rattle.stack_state.proofs.Common.{◌≡◌, ◌++◌, length, drop, replicate, Written, frame_slots}
 use Rattle.stack_state.proofs.stacks.StackState.forget_before.Given as goal
 
 abbrev pub invariant-loop-index : goal.invariant-loop-index

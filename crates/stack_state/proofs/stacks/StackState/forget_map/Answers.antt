@@ -1,9 +1,5 @@
 use Rattle.std.proofs.Common.{arith, ◌≡◌, ◌≤◌, ◌++◌, List, map, take, drop, length, length-set, get_or, set, ap, sym, subst, refl, ◌∙◌}
-use Rattle.std.proofs.lemmas.List.{get_or_default, take_all, drop_all, append-nil, take-append-drop}
-use Rattle.std.proofs.lemmas.List.Edits.{map_over_more}
-use Rattle.stack_state.specs.declared.slots.StackSlot.{StackSlot}
-use Rattle.stack_state.specs.Slots.{StackSlots, forgotten_slot, forgotten, frame_slots}
-use Rattle.stack_state.specs.StackMeaning.{ForgetsMap}
+use Rattle.stack_state.proofs.Common.{get_or_default, take_all, drop_all, append-nil, take-append-drop, map_over_more, StackSlot, StackSlots, forgotten_slot, forgotten, frame_slots, ForgetsMap}
 use Rattle.stack_state.proofs.BlankLaws.{blank_mapped, blank_set}
 use Rattle.stack_state.proofs.FillLaws.{forgets}
 use Rattle.stack_state.proofs.stacks.StackState.forget_map.Goals as goal

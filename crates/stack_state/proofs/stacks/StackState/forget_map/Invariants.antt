@@ -1,5 +1,4 @@
-use Rattle.std.proofs.Common.{◌≡◌, ◌≤◌, ◌++◌, map, take, drop, length}
-use Rattle.stack_state.specs.Slots.{AreBlankBefore, forgotten_slot, frame_slots}
+use Rattle.stack_state.proofs.Common.{◌≡◌, ◌≤◌, ◌++◌, map, take, drop, length, AreBlankBefore, forgotten_slot, frame_slots}
 use Rattle.stack_state.proofs.stacks.StackState.forget_map.Given as goal
 
 abbrev pub invariant-loop-slot : goal.invariant-loop-slot

@@ -1,5 +1,4 @@
-use Rattle.std.proofs.Common.{◌≤◌}
-use Rattle.stack_state.specs.Slots.{AreMarked}
+use Rattle.stack_state.proofs.Common.{◌≤◌, AreMarked}
 use Rattle.stack_state.proofs.stacks.StackState.is_bytes.Given as goal
 
 abbrev pub invariant-loop-at : goal.invariant-loop-at

@@ -1,10 +1,4 @@
-use Rattle.std.proofs.Common.{arith, ap, get_or, List, ℕ, ◌/◌, ◌%◌, ◌+◌, Some, subst, sym, ◌∙◌}
-use Rattle.std.specs.Prelude.{T}
-use Rattle.std.proofs.lemmas.List.{get_or_default}
-use Rattle.stack_state.specs.declared.slots.StackSlot.{StackSlot}
-use Rattle.stack_state.specs.declared.slots.StackSlot.TheVariants.{Written}
-use Rattle.stack_state.specs.Slots.{StackSlots, AreMarked, AreNumbers}
-use Rattle.stack_state.specs.StackMeaning.{LoadsNumber}
+use Rattle.stack_state.proofs.Common.{arith, ap, get_or, List, ℕ, ◌/◌, ◌%◌, ◌+◌, Some, subst, sym, ◌∙◌, T, get_or_default, StackSlot, Written, StackSlots, AreMarked, AreNumbers, LoadsNumber}
 use Rattle.stack_state.proofs.StackLaws.{loads}
 use Rattle.stack_state.proofs.stacks.StackState.load.Goals as goal
 

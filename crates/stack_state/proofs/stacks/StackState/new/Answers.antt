@@ -1,7 +1,5 @@
 use Rattle.std.proofs.Common.{arith, refl}
-use Rattle.std.proofs.lemmas.List.{get_or-replicate}
-use Rattle.stack_state.specs.declared.slots.StackSlot.TheVariants.{Written}
-use Rattle.stack_state.specs.Slots.{frame_slots}
+use Rattle.stack_state.proofs.Common.{get_or-replicate, Written, frame_slots}
 use Rattle.stack_state.proofs.StackLaws.{StackMeans-new}
 use Rattle.stack_state.proofs.stacks.StackState.new.Goals as goal
 

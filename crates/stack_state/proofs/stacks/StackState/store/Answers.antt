@@ -1,8 +1,4 @@
-use Rattle.std.proofs.Common.{arith, length, sym, get_or, List, ◌≡◌, ℕ, ◌+◌, ◌/◌, ◌%◌, set, ap, ◌∙◌, bit_or}
-use Rattle.std.proofs.lemmas.List.{get_or_default}
-use Rattle.stack_state.specs.declared.slots.StackSlot.{StackSlot}
-use Rattle.stack_state.specs.declared.slots.StackSlot.TheVariants.{Written}
-use Rattle.stack_state.specs.Slots.{StackSlots, frame_slots, slot_at, marks_of, mask_of}
+use Rattle.stack_state.proofs.Common.{arith, length, sym, get_or, List, ◌≡◌, ℕ, ◌+◌, ◌/◌, ◌%◌, set, ap, ◌∙◌, bit_or, get_or_default, StackSlot, Written, StackSlots, frame_slots, slot_at, marks_of, mask_of}
 use Rattle.stack_state.proofs.StackLaws.{stores}
 use Rattle.stack_state.proofs.stacks.StackState.store.Goals as goal
 

@@ -1,9 +1,4 @@
-use Rattle.std.proofs.Common.{◌≡◌, ◌∙◌, ℕ, List, get_or, ap, sym, length, length-set, ◌/◌, ◌%◌, subst, arith}
-use Rattle.std.proofs.lemmas.List.{get_or_default}
-use Rattle.stack_state.specs.declared.slots.StackSlot.{StackSlot}
-use Rattle.stack_state.specs.declared.slots.StackSlot.TheVariants.{Written}
-use Rattle.stack_state.specs.Slots.{frame_slots}
-use Rattle.stack_state.specs.NumberStores.{IsSlotStored, StoresNumber}
+use Rattle.stack_state.proofs.Common.{◌≡◌, ◌∙◌, ℕ, List, get_or, ap, sym, length, length-set, ◌/◌, ◌%◌, subst, arith, get_or_default, StackSlot, Written, frame_slots, IsSlotStored, StoresNumber}
 use Rattle.stack_state.proofs.NumberStoreLaws.{stores_number}
 use Rattle.stack_state.proofs.stacks.StackState.store_number.Goals as goal
 

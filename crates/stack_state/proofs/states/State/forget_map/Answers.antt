@@ -1,5 +1,4 @@
-use Rattle.std.proofs.Common.{arith}
-use Rattle.std.proofs.lemmas.Grind.{common_steps}
+use Rattle.stack_state.proofs.Common.{arith, common_steps}
 use Rattle.stack_state.proofs.states.State.forget_map.Goals as goal
 
 pub returns : goal.returns

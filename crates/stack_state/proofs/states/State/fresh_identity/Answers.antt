@@ -1,5 +1,4 @@
-use Rattle.std.proofs.Common.{◌*◌, Bool, false, List, length, replicate, subst, arith}
-use Rattle.stack_state.specs.Marks.{AreFree, IsFreshAt, Marks}
+use Rattle.stack_state.proofs.Common.{◌*◌, Bool, false, List, length, replicate, subst, arith, AreFree, IsFreshAt, Marks}
 use Rattle.stack_state.proofs.MarksLaws.{marked-replicate, is_marked-replicate, IsLeastFresh-marks}
 use Rattle.stack_state.proofs.states.State.fresh_identity.Goals as goal
 

@@ -1,10 +1,5 @@
-use Rattle.std.proofs.Common.{◌≡◌, ◌∙◌, ℕ, ◌-◌, take, length, sym, ap, arith}
-use Rattle.std.proofs.lemmas.Option.{get_or_from_slice_get}
-use Rattle.stack_state.specs.declared.states.State.{State}
-use Rattle.stack_state.specs.Meaning.{no_frame, abstract_frame_at, kind_at, registers_of}
+use Rattle.stack_state.proofs.Common.{◌≡◌, ◌∙◌, ℕ, ◌-◌, take, length, sym, ap, arith, get_or_from_slice_get, State, no_frame, abstract_frame_at, kind_at, registers_of, map_kinds, without_frame, resumed_of, left}
 use Rattle.stack_state.proofs.MeaningLaws.{abstract_frame_at-caller}
-use Rattle.stack_state.specs.Effects.{map_kinds}
-use Rattle.stack_state.specs.Calls.{without_frame, resumed_of, left}
 use Rattle.stack_state.proofs.states.State.leave.Goals as goal
 
 pub returns : goal.returns

@@ -1,13 +1,5 @@
-use Rattle.std.specs.Prelude.{if◌then◌else◌, true, false, ◌==◌, slice_set, refl}
-use Rattle.std.proofs.Common.{◌≡◌, ℕ, ◌<◌, ◌/◌, length, sym, ap, ◌∙◌, arith}
-use Rattle.std.proofs.lemmas.Bool.Decides.{nat_tests}
-use Rattle.std.proofs.lemmas.Grind.{common_steps}
+use Rattle.stack_state.proofs.Common.{if◌then◌else◌, true, false, ◌==◌, slice_set, ◌≡◌, ℕ, ◌<◌, ◌/◌, length, sym, ap, ◌∙◌, arith, refl, nat_tests, common_steps, AbstractFrame, State, abstract_frame_at, stack_slots_of, slot_at, with_slots, with_frame}
 use Rattle.arrayvec.specs.ArrayVec.{with_item}
-use Rattle.stack_state.specs.declared.states.AbstractFrame.{AbstractFrame}
-use Rattle.stack_state.specs.declared.states.State.{State}
-use Rattle.stack_state.specs.Meaning.{abstract_frame_at, stack_slots_of}
-use Rattle.stack_state.specs.Slots.{slot_at}
-use Rattle.stack_state.specs.Effects.{with_slots, with_frame}
 use Rattle.stack_state.proofs.states.State.store_number.Goals as goal
 
 -- another caller

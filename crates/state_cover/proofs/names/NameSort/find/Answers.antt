@@ -1,5 +1,4 @@
-use Rattle.std.proofs.Common.{◌∙◌, sym}
-use Rattle.state_cover.specs.Names.{is_named}
+use Rattle.state_cover.proofs.Common.{◌∙◌, sym, is_named}
 use Rattle.state_cover.proofs.Places.{find-places_push}
 use Rattle.state_cover.proofs.names.NameSort.find.Goals as goal
 

@@ -1,8 +1,4 @@
-use Rattle.std.proofs.Common.{List, ◌∙◌, ap, sym}
-use Rattle.std.specs.List.{zip}
-use Rattle.std.proofs.lemmas.List.Folds.{find-append}
-use Rattle.stack_state.specs.declared.slots.StackSlot.{StackSlot}
-use Rattle.state_cover.specs.Names.{first_named, is_named, spilled_kinds}
+use Rattle.state_cover.proofs.Common.{List, ◌∙◌, ap, sym, zip, find-append, StackSlot, first_named, is_named, spilled_kinds}
 use Rattle.state_cover.proofs.names.NameSort.find_in_frame.Goals as goal
 
 pub returns-in-Some : goal.returns-in-Some

@@ -1,5 +1,4 @@
-use Rattle.std.proofs.Common.{◌∙◌, sym, arith}
-use Rattle.state_cover.specs.Names.{is_named}
+use Rattle.state_cover.proofs.Common.{◌∙◌, sym, arith, is_named}
 use Rattle.state_cover.proofs.Places.{find-places}
 use Rattle.state_cover.proofs.names.NameSort.find_in_frames.Goals as goal
 

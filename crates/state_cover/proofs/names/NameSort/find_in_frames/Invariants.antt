@@ -1,5 +1,4 @@
-use Rattle.std.proofs.Common.{◌≡◌, drop}
-use Rattle.state_cover.specs.Names.{first_named, places}
+use Rattle.state_cover.proofs.Common.{◌≡◌, drop, first_named, places}
 use Rattle.state_cover.proofs.names.NameSort.find_in_frames.Given as goal
 
 -- none of the places before it

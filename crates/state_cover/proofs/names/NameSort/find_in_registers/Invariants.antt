@@ -1,6 +1,4 @@
-use Rattle.std.proofs.Common.{◌≡◌, drop}
-use Rattle.std.specs.List.{zip}
-use Rattle.state_cover.specs.Names.{first_named}
+use Rattle.state_cover.proofs.Common.{◌≡◌, drop, zip, first_named}
 use Rattle.state_cover.proofs.names.NameSort.find_in_registers.Given as goal
 
 -- none of the places before it

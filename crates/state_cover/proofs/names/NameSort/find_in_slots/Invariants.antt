@@ -1,6 +1,4 @@
-use Rattle.std.proofs.Common.{◌≡◌, drop}
-use Rattle.std.specs.List.{zip}
-use Rattle.state_cover.specs.Names.{spilled_kinds, first_named}
+use Rattle.state_cover.proofs.Common.{◌≡◌, drop, zip, spilled_kinds, first_named}
 use Rattle.state_cover.proofs.names.NameSort.find_in_slots.Given as goal
 
 -- none of the slots before it

@@ -1,7 +1,4 @@
-use Rattle.std.proofs.Common.{◌≡◌, Ok, true, subst}
-use Rattle.table_entries.specs.Entries.{entry_in}
-use Rattle.table_entries.specs.Reading.{seen}
-use Rattle.table_entries.specs.Growing.{Grown}
+use Rattle.table_entries.proofs.Common.{◌≡◌, Ok, true, subst, entry_in, seen, Grown}
 use Rattle.table_entries.proofs.GrowingLaws.{Grows-placed, passed_over}
 use Rattle.table_entries.proofs.growing.Growing.pass_next.Goals as goal
 

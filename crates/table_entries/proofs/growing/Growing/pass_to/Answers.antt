@@ -1,6 +1,4 @@
-use Rattle.std.proofs.Common.{◌≡◌, arith, length, sym, subst}
-use Rattle.table_entries.specs.Tables.{count_of}
-use Rattle.table_entries.specs.Growing.{Grown}
+use Rattle.table_entries.proofs.Common.{◌≡◌, arith, length, sym, subst, count_of, Grown}
 use Rattle.table_entries.proofs.GrowingLaws.{Grows-same}
 use Rattle.table_entries.proofs.PassedLaws.{ArePassed-none}
 use Rattle.table_entries.proofs.growing.Growing.pass_to.Goals as goal

@@ -1,7 +1,4 @@
-use Rattle.std.proofs.Common.{◌≡◌, length}
-use Rattle.table_entries.specs.Tables.{count_of}
-use Rattle.table_entries.specs.Growing.{Grows}
-use Rattle.table_entries.specs.KnownBytes.{ArePassed}
+use Rattle.table_entries.proofs.Common.{◌≡◌, length, count_of, Grows, ArePassed}
 use Rattle.table_entries.proofs.growing.Growing.pass_to.Given as goal
 
 -- as many entries are placed as the counter of the loop says

@@ -1,7 +1,4 @@
-use Rattle.std.proofs.Common.{◌≡◌, ◌<◌, Some, Ok, subst, arith}
-use Rattle.table_entries.specs.Entries.{Entry, entry_in, entry_of}
-use Rattle.table_entries.specs.Tables.{entry_at, count_of}
-use Rattle.table_entries.specs.Growing.{Grown}
+use Rattle.table_entries.proofs.Common.{◌≡◌, ◌<◌, Some, Ok, subst, arith, Entry, entry_in, entry_of, entry_at, count_of, Grown}
 use Rattle.table_entries.proofs.Numbers.{allowed-in}
 use Rattle.table_entries.proofs.GrowingLaws.{Grows-placed, entry_at-placed}
 use Rattle.table_entries.proofs.growing.Growing.take.Goals as goal

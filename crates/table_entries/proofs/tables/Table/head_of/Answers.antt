@@ -1,7 +1,4 @@
-use Rattle.std.proofs.Common.{◌≡◌, Some, subst, arith}
-use Rattle.std.specs.Prelude.{slice_get}
-use Rattle.table_entries.specs.Entries.{entry_of}
-use Rattle.table_entries.specs.Tables.{TableView, entry_at}
+use Rattle.table_entries.proofs.Common.{◌≡◌, Some, subst, arith, slice_get, entry_of, TableView, entry_at}
 use Rattle.table_entries.proofs.Numbers.{allowed-in, read-at, found-at}
 use Rattle.table_entries.proofs.tables.Table.head_of.Goals as goal
 

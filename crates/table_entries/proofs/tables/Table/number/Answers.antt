@@ -1,6 +1,4 @@
-use Rattle.std.proofs.Common.{◌≡◌, Some, sym, subst, arith}
-use Rattle.std.specs.Prelude.{slice_get}
-use Rattle.table_entries.specs.Tables.{TableView, entry_at}
+use Rattle.table_entries.proofs.Common.{◌≡◌, Some, sym, subst, arith, slice_get, TableView, entry_at}
 use Rattle.table_entries.proofs.Numbers.{number-at, short-at, found-at}
 use Rattle.table_entries.proofs.tables.Table.number.Goals as goal
 

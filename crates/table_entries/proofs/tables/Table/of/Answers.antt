@@ -1,5 +1,4 @@
-use Rattle.std.proofs.Common.{◌≡◌, ◌∙◌, sym, None, refl}
-use Rattle.std.specs.Prelude.{map}
+use Rattle.std.proofs.Common.{◌≡◌, ◌∙◌, sym, None, refl, map}
 use Rattle.table_entries.specs.Tables.{TableView, entry_from, first_none, all_of}
 use Rattle.table_entries.proofs.EntryOrder.{KeepsEntries-places}
 use Rattle.table_entries.proofs.tables.Table.of.Goals as goal

@@ -1,9 +1,4 @@
-use Rattle.std.proofs.Common.{◌≡◌, Some, None, Ok, Err, drop, subst, arith}
-use Rattle.std.specs.Prelude.{slice_get, MatchOption}
-use Rattle.std.specs.Option.{option_map}
-use Rattle.table_entries.specs.declared.entries.EntryHead.{EntryHead}
-use Rattle.table_entries.specs.Entries.{entry_in, entry_of}
-use Rattle.table_entries.specs.Tables.{TableView, entry_at}
+use Rattle.table_entries.proofs.Common.{◌≡◌, Some, None, Ok, Err, drop, subst, arith, slice_get, MatchOption, option_map, EntryHead, entry_in, entry_of, TableView, entry_at}
 use Rattle.table_entries.proofs.Numbers.{allowed-in, read-at, stop-at, found-at}
 use Rattle.table_entries.proofs.tables.Table.read.Goals as goal
 
