@@ -162,13 +162,14 @@ def sum_of(crate: str, paths: list[str]) -> str:
 
 
 def judged(crate: str, paths: list[str], libraries: str, anew: bool) -> dict[str, str]:
-    """What is said of the edits of a crate that are not refused; prints a line. What an earlier run refused is taken from it."""
+    """What is said of the edits of a crate that are not refused, which it prints. What an earlier run refused is taken from it."""
     kept = f"{KEPT}/{sum_of(crate, paths)}"
     if os.path.isfile(kept) and not anew:
         print(f"{crate}: {len(paths)} edits refused by an earlier run, and nothing has changed since", flush=True)
         return {}
     left, seconds = try_crate(crate, paths, libraries)
-    print(f"{crate}: {len(paths) - len(left)} of {len(paths)} edits refused, {seconds:.0f} s", flush=True)
+    open_ones = [f"{os.path.relpath(path, TOP)}: NOT REFUSED: {why}" for path, why in left.items()]
+    print(*open_ones, f"{crate}: {len(paths) - len(left)} of {len(paths)} edits refused, {seconds:.0f} s", sep="\n", flush=True)
     if not left:
         os.makedirs(KEPT, exist_ok=True)
         common.write(kept, "")
@@ -221,6 +222,7 @@ def try_all(given: dict[str, list[str]], libraries: str, told: str | None, anew:
             ready = [it for it in waiting if proved.issuperset(all_below(it))]
             if has_ended and not ready and not running:
                 left.update({path: "what its crate builds on is not proved" for it in waiting for path in given[it]})
+                print(*(f"{it}: not tried: what it builds on is not proved" for it in waiting), sep="\n")
                 break
             for crate in ready[: most - len(running)]:
                 waiting.remove(crate)
@@ -253,14 +255,13 @@ def main() -> None:
     if words_given.fit:
         tried = {path: unfit(crate, [path])[1] for crate in given for path in given[crate]}
         left = {path: why for path, why in tried.items() if why}
+        print(*(f"{os.path.relpath(path, TOP)}: cannot be made: {why}\n" for path, why in left.items()), sep="", end="")
     elif words_given.libraries:
         left = try_all(given, os.path.abspath(words_given.libraries), words_given.told, words_given.anew)
     else:
         with tempfile.TemporaryDirectory(prefix="libraries-") as room:
             build_libraries(room, given)
             left = try_all(given, room, None, words_given.anew)
-    for path, why in left.items():
-        print(f"{os.path.relpath(path, TOP)}: {'cannot be made' if words_given.fit else 'NOT REFUSED'}: {why}")
     print(f"{sum(map(len, given.values()))} edits, {len(left)} {'that cannot be made' if words_given.fit else 'not refused'}")
     sys.exit(1 if left else 0)
 
