@@ -1,6 +1,6 @@
 //! An index of a hash map that finds keys by chains, and by their order where a chain is long.
 
-ghost use Rattle.std.specs.Prelude.{◌≡◌, ℕ, ◌+◌, ◌-◌, ◌<◌, ◌≤◌, length, None, IfOk, IfSome, IsSome, slice_get, slice_index_or, slice_set, vec_capacity, is_some, true, Some};
+ghost use Rattle.std.specs.Prelude.{◌≡◌, ℕ, ◌+◌, ◌-◌, ◌<◌, ◌≤◌, length, None, IfOk, IfSome, IsSome, slice_index_or, slice_set, vec_capacity, is_some, true, Some};
 ghost use Rattle.std.specs.FinMap as map;
 ghost use Rattle.isa_model.specs.declared.map_defs.MapType.TheVariants.{Hash};
 ghost use Rattle.map_indexes.specs.PlaceKeys.{places, key_in, AreKeys};
@@ -15,7 +15,6 @@ use crate::index::Index;
 use crate::keys::{Keys, are_same};
 use crate::overflow::Overflow;
 use std::alloc::{AllocError, Global};
-use std::cmp::Ordering;
 
 // All places, the first at the end.
 fn all_places(alloc: Global, count: u32) -> Result<Vec<u32>, AllocError>
@@ -78,24 +77,6 @@ impl ChainIndex {
         ensures size { length result.now ≡ self.now.keys.size }
     {
         self.keys.key(place)
-    }
-
-    /// The index of a place in a list, by a binary search for its key, which the place may have
-    /// lost. It is found where the other places of the list have keys, in the order of the keys.
-    pub fn index_in(&self, list: &[usize], key: &[u8], place: usize) -> Option<usize>
-        ensures { IfSome result (λ i. slice_get list.now i ≡ Some place) }
-    {
-        let found = list.binary_search_by(|at| {
-            if *at == place {
-                Ordering::Equal
-            } else {
-                self.keys.key_or_none(*at).cmp(key)
-            }
-        });
-        match found {
-            Ok(i) if list[i] == place => Some(i),
-            _ => None,
-        }
     }
 
     // Fills a list that has room with the places that have a key.

@@ -1,6 +1,6 @@
 //! All maps of an image.
 
-ghost use Rattle.std.specs.Prelude.{◌≡◌, ◌<◌, ◌≤◌, List, length, map, All, IfOk, IfSome, Some, slice_get, slice_set, option_copied, ◌+◌, ℕ, vec_capacity};
+ghost use Rattle.std.specs.Prelude.{◌≡◌, ◌<◌, ◌≤◌, List, length, map, All, IfOk, Some, slice_set, option_copied, ◌+◌, ℕ, vec_capacity};
 ghost use Rattle.std.specs.Borrow.{sem};
 ghost use Rattle.std.specs.FinMap as finmap;
 ghost use Rattle.std.specs.FinMap.{values};
@@ -194,16 +194,6 @@ impl Maps {
         ensures capacity { vec_capacity list.new ≡ vec_capacity list.old }
     {
         self.stores.all[map].index().insert_place(key, place, list);
-    }
-
-    /// The index of a place in a list of places of a hash map, by a binary search for its key,
-    /// which the place may have lost. It is found where the other places of the list have keys, in
-    /// the order of the keys.
-    pub fn index_in(&self, map: usize, list: &[usize], key: &[u8], place: usize) -> Option<usize>
-        requires { map < length self.now }
-        ensures { IfSome result (λ i. slice_get list.now i ≡ Some place) }
-    {
-        self.stores.all[map].index().index_in(list, key, place)
     }
 
     /// Whether the key of one place of a map is below that of another, by their bytes.

@@ -1,6 +1,6 @@
 //! The index that a map's row asks for.
 
-ghost use Rattle.std.specs.Prelude.{◌≡◌, ◌<◌, ◌≤◌, ◌^◌, ℕ, List, IfOk, IfSome, Some, length, vec_capacity};
+ghost use Rattle.std.specs.Prelude.{◌≡◌, ◌<◌, ◌≤◌, ◌^◌, ℕ, List, IfOk, Some, length, vec_capacity};
 ghost use Rattle.std.specs.FinMap.{get, remove, values};
 ghost use Rattle.std.specs.List.{slice_get};
 ghost use Rattle.std.specs.Option.{option_map};
@@ -95,18 +95,6 @@ impl EitherIndex {
         match self {
             EitherIndex::Array(index) => index.list(list),
             EitherIndex::Chain(index) => insert_place(index, key, place, list),
-        }
-    }
-
-    /// The index of a place in a list of places of a hash map, by a binary search for its key,
-    /// which the place may have lost. It is found where the other places of the list have keys, in
-    /// the order of the keys.
-    pub fn index_in(&self, list: &[usize], key: &[u8], place: usize) -> Option<usize>
-        ensures { IfSome result (λ i. slice_get list.now i ≡ Some place) }
-    {
-        match self {
-            EitherIndex::Array(_) => None,
-            EitherIndex::Chain(index) => index.index_in(list, key, place),
         }
     }
 
