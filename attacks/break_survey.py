@@ -1,19 +1,17 @@
 #!/usr/bin/env python3
 """Breaks xdpvm_survey from outside: makes each allocation, read and write of some command lines fail in turn, and each
-opening of a file or folder and listing of a folder.
+opening of a file or folder, listing of a folder and emptying of a file.
 
 usage: python3 attacks/break_survey.py [PROGRAM [FOLDER]]
 
-PROGRAM is xdpvm_survey (the default: crates/xdpvm_survey/out/xdpvm_survey). If an allocation fails,
-the status is 5 and standard error says so, or a row says `memory`; or what is known of a refusal is
-left out. If a read fails, its file is named, with status 4 or more, or the frame stream has a
-fault, with status 3; if a write fails, the output is, or standard error got less; it is not written
-to again. If a file or folder cannot be opened, or a folder not listed, standard error names it and
-says why, with status 4. It never crashes, and never accepts an image that `verify` refuses. The
-times in a row are those of a clock that this script sets. A proof table has what stood there before, or a beginning of the new
-one. With FOLDER it surveys each image there
-by itself, once with proof tables, and shows it. It needs a C compiler (CC). The last line is
-'N tried, M wrong'. Without FOLDER in the gate.
+PROGRAM is xdpvm_survey (the default: crates/xdpvm_survey/out/xdpvm_survey). If an allocation fails, the status is 5 and standard
+error says so, or a row says `memory`; or what is known of a refusal is left out. If a read fails, its file is named, with status
+4 or more, or the frame stream has a fault, with status 3; if a write or an emptying fails, the output is, or standard error got
+less; it is not written to again. If a file or folder cannot be opened, or a folder not listed, standard error names it and says
+why, with status 4. It never crashes, and never accepts an image that `verify` refuses. The times in a row are those of a clock
+that this script sets. A proof table has what stood there before, or a beginning of the new one; nothing only where a write failed.
+With FOLDER it surveys each image there by itself, once with proof tables, and shows it. It needs a C compiler (CC). The last line
+is 'N tried, M wrong'. Without FOLDER in the gate.
 """
 import csv
 import json
@@ -53,7 +51,7 @@ OUTPUTS = ("made/filter.table", "made/talkers.table")
 TIMES = re.compile(rb" *\d+\.\d+")
 # why break.c lets no file or folder be opened, and no folder be listed
 REASONS = {"open": b"permission denied", "list": b"it timed out"}
-KINDS = ("alloc", "read", "write", *REASONS)
+KINDS = ("alloc", "read", "write", "empty", *REASONS)
 
 # When the clock is read for the nth time, it says n * n ticks of so many nanoseconds: between its first and second reading
 # pass 3 ticks, between the third and the fourth 7, and between the fifth and the sixth 11.
@@ -74,7 +72,7 @@ def is_shorter(answer: Answer, whole: Answer) -> bool:
 
 def is_right(kind: str, answer: Answer, whole: Answer) -> bool:
     begun = all(found is None or (right or b"").startswith(found) for found, right in zip(answer.files, whole.files))
-    if answer.tried_again or not begun:
+    if answer.tried_again or not begun or kind != "write" and b"" in answer.files:
         return False
     if kind in REASONS:
         is_named = re.search(rb"^cannot (read|write) \S+\n" + REASONS[kind] + b"$", answer.err, re.M)

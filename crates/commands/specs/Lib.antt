@@ -6,7 +6,6 @@ pub mod InvalidRuns
 pub mod Judging
 pub mod Known
 pub mod Proving
-pub mod Replacing
 pub mod Saying
 pub mod Statuses
 pub mod Stopped

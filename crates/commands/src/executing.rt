@@ -27,8 +27,8 @@ use words::{WordsError, read_words};
 /// by `trace`, which names the packet frames whose runs ended without an action, by `run`, which
 /// names the first that ended with INVALID and says how many there are, and by `prove`, which says
 /// before it writes a large table how many bytes that has. At 2 standard error says what was
-/// refused, why and where; for a program and for an entry of a proof table also what is known there,
-/// for a text also the line and a hint. At 3 it says why the frame stream ended early.
+/// refused, why and where; for a program and for an entry of a proof table also what is known
+/// there, for a text also the line and a hint. At 3 it says why the frame stream ended early.
 #[tactic(auto, using(crate::proofs::ExecutingLaws::statuses))]
 pub fn execute<R: Files + Clock + AllocGlobal, W1: Write + Drop, W2: Write>(
     rt: &R,

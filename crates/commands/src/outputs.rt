@@ -4,9 +4,8 @@ ghost use Rattle.std.specs.Prelude.{IfErr, codes};
 ghost use Rattle.commands.specs.Statuses.{IsMakeFailure};
 
 use super::outcomes::TaskOutcome;
-use super::replacing::{Replaced, open_appended, open_replaced};
 use super::same::{is_output_pipe, is_same_file};
-use exact_io::PromptWriter;
+use exact_io::{PromptWriter, Replaced, open_appended, open_replaced};
 use messages::{Conflict, STANDARD_OUTPUT};
 use std::alloc::Global;
 use std::io::Write;

@@ -1,3 +1,4 @@
 pub mod Transfers
 pub mod Waiting
+pub mod Replacing
 pub mod Failures

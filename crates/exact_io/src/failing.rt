@@ -12,7 +12,7 @@ use std::io;
 use std::io::{ErrorKind, Read, Write};
 
 /// The failure: an error, or a result that says that no byte was moved.
-#[derive(Clone, Copy, PartialEq, Eq, Debug)]
+#[derive(Clone, Copy)]
 pub enum Failure {
     Error(ErrorKind),
     Nothing,

@@ -2,7 +2,7 @@
 
 ghost use Rattle.std.specs.Prelude.{◌≡◌, IfErr, bytes_eq, codes};
 ghost use Rattle.words.specs.FilterRequests.{convert_request_of};
-ghost use Rattle.commands.specs.Replacing.{written};
+ghost use Rattle.exact_io.specs.Replacing.{written};
 ghost use Rattle.commands.specs.Statuses.{IsMakeFailure};
 ghost use Rattle.filtering.specs.FrameKinds.{written_as};
 ghost use Rattle.filtering.specs.Conversions.{CapturesBegun, CapturesFrom, ConvertsBegun, ConvertsFiles, CopiesBegun, CopiesFrom, PrintsBegun, WritesBegun, copied_by, outcome_of, placing_of};

@@ -4,7 +4,7 @@ ghost use Rattle.std.specs.Prelude.{◌≡◌, ◌≤◌, map, MatchResult};
 ghost use Rattle.std.specs.String.{string_bytes};
 ghost use Rattle.exact_io.specs.Waiting.{held};
 ghost use Rattle.words.specs.FilterRequests.{convert_request_of, filter_request_of, operator_request_of};
-ghost use Rattle.commands.specs.Replacing.{written};
+ghost use Rattle.exact_io.specs.Replacing.{written};
 ghost use Rattle.commands.specs.Saying.{AppendsPart};
 ghost use Rattle.commands.specs.Statuses.{status_of};
 ghost use Rattle.filtering.specs.Executing.{ConvertsWhole, FiltersWords, FiltersWhole, SaysNoTask, SaysOnOutput, ServesRequest, TellsUnread, other_form, told_converted};

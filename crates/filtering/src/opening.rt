@@ -8,10 +8,10 @@ ghost use Rattle.filtering.specs.Opening.{IsOpenFailure, IsOutputConflict, IsTol
 
 use captures::{CaptureKind, FramesOf, OpenFailure, Reasons};
 use commands::{
-    Replaced, TaskOutcome, Watched, begin_frames, create_output, keep_apart, open_frames,
+    TaskOutcome, Watched, begin_frames, create_output, keep_apart, open_frames,
     open_standard_output,
 };
-use exact_io::PromptWriter;
+use exact_io::{PromptWriter, Replaced};
 use frames::{Ahead, Source};
 use messages::{FileForm, STANDARD_OUTPUT};
 use std::alloc::Global;

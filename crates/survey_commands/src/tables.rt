@@ -8,13 +8,12 @@ ghost use Rattle.survey_commands.specs.Tables.{HasTable, SaysTableSize};
 
 use crate::failures::{SurveyError, large_line};
 use bounds::Verified;
-use exact_io::{PromptWriter, write_bytes};
+use exact_io::{PromptWriter, open_replaced, write_bytes};
 use listeners::Explored;
 use proof_table::{
     WriteTableError, explore_again, most_bytes, recheck, table_size, write_explored,
 };
 use std::alloc::{AllocError, Global};
-use std::fs;
 use std::io::Write;
 use std::path::Path;
 use std::rt::Files;
@@ -83,7 +82,7 @@ fn store_table<R: Files>(
     path: &str,
     table: &[u8],
 ) -> Result<(), SurveyError> {
-    let mut file = match fs::create(rt, path) {
+    let mut file = match open_replaced(rt, path, false) {
         Ok(file) => file,
         Err(error) => return Err(SurveyError::of_write(alloc, path, error.kind())),
     };
@@ -123,7 +122,7 @@ fn stream_table<R: Files>(
 ) -> Result<bool, SurveyError>
     requires { IsForTable verified.now.program explored.now }
 {
-    let file = match fs::create(rt, path) {
+    let file = match open_replaced(rt, path, false) {
         Ok(file) => file,
         Err(error) => return Err(SurveyError::of_write(alloc, path, error.kind())),
     };

@@ -1,5 +1,5 @@
 use Rattle.std.proofs.Common.{ℕ, List, subst, inr}
-use Rattle.commands.specs.Replacing.{written}
+use Rattle.exact_io.specs.Replacing.{written}
 use Rattle.filtering.specs.Conversions.{CopiesFrom}
 use Rattle.filtering.proofs.conversions.copy_begun.Goals as goal
 

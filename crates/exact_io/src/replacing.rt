@@ -32,7 +32,7 @@ impl<F: OpenFile> Replaced<F> {
 }
 
 impl<F: OpenFile + Write> Write for Replaced<F> {
-    ghost use Rattle.commands.specs.Replacing.{written};
+    ghost use Rattle.exact_io.specs.Replacing.{written};
 
     ghost contents = { written F.contents };
 
