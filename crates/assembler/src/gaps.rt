@@ -12,7 +12,7 @@ use std::alloc::{AllocError, Global};
 
 /// Says where bytes of a text were dropped: the line and the column of the next byte without them,
 /// and with them.
-#[derive(Clone, Copy, PartialEq, Eq, Debug)]
+#[derive(Clone, Copy)]
 pub struct Gap {
     pub line: usize,
     pub column: usize,
@@ -21,7 +21,7 @@ pub struct Gap {
 }
 
 /// Bytes of a text, from one index up to another one.
-#[derive(Clone, Copy, PartialEq, Eq, Debug)]
+#[derive(Clone, Copy)]
 pub struct IdlePart {
     pub from: usize,
     pub to: usize,

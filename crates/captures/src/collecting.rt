@@ -8,7 +8,7 @@ use exact_io::Filled;
 use frames::{Source, fill};
 
 /// Says how filling the front of a buffer ended.
-#[derive(Clone, Copy, PartialEq, Eq, Debug)]
+#[derive(Clone, Copy)]
 pub enum Collected {
     /// It has as many bytes as were wanted.
     Whole,

@@ -8,7 +8,7 @@ use super::packets::CapturedHead;
 use isa_model::MAX_PACKET;
 
 /// Says how many packets a capture's frame stream does not say whole.
-#[derive(Clone, Copy, PartialEq, Eq, Debug)]
+#[derive(Clone, Copy)]
 pub struct CaptureCounts {
     /// Were cut when they were captured: they had more bytes on the wire.
     pub cut: u64,

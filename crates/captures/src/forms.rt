@@ -10,14 +10,14 @@ ghost use Rattle.captures.specs.Pcapng.{is_section, long_field, short_field};
 use byteorder::{BigEndian, ByteOrder, LittleEndian};
 
 /// Says which byte of a number comes first.
-#[derive(Clone, Copy, PartialEq, Eq, Debug)]
+#[derive(Clone, Copy)]
 pub enum NumberOrder {
     HighFirst,
     LowFirst,
 }
 
 /// Says what the second number of a time counts.
-#[derive(Clone, Copy, PartialEq, Eq, Debug)]
+#[derive(Clone, Copy)]
 pub enum TimeUnit {
     Microseconds,
     Nanoseconds,
@@ -37,7 +37,7 @@ impl TimeUnit {
 }
 
 /// Says what the bytes of a packet begin with.
-#[derive(Clone, Copy, PartialEq, Eq, Debug)]
+#[derive(Clone, Copy)]
 pub enum LinkType {
     /// An Ethernet head. LINKTYPE_ETHERNET.
     Ethernet,
@@ -54,7 +54,7 @@ pub enum LinkType {
 }
 
 /// Says how the packets of a pcap file are written, by its head.
-#[derive(Clone, Copy, PartialEq, Eq, Debug)]
+#[derive(Clone, Copy)]
 pub struct PcapForm {
     pub order: NumberOrder,
     pub unit: TimeUnit,
@@ -62,7 +62,7 @@ pub struct PcapForm {
 }
 
 /// Says whether the reasons are read that the comments of packets say.
-#[derive(Clone, Copy, PartialEq, Eq, Debug)]
+#[derive(Clone, Copy)]
 pub enum Reasons {
     /// Each packet has the reason 0.
     Ignored,
@@ -71,14 +71,14 @@ pub enum Reasons {
 }
 
 /// Says how the blocks of a section of a pcapng file are read.
-#[derive(Clone, Copy, PartialEq, Eq, Debug)]
+#[derive(Clone, Copy)]
 pub struct PcapngForm {
     pub order: NumberOrder,
     pub reasons: Reasons,
 }
 
 /// Says how the records of a capture are written.
-#[derive(Clone, Copy, PartialEq, Eq, Debug)]
+#[derive(Clone, Copy)]
 pub enum CaptureFormat {
     /// A pcap file.
     Pcap(PcapForm),
@@ -111,7 +111,7 @@ impl CaptureFormat {
 }
 
 /// Says why a file is not read as a capture.
-#[derive(Clone, Copy, PartialEq, Eq, Debug)]
+#[derive(Clone, Copy)]
 pub enum CaptureRefusal {
     /// Fewer than 24 bytes.
     TruncatedFileHead,

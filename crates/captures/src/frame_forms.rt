@@ -7,7 +7,7 @@ ghost use Rattle.captures.specs.CopyCounts.{counts_after, is_left_out, is_unreas
 use isa_model::{Finish, MAX_SHORT_PACKET};
 
 /// Says how frames are written.
-#[derive(Clone, Copy, PartialEq, Eq, Debug)]
+#[derive(Clone, Copy)]
 pub enum FrameForm {
     /// As a stream of their records, of the version of the stream that is read.
     Records,
@@ -47,7 +47,7 @@ impl FrameForm {
 }
 
 /// How many frames a stream had, and of how many not all was written.
-#[derive(Clone, Copy, PartialEq, Eq, Debug)]
+#[derive(Clone, Copy)]
 pub struct CopyCounts {
     pub frames: u32,
     /// Were left out.

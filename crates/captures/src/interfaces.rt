@@ -19,14 +19,14 @@ const TIME_SCALE: u16 = 9;
 const TIME_OFFSET: u16 = 14;
 
 /// Says how many units of its times a second has: a power of 10 or of 2.
-#[derive(Clone, Copy, PartialEq, Eq, Debug)]
+#[derive(Clone, Copy)]
 pub enum TimeScale {
     PowerOf10(u8),
     PowerOf2(u8),
 }
 
 /// Says what a section knows of an interface.
-#[derive(Clone, Copy, PartialEq, Eq, Debug)]
+#[derive(Clone, Copy)]
 pub struct Interface {
     pub link: u16,
     pub scale: TimeScale,

@@ -6,14 +6,14 @@ ghost use Rattle.captures.specs.CaptureBytes.{counted, is_kept, lost_after, none
 use isa_model::FrameHead;
 
 /// Says in which format a capture is written.
-#[derive(Clone, Copy, PartialEq, Eq, Debug)]
+#[derive(Clone, Copy)]
 pub enum CaptureKind {
     Pcap,
     Pcapng,
 }
 
 /// Says which capture is written of a frame stream.
-#[derive(Clone, Copy, PartialEq, Eq, Debug)]
+#[derive(Clone, Copy)]
 pub struct CaptureForm {
     pub kind: CaptureKind,
     /// Whether frames with a reason are written too; else they are left out.
@@ -31,7 +31,7 @@ impl CaptureForm {
 }
 
 /// How many frames have something that the capture does not say, up to 2^64 - 1 of each.
-#[derive(Clone, Copy, PartialEq, Eq, Debug)]
+#[derive(Clone, Copy)]
 pub struct LostCounts {
     /// Came in by another interface than the capture says.
     pub interfaces: u64,

@@ -10,7 +10,7 @@ use super::links::{interface_of, settle};
 use isa_model::FrameHead;
 
 /// Says what a packet record says of its packet beside the bytes.
-#[derive(Clone, Copy, PartialEq, Eq, Debug)]
+#[derive(Clone, Copy)]
 pub struct CapturedHead {
     /// Its time and interface.
     pub head: FrameHead,
@@ -23,7 +23,7 @@ pub struct CapturedHead {
 }
 
 /// Says what a record says of its packet, and where in a block its Ethernet frame begins and ends.
-#[derive(Clone, Copy, PartialEq, Eq, Debug)]
+#[derive(Clone, Copy)]
 pub struct FramedPacket {
     pub head: CapturedHead,
     pub from: usize,
@@ -31,7 +31,7 @@ pub struct FramedPacket {
 }
 
 /// Says what is wrong with the records of a capture.
-#[derive(Clone, Copy, PartialEq, Eq, Debug)]
+#[derive(Clone, Copy)]
 pub enum PacketFault {
     /// Fewer bytes than the head of a record has.
     TruncatedRecord,
@@ -51,14 +51,14 @@ pub enum PacketFault {
 
 /// Says how a capture's packets end: at its end, or by a fault in the record that begins at an
 /// offset in bytes.
-#[derive(Clone, Copy, PartialEq, Eq, Debug)]
+#[derive(Clone, Copy)]
 pub enum PacketEnd {
     End,
     Fault(PacketFault, u64),
 }
 
 /// Says what is wrong with a capture, and where: its record that begins at an offset in bytes.
-#[derive(Clone, Copy, PartialEq, Eq, Debug)]
+#[derive(Clone, Copy)]
 pub struct CaptureDamage {
     pub fault: PacketFault,
     pub offset: u64,

@@ -7,7 +7,7 @@ use isa_model::FrameHead;
 
 /// Says by which interface and by which queue all frames came in, where that is known; else each
 /// frame says it.
-#[derive(Clone, Copy, PartialEq, Eq, Debug)]
+#[derive(Clone, Copy)]
 pub struct Placing {
     pub interface: Option<u32>,
     pub queue: Option<u32>,

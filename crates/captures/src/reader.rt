@@ -18,7 +18,7 @@ use std::alloc::{AllocError, Global};
 use std::marker::Model;
 
 /// Says why a capture cannot be opened.
-#[derive(Clone, Copy, PartialEq, Eq, Debug)]
+#[derive(Clone, Copy)]
 pub enum OpenFailure {
     /// It is not read.
     Refused(CaptureRefusal),
@@ -29,7 +29,7 @@ pub enum OpenFailure {
 }
 
 /// Says what a call of `CaptureReader::next` found.
-#[derive(Clone, Copy, PartialEq, Eq, Debug)]
+#[derive(Clone, Copy)]
 pub enum Captured {
     /// A packet. `CaptureReader::frame` has its Ethernet frame.
     Packet(CapturedHead),

@@ -10,7 +10,7 @@ use super::interfaces::Interfaces;
 use super::packets::{FramedPacket, PacketFault, take_packet};
 
 /// Says what a record has.
-#[derive(Clone, Copy, PartialEq, Eq, Debug)]
+#[derive(Clone, Copy)]
 pub enum TakenRecord {
     /// A packet, with its Ethernet frame in the block.
     Packet(FramedPacket),

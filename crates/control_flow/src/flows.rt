@@ -38,7 +38,8 @@ pub struct Flow<'a> {
     masks: Vec<HomeMask>,
     /// Says whether the program takes input.
     takes_input: bool,
-    /// Says whether numbers may be forgotten that no path tests. If not, the fields below are empty.
+    /// Says whether numbers may be forgotten that no path tests. If not, the fields below are
+    /// empty.
     forgets: bool,
     /// Of what the numbers are tested.
     tested: Vec<HomeMask>,

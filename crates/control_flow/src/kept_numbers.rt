@@ -48,8 +48,8 @@ impl KeptNumbers {
     }
 }
 
-/// Returns whether it matters what an exit at a slot answers: to a caller, or in version 2, where it
-/// has to be a known action.
+/// Returns whether it matters what an exit at a slot answers: to a caller, or in version 2, where
+/// it has to be a known action.
 fn answers(image: &Image, functions: &[usize], slot: usize) -> bool {
     image.version() == 2 || functions.get(slot) != Some(&0)
 }
@@ -222,7 +222,8 @@ fn kept_at(loops: &Loops, flows: &Flows, slot: usize, tested: HomeMask, known: b
 
 /// Which numbers a long search of a program keeps: what flows into an access, into another call
 /// frame, or into a jump that may leave a loop or decides which number gets there; on a loop, its
-/// head aside, what flows into any jump there. These are of the `tested` numbers if it is `known` which these are.
+/// head aside, what flows into any jump there. These are of the `tested` numbers if it is `known`
+/// which these are.
 pub fn kept_numbers(
     alloc: Global,
     image: &Image,

@@ -162,7 +162,8 @@ impl Loops {
     /// The loops of a graph, where these are the functions that its slots belong to.
     pub fn of(alloc: Global, nodes: &[Node], functions: &[usize]) -> Result<Self, AllocError>
         requires near { FallsNear nodes.now }
-        requires inside { (slot to : ℕ) → jump_from nodes.now slot ≡ Some to → to < length nodes.now }
+        requires inside { (slot to : ℕ) → jump_from nodes.now slot ≡ Some to
+            → to < length nodes.now }
     {
         let sources = sources_of(alloc, nodes)?;
         let turns = turns_of(alloc, nodes, functions)?;

@@ -5,7 +5,7 @@ ghost use Rattle.coverage.specs.Ranks.{HasRank, AreStepNumbers, is_number};
 
 /// The least, the median and the greatest number of steps of some runs; of two in the middle the
 /// lesser one.
-#[derive(Clone, Copy, PartialEq, Eq, Debug)]
+#[derive(Clone, Copy)]
 pub struct StepNumbers {
     pub least: usize,
     pub median: usize,

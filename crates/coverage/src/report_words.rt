@@ -4,7 +4,8 @@ use crate::FrameSteps;
 use isa_model::{Action, End, Version};
 use std::alloc::{AllocError, Global};
 
-/// The reason of a frame that is dropped, by the program's version and answer; 0 if it is forwarded.
+/// The reason of a frame that is dropped, by the program's version and answer; 0 if it is
+/// forwarded.
 fn reason_of(program: Version, answer: u64) -> u64 {
     if Action::of(answer).is_forwarded() {
         return 0;

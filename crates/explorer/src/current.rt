@@ -166,8 +166,8 @@ impl Current {
     }
 
     /// Keeps a state that has the callers of this one, though others may be in it. Its innermost
-    /// call frame has only these stack slots about which something may be known. It is scratch space
-    /// afterwards.
+    /// call frame has only these stack slots about which something may be known. It is scratch
+    /// space afterwards.
     pub fn keep_beside(
         &mut self,
         alloc: Global,

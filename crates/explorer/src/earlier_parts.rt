@@ -1,6 +1,6 @@
 //! What parts of a call frame were before they changed.
 
-ghost use Rattle.std.specs.Prelude.{◌≡◌, IfOk, IfSome};
+ghost use Rattle.std.specs.Prelude.{◌≡◌, IfOk};
 ghost use Rattle.explorer.specs.EarlierParts.{earlier_part, parts_left, number_at, number_change, packet_kind, part_at};
 
 use crate::constants::{constant_in, constant_part};
@@ -86,18 +86,6 @@ fn number_change(place: ShortPlace, differ: Differences) -> Change
     match place {
         ShortPlace::Register(number) => Change::NumberInRegister(number, differ),
         ShortPlace::Slot(index) => Change::NumberInSlot(index, differ),
-    }
-}
-
-/// The place of a part, and the kind of what is there, if it is a whole value.
-#[inline(always)]
-fn placed_kind(part: &Part) -> Option<(ShortPlace, Kind)>
-    ensures { IfSome result (λ placed. part_at placed.0 placed.1 ≡ part.now) }
-{
-    match part {
-        Part::InRegister(number, kind) => Some((ShortPlace::Register(*number), *kind)),
-        Part::InSlot(index, StackSlot::Spilled(kind)) => Some((ShortPlace::Slot(*index), *kind)),
-        Part::InSlot(_, StackSlot::Written(_)) => None,
     }
 }
 

@@ -25,8 +25,8 @@ pub const PLACES: usize = 10 + STACK_SIZE / 8;
 /// Says how many words a state takes besides its call frames.
 const STATE_WORDS: u32 = 16;
 
-/// Returns how many words a state takes that no other one shares: its callers are had so often by it
-/// and by whoever does not count.
+/// Returns how many words a state takes that no other one shares: its callers are had so often by
+/// it and by whoever does not count.
 fn own_words(innermost: &KeptFrame, callers: &Callers, held: usize) -> u32 {
     let mut words = innermost.own_words().saturating_add(STATE_WORDS);
     if Rc::strong_count(callers) == held {
@@ -196,8 +196,8 @@ impl Kept {
     }
 
     /// Keeps a state beside another one, of which these are the callers, which it has too, though
-    /// others may be in it. Its innermost frame has these parts. `held`: who has the callers already
-    /// and does not count.
+    /// others may be in it. Its innermost frame has these parts. `held`: who has the callers
+    /// already and does not count.
     pub(crate) fn with_callers(
         alloc: Global,
         state: &State,

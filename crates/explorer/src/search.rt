@@ -45,8 +45,9 @@ pub struct Search {
 }
 
 impl Search {
-    /// A search at the start of code of this number of slots. It is large, so it is on the heap, and
-    /// it is made out of line: its place on the machine's stack is free again when a search begins.
+    /// A search at the start of code of this number of slots. It is large, so it is on the heap,
+    /// and it is made out of line: its place on the machine's stack is free again when a search
+    /// begins.
     #[inline(never)]
     pub fn new(alloc: Global, slots: usize) -> Result<Box<Self>, AllocError>
         ensures new { IfOk result (λ search. IsNew search.value) }

@@ -16,7 +16,7 @@ use isa_model::{Fault, Finish, FrameHead, MAX_PACKET, Version};
 use std::marker::Model;
 
 /// Says what a call of `FrameReader::next` found.
-#[derive(Clone, Copy, PartialEq, Eq, Debug)]
+#[derive(Clone, Copy)]
 pub enum Next {
     /// A record: its head, the length of its body, which is at the front of the buffer, and its
     /// reason, which is 0 in an `XPF1` stream.

@@ -12,7 +12,7 @@ use isa_model::{Action, End, Version};
 pub const MOST_REASONS: usize = 64;
 
 /// Says how many frames were not forwarded for a reason.
-#[derive(Clone, Copy, PartialEq, Eq, Debug)]
+#[derive(Clone, Copy)]
 pub struct ReasonCount {
     pub reason: u32,
     pub frames: u32,

@@ -5,7 +5,7 @@ ghost use Rattle.host.specs.EndCounts.{no_actions, count_of_action, with_action,
 use isa_model::{Action, TrapReason};
 
 /// Says how many frames' runs ended by each action.
-#[derive(Clone, Copy, PartialEq, Eq, Debug)]
+#[derive(Clone, Copy)]
 pub struct ActionCounts {
     pub aborted: u32,
     pub drop: u32,
@@ -61,7 +61,7 @@ impl ActionCounts {
 }
 
 /// Says how many frames' runs ended by a trap of each reason.
-#[derive(Clone, Copy, PartialEq, Eq, Debug)]
+#[derive(Clone, Copy)]
 pub struct TrapCounts {
     pub no_code: u32,
     pub unset_read: u32,

@@ -7,14 +7,14 @@ ghost use Rattle.host.specs.InvalidRuns.{invalid_of, with_invalid, with_invalid_
 use isa_model::End;
 
 /// Says which packet frame's run ended with INVALID, and what it answered.
-#[derive(Clone, Copy, PartialEq, Eq, Debug)]
+#[derive(Clone, Copy)]
 pub struct InvalidFrame {
     pub frame: u32,
     pub answer: u64,
 }
 
 /// The packet frames whose runs ended with INVALID.
-#[derive(Clone, Copy, PartialEq, Eq, Debug)]
+#[derive(Clone, Copy)]
 pub struct InvalidFrames {
     /// The first one; `None`: there are none.
     pub first: Option<InvalidFrame>,

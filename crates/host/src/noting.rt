@@ -22,7 +22,7 @@ use std::alloc::Global;
 use std::io::Write;
 
 /// Says what the report's last line shows, and which packet frames' runs ended with INVALID.
-#[derive(Clone, Copy, PartialEq, Eq, Debug)]
+#[derive(Clone, Copy)]
 pub struct Ran {
     pub tally: Tally,
     pub invalid: InvalidFrames,

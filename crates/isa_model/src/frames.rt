@@ -6,7 +6,7 @@ ghost use Rattle.isa_model.specs.Reporting.Reports.{action_name, is_forwarded};
 
 /// Says what a frame's record says beside the body: a time in nanoseconds, and the interface and
 /// queue that it came in by.
-#[derive(Clone, Copy, PartialEq, Eq, Debug)]
+#[derive(Clone, Copy)]
 pub struct FrameHead {
     pub time: u64,
     pub interface: u32,

@@ -11,8 +11,8 @@ mod texts;
 mod traps;
 mod verdicts;
 
-/// Returns the entry of a code, such as `V9`, or of a trap reason, in whole lines. None: nothing has
-/// that code.
+/// Returns the entry of a code, such as `V9`, or of a trap reason, in whole lines. None: nothing
+/// has that code.
 pub fn entry_of(code: &str) -> Option<&'static str>
     ensures { IfSome result (λ text. IsEntryOf code.now text.now) }
 {

@@ -1,6 +1,6 @@
 //! What is said of a refused text, image, program or proof table, a frame stream's fault, and a
-//! file that failed: for the command line a line on standard output, and a sentence with its position
-//! and a hint on standard error; for a caller's buffer the same as one message.
+//! file that failed: for the command line a line on standard output, and a sentence with its
+//! position and a hint on standard error; for a caller's buffer the same as one message.
 #![tactic(auto)]
 
 mod causes;

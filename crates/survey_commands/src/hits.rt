@@ -72,8 +72,8 @@ fn count<R: Files + Clock + AllocGlobal, W1: Write, W2: Write>(
 
 /// Prints how often each instruction is run over the frames of a stream, and returns the status: 2
 /// where the image or the text of the maps is refused, 3 where a fault ended the stream, which is
-/// said after the counts of the frames before it. Where memory runs out while the bound is looked for,
-/// the counts are printed, and the failure is that of memory.
+/// said after the counts of the frames before it. Where memory runs out while the bound is looked
+/// for, the counts are printed, and the failure is that of memory.
 pub fn print_hits<R: Files + Clock + AllocGlobal, W1: Write, W2: Write>(
     rt: &R,
     asked: RunAsked<'_>,

@@ -220,8 +220,8 @@ impl Listener for Watch {
     fn refused(&mut self, _refusal: Refusal, _slot: usize) {}
 }
 
-/// Searches a program, and returns what the search came to; of a program that is searched again, what
-/// the second search did.
+/// Searches a program, and returns what the search came to; of a program that is searched again,
+/// what the second search did.
 pub fn overview_of(alloc: Global, image: &Image) -> Result<Overview, AllocError> {
     let mut watch = Watch {
         alloc,

@@ -30,7 +30,7 @@ pub struct Survey<'a> {
 }
 
 /// Says which part of a log is printed.
-#[derive(Clone, Copy, PartialEq, Eq, Debug, Drop)]
+#[derive(Clone, Copy, Drop)]
 pub struct LogPart {
     /// The slot whose states are printed, if not those at all slots.
     pub slot: Option<usize>,

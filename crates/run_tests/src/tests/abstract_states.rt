@@ -1,5 +1,5 @@
-//! Tests of operations on numbers, of the sets of numbers that the verifier knows in registers, and of
-//! abstract states: a module for each subject, and what they share.
+//! Tests of operations on numbers, of the sets of numbers that the verifier knows in registers, and
+//! of abstract states: a module for each subject, and what they share.
 
 mod bits;
 mod branches;

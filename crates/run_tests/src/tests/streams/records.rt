@@ -23,6 +23,22 @@ const HEAD: FrameHead = FrameHead {
 const RECORD: &[u8] =
     b"XPF1\x01\x02\x03\x04\x05\x06\x07\x08\x09\x0a\x0b\x0c\x0d\x0e\x0f\x10\x05\0\0\0hello";
 
+// Whether two calls of `next` found the same.
+fn are_same(one: Next, other: Next) -> bool {
+    match (one, other) {
+        (Next::Frame(head, length, reason), Next::Frame(wanted, long, why)) => {
+            head.time == wanted.time
+                && head.interface == wanted.interface
+                && head.queue == wanted.queue
+                && length == long
+                && reason == why
+        }
+        (Next::End, Next::End) => true,
+        (Next::Fault(fault, offset), Next::Fault(wanted, at)) => fault == wanted && offset == at,
+        _ => false,
+    }
+}
+
 // How many records come before the stop, the stop, and the result of the call after it.
 fn stop_of(source: Reader<'_>) -> (u32, Next, Next) {
     let mut reader = FrameReader::new(source);
@@ -62,7 +78,8 @@ fn stops_so(left: &[u8], room: usize, failing: Failure, (count, stop): (u32, Nex
             room,
             failing: Some(failing),
         };
-        if stop_of(source) != (count, stop, stop) {
+        let (found, first, after) = stop_of(source);
+        if found != count || !are_same(first, stop) || !are_same(after, stop) {
             return false;
         }
     }
@@ -224,7 +241,9 @@ fn calls_of(given: &[u8], times: u32) -> (Begun, Next, Begun, Begun) {
 fn begins_so((given, first, next, after): &Beginning) -> bool {
     for times in 0..3u32 {
         let first = if times == 0 { Ok(0) } else { *first };
-        if calls_of(*given, times) != (first, *next, *after, *after) {
+        let (begun, found, second, third) = calls_of(*given, times);
+        let are_begun = begun == first && second == *after && third == *after;
+        if !are_begun || !are_same(found, *next) {
             return false;
         }
     }
