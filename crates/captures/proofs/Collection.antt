@@ -1,5 +1,5 @@
 -- Laws of bytes that are taken to the front of a buffer.
-use Rattle.captures.proofs.Common.{◌≡◌, ℕ, ◌+◌, ◌-◌, ◌≤◌, List, ◌++◌, length, take, drop, Option, Some, None, sym, ap, ◌∙◌, append_assoc, arith, take-append-le, take_at, drop_at, length-take-le, take-put_mid, Consumes, Keeps, prepend_known, put_mid, post_of, Collects}
+use Rattle.captures.proofs.Common.{◌≡◌, ℕ, ◌+◌, ◌-◌, ◌≤◌, List, ◌++◌, length, take, drop, Option, Some, None, sym, ap, ◌∙◌, append_assoc, arith, take-append-le, take_at, drop_at, length-take-le, take-put_mid, Consumes, Keeps, prepend_known, put_mid, post_of, Collects, Keeps-trans}
 use lib.Seq.{take-add}
 
 -- what the source lost is at the end of the front
@@ -41,3 +41,14 @@ Collects-all old new count wanted xs ys within less size lost =
     let is : take wanted (put_mid count (wanted - count) xs ys) ≡ take count xs ++ ys =
     take-put_mid count (wanted - count) xs ys wanted (omega arith) within in
     record { more = ys; grows = is; kept = rw is (kept_more old new (take count xs) ys lost) }
+
+-- what was taken in two turns was taken in one
+pub Collects-then : (old mid new : Option (List ℕ)) (held front after : List ℕ)
+    → Collects old mid held front → Collects mid new front after → Collects old new held after
+Collects-then old mid new held front after first next =
+    record {
+      more = first.more ++ next.more;
+      grows = next.grows ∙ ap (λ l. l ++ next.more) first.grows
+          ∙ append_assoc held first.more next.more;
+      kept = Keeps-trans _ _ _ first.kept next.kept;
+    }

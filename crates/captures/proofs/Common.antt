@@ -1,6 +1,6 @@
 -- The names that most proofs of this crate cite, passed on from one place. Declares nothing.
 pub use Rattle.std.proofs.Common.{◌≡◌, ℕ, zero, suc, ◌+◌, ◌<◌, ◌≤◌, List, [], ◌∷◌, ◌++◌, length, take, drop, Bool, true, false, Result, Ok, Err, refl, sym, ap, ◌∙◌, arith, le-ltb, lt-ltb, ltb-false, length-drop, inl, inr, nat_lt, if◌then◌else◌, ◌-◌, Option, Some, None, append_assoc, subst, append-nil, length-append, cond, IfSome, max, IfOk, min, slice_range, replicate, ◌*◌, get_or, ◌%◌, ◌^◌, ◌==◌, not, ◌/◌, ltb-true, eq-eqb, codes, decimal, slice_get, OnErr, map, All, le-leb, ◌&&◌, nat_le, option_map, OnOk, rules, ◌≢◌, take-append-drop}
-pub use Rattle.std.proofs.KnownBytes.{Appends-kept, Appends-trans, Appends-nil}
+pub use Rattle.std.proofs.KnownBytes.{Keeps-trans, Appends-kept, Appends-trans, Appends-nil}
 pub use Rattle.std.proofs.Math.Logic.{∥∥₁_map}
 pub use Rattle.std.proofs.Math.Seq.{take-length, take-append-add}
 pub use Rattle.std.proofs.lemmas.Bool.{cases_lt, leb-true}

@@ -1,4 +1,5 @@
 use Rattle.captures.proofs.Common.{◌≡◌, max, arith, ap, sym, ◌∙◌, length-take-le, head_size}
+use Rattle.captures.proofs.Collection.{Collects-then}
 use Rattle.captures.proofs.GatheringLaws.{was_whole, was_ended, was_failed, gathered_none, gathered_some, gathered_bad, gathered_part, gathered_whole, gathered_unread, head_read, headless_part, still_says}
 use Rattle.captures.proofs.CapturedLaws.{record_size-most}
 use Rattle.captures.proofs.gathering.gather.Goals as goal
@@ -88,3 +89,48 @@ returns-in-Failed-collected-clause-gathered g c =
     c.requires.inside c.collect-collected.ensures.inside first c.requires.part
     (sym c.record_size.ensures ∙ c.in-Ok.is)) c.collect-collected-2.ensures.bytes
     c.collect-collected-2.ensures.inside last.1
+
+pub returns-then-count-eq0-clause-bytes : goal.returns-then-count-eq0-clause-bytes
+returns-then-count-eq0-clause-bytes g c = c.collect-collected.ensures.bytes
+
+pub returns-then-count-eq0-clause-inside : goal.returns-then-count-eq0-clause-inside
+returns-then-count-eq0-clause-inside g c = c.collect-collected.ensures.inside
+
+pub returns-else-count-eq0-clause-bytes : goal.returns-else-count-eq0-clause-bytes
+returns-else-count-eq0-clause-bytes g c = c.collect-collected.ensures.bytes
+
+pub returns-else-count-eq0-clause-inside : goal.returns-else-count-eq0-clause-inside
+returns-else-count-eq0-clause-inside g c = c.collect-collected.ensures.inside
+
+pub returns-in-Failed-clause-bytes : goal.returns-in-Failed-clause-bytes
+returns-in-Failed-clause-bytes g c = c.collect-collected.ensures.bytes
+
+pub returns-in-Failed-clause-inside : goal.returns-in-Failed-clause-inside
+returns-in-Failed-clause-inside g c = c.collect-collected.ensures.inside
+
+pub returns-in-Err-clause-bytes : goal.returns-in-Err-clause-bytes
+returns-in-Err-clause-bytes g c = c.collect-collected.ensures.bytes
+
+pub returns-in-Err-clause-inside : goal.returns-in-Err-clause-inside
+returns-in-Err-clause-inside g c = c.collect-collected.ensures.inside
+
+pub returns-in-Whole-collected-clause-bytes : goal.returns-in-Whole-collected-clause-bytes
+returns-in-Whole-collected-clause-bytes g c =
+    Collects-then _ _ _ _ _ _ c.collect-collected.ensures.bytes c.collect-collected-2.ensures.bytes
+
+pub returns-in-Whole-collected-clause-inside : goal.returns-in-Whole-collected-clause-inside
+returns-in-Whole-collected-clause-inside g c = c.collect-collected-2.ensures.inside
+
+pub returns-in-Ended-collected-clause-bytes : goal.returns-in-Ended-collected-clause-bytes
+returns-in-Ended-collected-clause-bytes g c =
+    Collects-then _ _ _ _ _ _ c.collect-collected.ensures.bytes c.collect-collected-2.ensures.bytes
+
+pub returns-in-Ended-collected-clause-inside : goal.returns-in-Ended-collected-clause-inside
+returns-in-Ended-collected-clause-inside g c = c.collect-collected-2.ensures.inside
+
+pub returns-in-Failed-collected-clause-bytes : goal.returns-in-Failed-collected-clause-bytes
+returns-in-Failed-collected-clause-bytes g c =
+    Collects-then _ _ _ _ _ _ c.collect-collected.ensures.bytes c.collect-collected-2.ensures.bytes
+
+pub returns-in-Failed-collected-clause-inside : goal.returns-in-Failed-collected-clause-inside
+returns-in-Failed-collected-clause-inside g c = c.collect-collected-2.ensures.inside
