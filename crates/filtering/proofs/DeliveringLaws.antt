@@ -55,22 +55,22 @@ says-counts (Ok text) totals tally form old new ended result is at h =
 says-counts (Err error) totals tally form old new ended result is at h = inl h
 
 -- a run with a report, and one without
-pub runs-reported : (ready : Ready) (contents : List KeyValues) (source : Origin)
-    (report : Option (List ℕ)) (name sent : List ℕ) (why cause : Option ErrorKind)
-    (before after : Outputs) (result : Result Counted TaskOutcome) → report ≡ Some name
+pub runs-reported : {ready : Ready} {contents : List KeyValues} {source : Origin}
+    {report : Option (List ℕ)} {name sent : List ℕ} {why cause : Option ErrorKind}
+    {before after : Outputs} {result : Result Counted TaskOutcome} → report ≡ Some name
     → Filters ready contents source (record { report = name; sent = sent }) why cause before after
     result
     → RunsWanted ready contents source report sent result
-runs-reported ready contents source report name sent why cause before after result is h =
+runs-reported {why = why} {cause = cause} {before = before} {after = after} is h =
     rw is (record { why = why; cause = cause; before = before; after = after; filters = h })
 
-pub runs-unreported : (ready : Ready) (contents : List KeyValues) (source : Origin)
-    (report : Option (List ℕ)) (sent : List ℕ) (why cause : Option ErrorKind)
-    (before after : Outputs) (result : Result Counted TaskOutcome) → report ≡ None
+pub runs-unreported : {ready : Ready} {contents : List KeyValues} {source : Origin}
+    {report : Option (List ℕ)} {sent : List ℕ} {why cause : Option ErrorKind}
+    {before after : Outputs} {result : Result Counted TaskOutcome} → report ≡ None
     → Filters ready contents source
     (record { report = codes "standard output"; sent = sent }) why cause before after result
     → RunsWanted ready contents source report sent result
-runs-unreported ready contents source report sent why cause before after result is h =
+runs-unreported {why = why} {cause = cause} {before = before} {after = after} is h =
     rw is (record { why = why; cause = cause; before = before; after = after; filters = h })
 
 -- a message before the usage was said

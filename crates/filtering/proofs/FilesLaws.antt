@@ -128,7 +128,7 @@ pub ends-finished : (ended : Result Counted TaskOutcome) (counted : Counted) (fo
     → WritesEnd counted form maps_out old new o → EndsRun ended form maps_out old new o
 ends-finished ended counted form maps_out old new o is h = rw is h
 
-pub ends-failed : (ended : Result Counted TaskOutcome) (form : FileForm)
-    (maps_out old new : Option (List ℕ)) (o : TaskOutcome) → ended ≡ Err o → new ≡ old
+pub ends-failed : {ended : Result Counted TaskOutcome} {o : TaskOutcome} (form : FileForm)
+    (maps_out old new : Option (List ℕ)) → ended ≡ Err o → new ≡ old
     → EndsRun ended form maps_out old new o
-ends-failed ended form maps_out old new o is e = rw is (refl, e)
+ends-failed form maps_out old new is e = rw is (refl, e)

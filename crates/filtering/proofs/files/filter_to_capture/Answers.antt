@@ -15,5 +15,5 @@ returns g c =
     record {
       ended = c.run_captured-ended.result;
       runs = c.run_captured-ended.ensures.runs;
-      ends = ends-failed _ _ _ _ _ _ c.in-Err.is refl;
+      ends = ends-failed _ _ _ _ c.in-Err.is refl;
     }

@@ -4,10 +4,10 @@ use Rattle.filtering.proofs.files.run_wanted.Goals as goal
 
 pub returns-in-Some-clause-runs : goal.returns-in-Some-clause-runs
 returns-in-Some-clause-runs g c =
-    runs-reported _ _ _ _ _ _ _ _ _ _ _ (ap (option_map (λ output. output.path.now)) c.in-Some.is)
+    runs-reported (ap (option_map (λ output. output.path.now)) c.in-Some.is)
     c.run_reported.ensures.filters
 
 pub returns-in-None-clause-runs : goal.returns-in-None-clause-runs
 returns-in-None-clause-runs g c =
-    runs-unreported _ _ _ _ _ _ _ _ _ _
-    (ap (option_map (λ output. output.path.now)) c.in-None.is) c.run_unreported.ensures.filters
+    runs-unreported (ap (option_map (λ output. output.path.now)) c.in-None.is)
+    c.run_unreported.ensures.filters
