@@ -4,13 +4,14 @@ An edit is a file of lines 'file: PATH', below the crate, and of pairs 'old: TEX
 that is replaced is in its file once. Where no changed line is in a function, as if a constant is changed, a line
 '# refused in: FUNCTION' names the one that must be refused.
 """
+import collections
 import functools
 import os
 import re
 from collections.abc import Iterator
 from typing import NamedTuple
 
-from common import text_of
+from common import text_of, there
 
 Change = tuple[str, str, str]  # a file, the old text and the new one
 FUNCTION = re.compile(r'(\s*)(?:pub(?:\([a-z ]+\))? )?(?:const )?(?:unsafe )?(?:extern "C" )?fn (\w+)')
@@ -25,7 +26,8 @@ BY_NAME = re.compile(r"has no field|is not in scope|has no `|was not admitted")
 
 
 class Function(NamedTuple):
-    """A function of a file: its lines, its name, and the type and the trait of the block `impl` that it is in."""
+    """A function of a file: its lines, its name, and the type and the trait of the block `impl` that it is in. Where the file has
+    a trait for a type more than once, as `From`, the trait is named with the first of its own types, as `FromAllocError`."""
 
     first: int
     last: int
@@ -77,6 +79,8 @@ def functions(text: str) -> tuple[Function, ...]:
 
 
 def found_functions(lines: list[str]) -> Iterator[Function]:
+    blocks = [found for line in lines if (found := BLOCK.match(line))]
+    times = collections.Counter((without_types(it["trait"]), it["type"]) for it in blocks)
     block = None
     for at, line in enumerate(lines):
         if line.startswith("}"):
@@ -87,9 +91,16 @@ def found_functions(lines: list[str]) -> Iterator[Function]:
         if header:
             end = next((it for it in range(at, len(lines)) if is_end(lines[it], header[1])), at)
             own = block if header[1] else None
-            trait = re.sub(r"<.*", "", own["trait"] or "").split("::")[-1].strip() if own else None
+            trait = without_types(own["trait"]) if own else None
+            if own and trait and times[(trait, own["type"])] > 1:
+                trait += without_types(there(re.search(r"<([^,>]+)", own["trait"]))[1])
             kind = (own["type"] or own["own"]) if own else None
             yield Function(at, end, header[2], kind, trait)
+
+
+def without_types(path: str | None) -> str:
+    """The last name of a path, without the types that it is given."""
+    return re.sub(r"<.*", "", path or "").split("::")[-1].strip()
 
 
 def shown(file: str, it: Function) -> str:
@@ -186,7 +197,7 @@ def refusal(crate: str, name: str, said: list[str], texts: dict[str, str]) -> st
     own = f"proofs/{line[1].replace('::', '/')}/"
     for it in messages(said):
         at = re.match(r"(?:note: )?(?:\./)?([\w/+-]+\.(?:antt|rt)):(\d+):\d+: (.*)", it)
-        if at and at[1].startswith(own) and at[3].startswith("error") and not BY_NAME.search(at[3]):
+        if at and at[1].replace("/+", "/").startswith(own) and at[3].startswith("error") and not BY_NAME.search(at[3]):
             return it
         if at and "is not proved that" in at[3] and is_in(name, at[1], texts.get(at[1], ""), int(at[2]) - 1):
             return it

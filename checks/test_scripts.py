@@ -231,6 +231,8 @@ pub trait Counted {
 }
 """
 
+TWICE = (("", "None"), ("<T: Drop>", "low::Failed<T>"))
+
 
 class Imports(unittest.TestCase):
     """A crate with three proofs that import from the same files, and one that does not."""
@@ -286,6 +288,11 @@ class Edits(Tree):
         rounds = [[names for _, names in listed] for listed in edits.in_rounds(self.folder, [more, named, other, more])]
         self.assertEqual(rounds, [[{"Count::next"}, {"u32From::from"}], [{"counts::most"}], [{"Count::next"}]])
 
+    def test_a_trait_that_a_type_has_twice_is_named_with_its_type(self) -> None:
+        lines = (f"impl{types} From<{other}> for Own {{\n    fn from(it: {other}) -> Own {{\n    }}\n}}\n" for types, other in TWICE)
+        found = [edits.shown("src/own.rt", it) for it in edits.functions("".join(lines))]
+        self.assertEqual(found, ["OwnFromNone::from", "OwnFromFailed::from"])
+
     def test_functions_that_are_left_open(self) -> None:
         found = {folder: (file, first, last) for file, first, last, folder in edits.open_functions(self.folder)}
         self.assertEqual(sorted(found), ["Count/next", "counts/most", "three"])
@@ -310,9 +317,11 @@ class Edits(Tree):
         by_name = "./proofs/Count/next/Answers.antt:3:5: error: module `Goals` has no `returns-in-Ok`"
         beside = "./proofs/counts/most/Answers.antt:3:5: error: `returns`: no proof"
         told = "fn low::Count::next: no proof: expected answers; `search` did not prove `returns`"
+        itself = goal.replace("Count/next", "Count/+next")
         for said, wanted in (
             ([goal, fails], goal),
             ([note, fails], note),
+            ([itself, fails], itself),
             ([by_name, fails], None),
             ([goal.replace("the goal does not follow", "record `Next` (nearest: .in-Ok)"), "  has no field `in-Err`", fails], None),
             ([beside, fails], None),

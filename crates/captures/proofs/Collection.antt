@@ -43,9 +43,9 @@ Collects-all old new count wanted xs ys within less size lost =
     record { more = ys; grows = is; kept = rw is (kept_more old new (take count xs) ys lost) }
 
 -- what was taken in two turns was taken in one
-pub Collects-then : (old mid new : Option (List ℕ)) (held front after : List ℕ)
+pub Collects-then : {old mid new : Option (List ℕ)} {held front after : List ℕ}
     → Collects old mid held front → Collects mid new front after → Collects old new held after
-Collects-then old mid new held front after first next =
+Collects-then {held = held} first next =
     record {
       more = first.more ++ next.more;
       grows = next.grows ∙ ap (λ l. l ++ next.more) first.grows

@@ -4,7 +4,7 @@ ghost use Rattle.std.specs.Prelude.{◌≡◌, ◌≤◌, length};
 ghost use Rattle.isa_model.specs.Reporting.Reports.{trap_reason_name};
 
 /// Says why a step is not defined. A trap changes nothing.
-#[derive(Clone, Copy, PartialEq, Eq, Debug)]
+#[derive(Clone, Copy)]
 pub enum TrapReason {
     /// No instruction begins at the slot.
     NoCode,
@@ -53,7 +53,7 @@ impl TrapReason {
 }
 
 /// Says how a run within a limit of steps ended.
-#[derive(Clone, Copy, PartialEq, Eq, Debug)]
+#[derive(Clone, Copy)]
 pub enum End {
     /// r0 at the last exit, and the steps done, the exit included.
     Exit(u64, u32),

@@ -11,7 +11,7 @@ use crate::registers::Reg;
 use crate::sizes::{ByteOrder, Extension, SignedSize, Size, SwapWidth, Width};
 
 /// The operations of arithmetic on two numbers.
-#[derive(Clone, Copy, Debug)]
+#[derive(Clone, Copy)]
 pub enum AluOp {
     Add,
     Sub,
@@ -49,7 +49,7 @@ impl Operand {
 }
 
 /// The comparisons of conditional jumps, the destination register on the left.
-#[derive(Clone, Copy, Debug)]
+#[derive(Clone, Copy)]
 pub enum Comparison {
     Equal,
     NotEqual,

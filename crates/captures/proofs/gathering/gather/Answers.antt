@@ -116,21 +116,21 @@ returns-in-Err-clause-inside g c = c.collect-collected.ensures.inside
 
 pub returns-in-Whole-collected-clause-bytes : goal.returns-in-Whole-collected-clause-bytes
 returns-in-Whole-collected-clause-bytes g c =
-    Collects-then _ _ _ _ _ _ c.collect-collected.ensures.bytes c.collect-collected-2.ensures.bytes
+    Collects-then c.collect-collected.ensures.bytes c.collect-collected-2.ensures.bytes
 
 pub returns-in-Whole-collected-clause-inside : goal.returns-in-Whole-collected-clause-inside
 returns-in-Whole-collected-clause-inside g c = c.collect-collected-2.ensures.inside
 
 pub returns-in-Ended-collected-clause-bytes : goal.returns-in-Ended-collected-clause-bytes
 returns-in-Ended-collected-clause-bytes g c =
-    Collects-then _ _ _ _ _ _ c.collect-collected.ensures.bytes c.collect-collected-2.ensures.bytes
+    Collects-then c.collect-collected.ensures.bytes c.collect-collected-2.ensures.bytes
 
 pub returns-in-Ended-collected-clause-inside : goal.returns-in-Ended-collected-clause-inside
 returns-in-Ended-collected-clause-inside g c = c.collect-collected-2.ensures.inside
 
 pub returns-in-Failed-collected-clause-bytes : goal.returns-in-Failed-collected-clause-bytes
 returns-in-Failed-collected-clause-bytes g c =
-    Collects-then _ _ _ _ _ _ c.collect-collected.ensures.bytes c.collect-collected-2.ensures.bytes
+    Collects-then c.collect-collected.ensures.bytes c.collect-collected-2.ensures.bytes
 
 pub returns-in-Failed-collected-clause-inside : goal.returns-in-Failed-collected-clause-inside
 returns-in-Failed-collected-clause-inside g c = c.collect-collected-2.ensures.inside
