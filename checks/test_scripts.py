@@ -289,7 +289,7 @@ class Edits(Tree):
         self.assertEqual(rounds, [[{"Count::next"}, {"u32From::from"}], [{"counts::most"}], [{"Count::next"}]])
 
     def test_a_trait_that_a_type_has_twice_is_named_with_its_type(self) -> None:
-        lines = (f"impl{types} From<{other}> for Own {{\n    fn from(it: {other}) -> Own {{\n    }}\n}}\n" for types, other in TWICE)
+        lines = (f"impl{its} From<{other}> for Own {{\n    fn from(it: {other}) -> Own {{\n    }}\n}}\n" for its, other in TWICE)
         found = [edits.shown("src/own.rt", it) for it in edits.functions("".join(lines))]
         self.assertEqual(found, ["OwnFromNone::from", "OwnFromFailed::from"])
 
