@@ -26,7 +26,8 @@ const HEAD: FrameHead = FrameHead {
     queue: 0,
 };
 
-/// Returns r0 at the last exit of a program and the steps that it took, on an empty packet with that clock.
+/// Returns r0 at the last exit of a program and the steps that it took, on an empty packet with
+/// that clock.
 fn exit_of(alloc: Global, text: &str) -> Option<(u64, u32)> {
     let mut checked = Checked::new(alloc, image_of(alloc, text)?).ok()?;
     match checked.run(HEAD, &mut [], &mut GreatestTime, 100) {
