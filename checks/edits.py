@@ -16,7 +16,7 @@ from common import text_of, there
 Change = tuple[str, str, str]  # a file, the old text and the new one
 FUNCTION = re.compile(r'(\s*)(?:pub(?:\([a-z ]+\))? )?(?:const )?(?:unsafe )?(?:extern "C" )?fn (\w+)')
 BLOCK = re.compile(
-    r"(?:unsafe )?impl(?:<[^{]*?>)? (?:(?P<trait>[\w:<>, '&]+) for )?&?(?P<type>\w+)"
+    r"(?:unsafe )?impl(?:<(?P<given>[^{]*?)>)? (?:(?P<trait>[\w:<>, '&]+) for )?&?(?P<type>\w+)"
     r"|(?:pub(?:\([a-z ]+\))? )?(?:unsafe )?trait (?P<own>\w+)"
 )
 TYPE = re.compile(r"(?:pub(?:\([a-z ]+\))? )?(?:struct|enum|union) (\w+)")
@@ -27,7 +27,8 @@ BY_NAME = re.compile(r"has no field|is not in scope|has no `|was not admitted")
 
 class Function(NamedTuple):
     """A function of a file: its lines, its name, and the type and the trait of the block `impl` that it is in. Where the file has
-    a trait for a type more than once, as `From`, the trait is named with the first of its own types, as `FromAllocError`."""
+    a trait for a type more than once, as `From`, the trait is named with the first of its own types, as `FromAllocError`. A type
+    that the block is given is `Any`."""
 
     first: int
     last: int
@@ -95,6 +96,8 @@ def found_functions(lines: list[str]) -> Iterator[Function]:
             if own and trait and times[(trait, own["type"])] > 1:
                 trait += without_types(there(re.search(r"<([^,>]+)", own["trait"]))[1])
             kind = (own["type"] or own["own"]) if own else None
+            if own and re.match(rf"{own['type']}\b|.*, {own['type']}\b", own["given"] or ""):
+                kind = "Any"
             yield Function(at, end, header[2], kind, trait)
 
 
@@ -121,7 +124,10 @@ def changed_functions(folder: str, path: str) -> tuple[set[str], bool]:
 
 
 def is_in(name: str, file: str, text: str, line: int) -> bool:
-    """Whether a line of a file, from 0, is in the function of this name."""
+    """Whether a line of a file, from 0, is in the function of this name, or in the attributes above it."""
+    lines = text.split("\n")
+    while line + 1 < len(lines) and lines[line].lstrip().startswith("#["):
+        line += 1
     return any(it.first <= line <= it.last and shown(file, it) == name for it in functions(text))
 
 

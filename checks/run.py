@@ -7,13 +7,13 @@ The edits of the gate are crates/CRATE/must-fail/NAME.edit; without --gate those
 assurance/CRATE/NAME.edit; of each named crate, or of all. Edits of different functions share a check: a copy of the crate has
 all of their changes, and only the changed functions are checked, over the contracts of the others, whose bodies and proofs
 are left out; rt ci proves those. An edit is refused if a goal of its own function is not proved. It does not count that a proof
-file names what the edit removed. What is not seen to be refused is tried once more by itself.
+file names what the edit removed. What is not seen to be refused is tried once more by itself, and printed at once.
 
 The libraries below a crate are those in crates/*/out/rlib of FOLDER, in which `rt ci` ran. Where it still runs, FILE has what
 it has printed so far, and a crate is tried once all that it builds on is proved. Without FOLDER the libraries are built in a
-copy, with `rt lib`. A crate whose edits were all refused is not tried again until its sources, those below it, its edits or
-these scripts change (noted in ~/.cache/xdpvm_edits; --anew tries it all the same). With --fit nothing is proved: an edit, of
-the gate or not, that cannot be made is printed. The last line counts; the exit status is 0 if every edit was refused, or can
+copy, with `rt lib`. An edit that was refused is not tried again until it, the sources of its crate, those below or these
+scripts change (noted in ~/.cache/xdpvm_edits; --anew tries it all the same). With --fit nothing is proved: an edit, of the
+gate or not, that cannot be made is printed. The last line counts; the exit status is 0 if every edit was refused, or can
 be made, else 1.
 """
 import concurrent.futures
@@ -27,7 +27,7 @@ import subprocess
 import sys
 import tempfile
 import time
-from collections.abc import Collection, Iterable
+from collections.abc import Collection, Iterable, Iterator
 
 import common
 from common import TOP, text_of, there
@@ -38,6 +38,7 @@ KEPT = os.path.join(os.environ.get("XDG_CACHE_HOME") or os.path.expanduser("~/.c
 PARTS = ("src", "specs", "proofs")
 # GB that one check may take.
 MEMORY = 2.5
+Verdict = tuple[str, str | None]  # an edit's path, and what is said of it if it is not refused
 
 
 BELOW = common.crates()
@@ -133,46 +134,57 @@ def try_together(crate: str, listed: list[tuple[str, set[str]]], libraries: str,
     return {path: last[:200] for path, names in listed if not any(edits.refusal(crate, it, said, texts) for it in names)}
 
 
-def try_crate(crate: str, paths: list[str], libraries: str) -> tuple[dict[str, str], float]:
-    """What is said of the edits of a crate that are not refused, by their paths, and the seconds that it took."""
-    began, left = time.time(), {}
+def try_listed(crate: str, listed: list[tuple[str, set[str]]], libraries: str, made: str) -> Iterator[Verdict]:
+    """Judges edits that are checked together. Those that are not seen to be refused are tried again, each by itself; by halves if
+    that is none, as where one does not compile."""
+    left = try_together(crate, listed, libraries, made)
+    again = [it for it in listed if it[0] in left and len(listed) > 1]
+    yield from ((path, left.get(path)) for path, _ in listed if path not in left or not again)
+    half = len(again) // 2
+    for part in [again[:half], again[half:]] if len(again) == len(listed) else [[it] for it in again]:
+        yield from try_listed(crate, part, libraries, made) if part else ()
+
+
+def try_crate(crate: str, paths: list[str], libraries: str) -> Iterator[Verdict]:
+    """Judges edits of a crate, and prints those that are not refused, each at once."""
     with tempfile.TemporaryDirectory(prefix="edits-made-") as made:
         for listed in edits.in_rounds(f"{TOP}/crates/{crate}", paths):
-            open_ones = try_together(crate, listed, libraries, made)
-            for path, names in listed if len(listed) > 1 else ():
-                if path in open_ones:
-                    del open_ones[path]
-                    open_ones.update(try_together(crate, [(path, names)], libraries, made))
-            left.update(open_ones)
-    return left, time.time() - began
+            for path, why in try_listed(crate, listed, libraries, made):
+                if why:
+                    print(f"{os.path.relpath(path, TOP)}: NOT REFUSED: {why}", flush=True)
+                yield path, why
 
 
-def sum_of(crate: str, paths: list[str]) -> str:
-    """A sum of all that a verdict on these edits rests on."""
+def sum_of(crate: str) -> str:
+    """A sum of all but the edit that a verdict on an edit of a crate rests on."""
     sums = hashlib.sha256(text_of(f"{KIT}/KIT-ID").encode())
     own = [f"{TOP}/checks/{name}" for name in ("run.py", "edits.py")]
     for it in sorted([crate, *all_below(crate)]):
         sums.update(f"{it}: {BELOW[it]}\n".encode())
         folders = [f"{TOP}/crates/{it}/{part}" for part in PARTS]
         own += [f"{at}/{name}" for folder in folders for at, _, names in os.walk(folder) for name in names]
-    for path in sorted(own) + paths:
+    for path in sorted(own):
         with open(path, "rb") as file:
             sums.update(f"{os.path.relpath(path, TOP)}\n".encode() + hashlib.sha256(file.read()).digest())
     return sums.hexdigest()
 
 
 def judged(crate: str, paths: list[str], libraries: str, anew: bool) -> dict[str, str]:
-    """What is said of the edits of a crate that are not refused, which it prints. What an earlier run refused is taken from it."""
-    kept = f"{KEPT}/{sum_of(crate, paths)}"
-    if os.path.isfile(kept) and not anew:
+    """What is said of the edits of a crate that are not refused. Those that an earlier run refused are not tried."""
+    began, rest = time.time(), sum_of(crate)
+    marks = {path: f"{KEPT}/{hashlib.sha256((rest + text_of(path)).encode()).hexdigest()}" for path in paths}
+    new = [path for path in paths if anew or not os.path.isfile(marks[path])]
+    if not new:
         print(f"{crate}: {len(paths)} edits refused by an earlier run, and nothing has changed since", flush=True)
         return {}
-    left, seconds = try_crate(crate, paths, libraries)
-    open_ones = [f"{os.path.relpath(path, TOP)}: NOT REFUSED: {why}" for path, why in left.items()]
-    print(*open_ones, f"{crate}: {len(paths) - len(left)} of {len(paths)} edits refused, {seconds:.0f} s", sep="\n", flush=True)
-    if not left:
-        os.makedirs(KEPT, exist_ok=True)
-        common.write(kept, "")
+    os.makedirs(KEPT, exist_ok=True)
+    left = {}
+    for path, why in try_crate(crate, new, libraries):
+        if why:
+            left[path] = why
+        else:
+            common.write(marks[path], "")
+    print(f"{crate}: {len(paths) - len(left)} of {len(paths)} edits refused, {time.time() - began:.0f} s", flush=True)
     return left
 
 

@@ -1,5 +1,5 @@
 #!/usr/bin/env python3
-"""Tests of laws.py, names.py, file_map.py, imports.py, edits.py, near.py and tour.py on small repositories, and of what the
+"""Tests of laws.py, names.py, file_map.py, imports.py, edits.py, run.py, near.py and tour.py on small repositories, and of what the
 attacks judge by and make. In the gate; `python3 checks/test_scripts.py` runs them."""
 import argparse
 import os
@@ -28,6 +28,7 @@ import kernel_sweep
 import laws
 import names
 import proofs
+import run
 import served
 import table
 import tour
@@ -292,6 +293,8 @@ class Edits(Tree):
         lines = (f"impl{its} From<{other}> for Own {{\n    fn from(it: {other}) -> Own {{\n    }}\n}}\n" for its, other in TWICE)
         found = [edits.shown("src/own.rt", it) for it in edits.functions("".join(lines))]
         self.assertEqual(found, ["OwnFromNone::from", "OwnFromFailed::from"])
+        given = "impl<'a, W: Write + 'a> Report for W {\n    fn hand_on(&self) {\n    }\n}\n"
+        self.assertEqual([edits.shown("src/own.rt", it) for it in edits.functions(given)], ["AnyReport::hand_on"])
 
     def test_functions_that_are_left_open(self) -> None:
         found = {folder: (file, first, last) for file, first, last, folder in edits.open_functions(self.folder)}
@@ -330,6 +333,28 @@ class Edits(Tree):
             ([goal, "fn low::counts::next: not proved"], None),
         ):
             self.assertEqual(edits.refusal("low", "Count::next", said, texts), wanted, said)
+        above = {"src/counts.rt": COUNTS.replace("    pub fn next", "    #[inline]\n    #[tactic(auto)]\n    pub fn next")}
+        there = [note.replace(":11:9:", f":{line}:5:") for line in (7, 8, 9)]
+        self.assertEqual([edits.refusal("low", "Count::next", [it, fails], above) for it in there], [None, there[1], there[2]])
+
+    def tried(self, open_ones: str, bad: str) -> list[str]:
+        """The lists in which four edits are tried, where one does not compile, and others are not refused."""
+        tried: list[str] = []
+
+        def together(_: str, listed: list[tuple[str, set[str]]], *_rest: str) -> dict[str, str]:
+            paths = "".join(path for path, _ in listed)
+            tried.append(paths)
+            return {it: "why" for it in paths if it in open_ones or (bad and bad in paths)}
+
+        with unittest.mock.patch.object(run, "try_together", together):
+            found = dict(run.try_listed("low", [(it, {it}) for it in "abcd"], "", ""))
+        self.assertEqual({it for it, why in found.items() if why}, set(open_ones + bad))
+        return tried
+
+    def test_edits_that_are_not_seen_to_be_refused_are_tried_again(self) -> None:
+        self.assertEqual(self.tried("", ""), ["abcd"])
+        self.assertEqual(self.tried("b", ""), ["abcd", "b"])
+        self.assertEqual(self.tried("", "c"), ["abcd", "ab", "cd", "c", "d"])
 
 
 class Near(unittest.TestCase):
