@@ -2,7 +2,7 @@
 //!
 //! std's `BufWriter` keeps all bytes until it is full. A file that cannot be written is then found
 //! only when much else has been done.
-ghost use Rattle.std.specs.Prelude.{◌≡◌, ◌<◌, ◌-◌, [], length, None, Some, IfOk, OnOk, IfErr, MatchResult};
+ghost use Rattle.std.specs.Prelude.{◌≡◌, ◌<◌, ◌-◌, [], length, true, None, Some, IfOk, OnOk, IfErr, MatchResult};
 ghost use Rattle.std.specs.IoError.{error_kind};
 ghost use Rattle.std.specs.Io.{WritesAtMost};
 ghost use Rattle.std.specs.Io.KnownBytes.{Keeps, WriteAppends};
@@ -25,7 +25,7 @@ pub struct PromptWriter<W: Write + Drop> {
 }
 
 impl<W: Write + Drop> PromptWriter<W> {
-    ghost use Rattle.exact_io.specs.Waiting.{behind, failure_of, held, prompt_left, waiting};
+    ghost use Rattle.exact_io.specs.Waiting.{FailsWith, behind, failure_of, held, prompt_left, waiting};
 
     /// Puts a buffer in front of a writer. The first `prompt` bytes are written through at once.
     pub fn new(alloc: Global, capacity: usize, prompt: usize, writer: W) -> io::Result<Self>
@@ -83,6 +83,66 @@ impl<W: Write + Drop> PromptWriter<W> {
         self.prompt -= count;
         Ok(count)
     }
+
+    // Whether nothing has failed, and so many bytes go into the buffer.
+    #[inline(always)]
+    fn takes_at_once(&self, count: usize) -> bool
+        ensures { result ≡ true → failure_of self.now ≡ None }
+    {
+        let room = self
+            .buffered
+            .capacity()
+            .saturating_sub(self.buffered.buffer().len());
+        self.prompt == 0 && self.failure.is_none() && count < room
+    }
+
+    // Writes, where nothing has failed before, and remembers a failure.
+    #[inline(always)]
+    fn write_on(&mut self, bytes: &[u8]) -> io::Result<usize>
+        requires { failure_of self.old ≡ None }
+        ensures bound { WritesAtMost result bytes.now }
+        ensures bytes { WriteAppends (held W.contents self.old) (held W.contents self.new)
+            result bytes.now }
+        ensures at_once { 0 < prompt_left self.old → OnOk result (waiting self.new ≡ []) }
+        ensures left { IfOk result (λ n. prompt_left self.new ≡ prompt_left self.old - n) }
+        ensures some { IfOk result (λ n. 0 < length bytes.now → 0 < n) }
+        ensures remembered { MatchResult result (λ _. failure_of self.new ≡ None)
+            (λ e. failure_of self.new ≡ Some (error_kind e)) }
+    {
+        match self.pass(bytes) {
+            Ok(0) if !bytes.is_empty() => {
+                self.failure = Some(ErrorKind::WriteZero);
+                Err(io::Error::from(ErrorKind::WriteZero))
+            }
+            Ok(count) => Ok(count),
+            Err(error) => {
+                self.failure = Some(error.kind());
+                Err(error)
+            }
+        }
+    }
+
+    // Writes, out of line, where something may have failed before or the buffer may have to be
+    // emptied first.
+    #[cold]
+    #[inline(never)]
+    fn write_with_care(&mut self, bytes: &[u8]) -> io::Result<usize>
+        ensures bound { WritesAtMost result bytes.now }
+        ensures bytes { WriteAppends (held W.contents self.old) (held W.contents self.new)
+            result bytes.now }
+        ensures at_once { 0 < prompt_left self.old → OnOk result (waiting self.new ≡ []) }
+        ensures left { IfOk result (λ n. prompt_left self.new ≡ prompt_left self.old - n) }
+        ensures some { IfOk result (λ n. 0 < length bytes.now → 0 < n) }
+        ensures remembered { MatchResult result (λ _. failure_of self.new ≡ None)
+            (λ e. failure_of self.new ≡ Some (error_kind e)) }
+        ensures last { (kind : ErrorKind) → failure_of self.old ≡ Some kind
+            → FailsWith kind result × (self.new ≡ self.old) }
+    {
+        if let Some(kind) = self.failure {
+            return Err(io::Error::from(kind));
+        }
+        self.write_on(bytes)
+    }
 }
 
 impl<W: Write + Drop> Write for PromptWriter<W> {
@@ -103,19 +163,10 @@ impl<W: Write + Drop> Write for PromptWriter<W> {
         ensures last { (kind : ErrorKind) → failure_of self.old ≡ Some kind
             → FailsWith kind result × (self.new ≡ self.old) }
     {
-        if let Some(kind) = self.failure {
-            return Err(io::Error::from(kind));
-        }
-        match self.pass(bytes) {
-            Ok(0) if !bytes.is_empty() => {
-                self.failure = Some(ErrorKind::WriteZero);
-                Err(io::Error::from(ErrorKind::WriteZero))
-            }
-            Ok(count) => Ok(count),
-            Err(error) => {
-                self.failure = Some(error.kind());
-                Err(error)
-            }
+        if self.takes_at_once(bytes.len()) {
+            self.write_on(bytes)
+        } else {
+            self.write_with_care(bytes)
         }
     }
 

@@ -7,10 +7,14 @@ ghost use Rattle.isa_model.specs.Reporting.Streams.{record_bytes};
 ghost use Rattle.exact_io.specs.Transfers.{AppendsBeginning};
 
 use super::heads::{encode_head, encode_head2};
+use arrayvec::ArrayVec;
 use exact_io::write_bytes;
 use isa_model::{FrameHead, Version};
 use std::io;
 use std::io::Write;
+
+// The most bytes that are put together before they are written.
+const SHORT: usize = 256;
 
 /// A writer returned an error, or took none of the bytes. The error itself is not kept.
 #[derive(Clone, Copy)]
@@ -60,9 +64,26 @@ fn write_rest<W: Write>(writer: &mut W, bytes: &[u8], count: usize) -> Result<()
     }
 }
 
-// Writes some bytes, and then others.
+// Writes some bytes, and then others; by one call of the writer where they are few.
 #[inline(always)]
 fn write_parts<W: Write>(writer: &mut W, front: &[u8], rest: &[u8]) -> Result<(), Unwritten>
+    ensures ok { OnOk result (Appends (W.contents writer.old) (W.contents writer.new)
+        (front.now ++ rest.now)) }
+    ensures err { OnErr result (AppendsBeginning (W.contents writer.old) (W.contents writer.new)
+        (front.now ++ rest.now)) }
+{
+    if front.len() > SHORT || rest.len() > SHORT - front.len() {
+        return write_apart(writer, front, rest);
+    }
+    let mut record = ArrayVec::<u8, SHORT>::new();
+    let _ = record.try_extend_from_slice(front);
+    let _ = record.try_extend_from_slice(rest);
+    write_whole(writer, record.as_slice())
+}
+
+// Writes some bytes, and then others, where they are many.
+#[inline(never)]
+fn write_apart<W: Write>(writer: &mut W, front: &[u8], rest: &[u8]) -> Result<(), Unwritten>
     ensures ok { OnOk result (Appends (W.contents writer.old) (W.contents writer.new)
         (front.now ++ rest.now)) }
     ensures err { OnErr result (AppendsBeginning (W.contents writer.old) (W.contents writer.new)

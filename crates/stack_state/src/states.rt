@@ -1,6 +1,6 @@
 //! Abstract states, and their registers.
 
-ghost use Rattle.std.specs.Prelude.{◌≡◌, ◌≢◌, ◌<◌, take};
+ghost use Rattle.std.specs.Prelude.{◌≡◌, ◌≢◌, ◌<◌, [], ◌∷◌, ◌++◌, length, take};
 ghost use Rattle.isa_model.specs.Code.Registers.{reg_number};
 ghost use Rattle.stack_state.specs.Places.{kind_of, with_register};
 ghost use Rattle.stack_state.specs.Starts.{start};
@@ -62,6 +62,15 @@ fn keep_first(frames: &mut ArrayVec<AbstractFrame, MAX_CALLERS>, count: usize)
     if count < frames.len() {
         drop_others(frames, count);
     }
+}
+
+/// Adds a copy of a call frame. It is out of line, since it makes a blank frame of 5.9 kB.
+#[inline(never)]
+fn push_copy(frames: &mut ArrayVec<AbstractFrame, MAX_CALLERS>, frame: &AbstractFrame)
+    requires { length frames.old.items < 7 }
+    ensures { frames.new.items ≡ frames.old.items ++ frame.now ∷ [] }
+{
+    frames.push(frame.copy());
 }
 
 /// Says what is known of a run when it reaches an instruction.
@@ -139,7 +148,7 @@ impl State {
             self.callers[index].copy_from(&other.callers[index]);
         }
         for index in kept..count {
-            self.callers.push(other.callers[index].copy());
+            push_copy(&mut self.callers, &other.callers[index]);
         }
     }
 

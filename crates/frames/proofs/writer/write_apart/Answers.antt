@@ -1,5 +1,5 @@
 use Rattle.exact_io.proofs.TransferLaws.{second_fails}
-use Rattle.frames.proofs.writer.write_parts.Goals as goal
+use Rattle.frames.proofs.writer.write_apart.Goals as goal
 
 pub returns-in-Ok-clause-err : goal.returns-in-Ok-clause-err
 returns-in-Ok-clause-err g c =
