@@ -8,6 +8,7 @@ ghost use Rattle.std.specs.Ordering.{is_lt};
 ghost use Rattle.byteorder.specs.Endian.{little_bytes};
 ghost use Rattle.isa_model.specs.declared.map_defs.MapType.TheVariants.{Hash, Array};
 ghost use Rattle.isa_model.specs.Machine.MapContents.{key_order};
+ghost use Rattle.map_indexes.specs.PlaceKeys.{places};
 
 use crate::inserting::insert_place;
 use byteorder::{ByteOrder, LittleEndian};
@@ -36,6 +37,17 @@ fn is_index_before(index: u32, other: u32) -> bool
 pub enum EitherIndex {
     Array(ArrayIndex),
     Chain(ChainIndex),
+}
+
+// The place of a key of a hash map. It is out of line, so that the look-up in an array keeps no
+// registers for it.
+#[cold]
+#[inline(never)]
+fn find_in_chains(index: &ChainIndex, key: &[u8]) -> Option<usize>
+    requires { length key.now ≡ index.now.keys.size }
+    ensures { result ≡ get (places index.now.keys.by_place) key.now }
+{
+    index.find(key)
 }
 
 impl EitherIndex {
@@ -156,7 +168,7 @@ impl Index for EitherIndex {
     fn find(&self, key: &[u8]) -> Option<usize> {
         match self {
             EitherIndex::Array(index) => index.find(key),
-            EitherIndex::Chain(index) => index.find(key),
+            EitherIndex::Chain(index) => find_in_chains(index, key),
         }
     }
 

@@ -1,5 +1,5 @@
 -- The names that most proofs of this crate cite, passed on from one place. Declares nothing.
-pub use Rattle.std.proofs.Common.{◌≡◌, ℕ, ◌+◌, ◌<◌, List, length, take, drop, refl, ap, subst, ◌∙◌, arith, length-set, All, slice_set, slice_index, ap₂, sym, ℤ, pos, negsuc, ◌≢◌, ◌≤◌, suc, ◌-◌, ◌*◌, ◌/◌, true, false, nat_le, ◌==◌, ◌≤ℤ◌, ◌<ℤ◌, ◌%◌, Option, Some, None, if◌then◌else◌, zero, add-one, vec_capacity, [], ◌∷◌, ◌++◌, inl, inr, slice_get, slice_index_or, get_or-set_same, get_or-set_other, rules, zero-add}
+pub use Rattle.std.proofs.Common.{◌≡◌, ℕ, ◌+◌, ◌<◌, List, length, take, drop, refl, ap, subst, ◌∙◌, arith, length-set, All, slice_set, slice_index, ap₂, sym, ℤ, pos, negsuc, ◌≢◌, ◌≤◌, suc, ◌-◌, ◌*◌, ◌/◌, true, false, nat_le, ◌==◌, ◌≤ℤ◌, ◌<ℤ◌, Option, Some, None, zero, add-one, vec_capacity, [], ◌∷◌, ◌++◌, inl, inr, slice_get, slice_index_or, get_or-set_same, get_or-set_other, rules, if◌then◌else◌, zero-add}
 pub use Rattle.std.proofs.lemmas.List.{take_at, get_or-drop, get_or_append_left, length-append, length-take-le}
 pub use Rattle.flatmem.specs.Bytes.{with_bytes, bytes_at}
 pub use Rattle.isa_model.specs.Code.Helpers.{helper_numbered}

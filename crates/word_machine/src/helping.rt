@@ -49,9 +49,7 @@ fn lookup<C: Clock>(regs: &[u64; 11], memory: &mut Memory, packet: &[u8], clock:
     ensures rest { KeepsRest memory.old memory.new }
     ensures clock { (k : ℕ) → C.at clock.new k ≡ C.at clock.old k }
 {
-    let map = map_named(regs);
-    let row = memory.maps.row(map);
-    let size = usize::from(row.key_size);
+    let size = usize::from(memory.maps.row(map_named(regs)).key_size);
     let frames = memory.frames.as_slice();
     let key = bytes_apart(
         frames,
@@ -63,21 +61,24 @@ fn lookup<C: Clock>(regs: &[u64; 11], memory: &mut Memory, packet: &[u8], clock:
     );
     let request = Request {
         helper: Helper::MapLookupElem,
-        map,
+        map: map_named(regs),
         key,
         value: &[],
         flags: 0,
     };
     match call(&mut memory.maps, &request, clock) {
         Answer::Value(place) => {
-            let start = place as u64 * u64::from(row.value_size);
-            base(FIRST_VALUES_REGION + map as u64) + start
+            let map = map_named(regs);
+            let size = u64::from(memory.maps.row(map).value_size);
+            base(FIRST_VALUES_REGION + map as u64) + place as u64 * size
         }
         Answer::Number(n) => n,
     }
 }
 
 // Writes the value to which r3 points for the key to which r2 does: 0, or an error.
+#[cold]
+#[inline(never)]
 fn update<C: Clock>(regs: &[u64; 11], memory: &mut Memory, packet: &[u8], clock: &mut C) -> u64
     requires key { NamesKey (words_of 0 regs.now memory.old packet.now 0) }
     requires value { NamesValue (words_of 0 regs.now memory.old packet.now 0) }
@@ -116,6 +117,8 @@ fn update<C: Clock>(regs: &[u64; 11], memory: &mut Memory, packet: &[u8], clock:
 }
 
 // Removes the key to which r2 points: 0, or an error.
+#[cold]
+#[inline(never)]
 fn delete<C: Clock>(regs: &[u64; 11], memory: &mut Memory, packet: &[u8], clock: &mut C) -> u64
     requires { NamesKey (words_of 0 regs.now memory.old packet.now 0) }
     ensures deletes { DeletesFromMap (words_of 0 regs.now memory.old packet.now 0)

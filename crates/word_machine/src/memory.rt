@@ -2,9 +2,11 @@
 
 ghost use Rattle.std.specs.Prelude.{◌≡◌, ◌+◌, ◌-◌, ◌*◌, ◌/◌, ◌%◌, ◌<◌, ◌≤◌, ℕ, List, [], length, vec_capacity, IfOk};
 ghost use Rattle.isa_model.specs.Code.Limits.{max_packet, max_call_frames, max_value_size};
-ghost use Rattle.isa_model.specs.Code.Numbers.{bytes_of, number_from};
-ghost use Rattle.isa_model.specs.Code.Sizes.{size_bytes};
-ghost use Rattle.word_machine.specs.Addresses.{frames_size};
+ghost use Rattle.isa_model.specs.Code.Numbers.{alu, bytes_of, number_from};
+ghost use Rattle.isa_model.specs.Code.Sizes.{size_bytes, width_size};
+ghost use Rattle.flatmem.specs.Bytes.{bytes_at};
+ghost use Rattle.maps.specs.Maps.{map_at};
+ghost use Rattle.word_machine.specs.Addresses.{frames_size, region_of, block_map, block_index};
 ghost use Rattle.word_machine.specs.Words.{IsInside, CanLoad, spot_of, get, word_from, number_at, context_word};
 ghost use Rattle.word_machine.specs.Machine.{words_of, seen, WritesBytes};
 
@@ -14,7 +16,7 @@ use crate::addresses::{
 };
 use crate::room::{Room, zeros};
 use crate::sizes;
-use isa_model::{MAX_CALL_FRAMES, Size};
+use isa_model::{AluOp, MAX_CALL_FRAMES, Size, Width};
 use maps::Maps;
 use std::alloc::{AllocError, Global};
 
@@ -92,6 +94,26 @@ pub fn bytes<'a>(
     }
 }
 
+// A copy of the bytes of a map value at an address. It is out of line, since keys are most often
+// elsewhere.
+#[cold]
+#[inline(never)]
+fn bytes_of_map<'a>(maps: &Maps, room: &'a mut Room, address: u64, count: usize) -> &'a [u8]
+    requires values { 32 ≤ region_of address }
+    requires map { block_map address < length maps.now }
+    requires most { count ≤ max_value_size }
+    requires inside { block_index address + count
+        ≤ length (map_at maps.now (block_map address)).block }
+    ensures bytes { result.now ≡ bytes_at (map_at maps.now (block_map address)).block
+        (block_index address) count }
+    ensures size { length result.now ≡ count }
+{
+    let block = maps.block(block_map(address));
+    let at = block_index(address);
+    room.keep(&block[at..at + count]);
+    room.front(count)
+}
+
 /// The bytes at an address, without a borrow of the maps: bytes of a map are copied to the room.
 #[inline(always)]
 pub fn bytes_apart<'a>(
@@ -116,10 +138,7 @@ pub fn bytes_apart<'a>(
         let at = frames_index(address);
         &frames[at..at + count]
     } else {
-        let block = maps.block(block_map(address));
-        let at = block_index(address);
-        room.keep(&block[at..at + count]);
-        room.front(count)
+        bytes_of_map(maps, room, address, count)
     }
 }
 
@@ -173,6 +192,41 @@ pub fn put(size: Size, memory: &mut Memory, packet: &mut [u8], address: u64, num
     } else {
         let block = memory.maps.block_mut(block_map(address));
         sizes::put(size, block, block_index(address), number);
+    }
+}
+
+/// Writes what an operation makes of the number at an address and another one. Returns the number
+/// that was there.
+#[inline(always)]
+pub fn amend(
+    op: AluOp,
+    width: Width,
+    memory: &mut Memory,
+    packet: &mut [u8],
+    address: u64,
+    by: u64,
+) -> u64
+    requires { IsInside (words_of 0 [] memory.old packet.old 0) (spot_of address)
+        (size_bytes (width_size width)) }
+    ensures was { result
+        ≡ number_at (words_of 0 [] memory.old packet.old 0) (width_size width) address }
+    ensures becomes { WritesBytes (spot_of address)
+        (bytes_of (width_size width) (alu op width result by))
+        memory.old memory.new packet.old packet.new }
+{
+    if region_of(address) == PACKET_REGION {
+        sizes::amend(op, width, packet, packet_index(address), by)
+    } else if address >= FRAMES {
+        sizes::amend(
+            op,
+            width,
+            memory.frames.as_mut_slice(),
+            frames_index(address),
+            by,
+        )
+    } else {
+        let block = memory.maps.block_mut(block_map(address));
+        sizes::amend(op, width, block, block_index(address), by)
     }
 }
 
