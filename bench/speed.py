@@ -8,7 +8,8 @@ have no figure there.
 usage: python3 bench/speed.py [PROGRAM ..]
 
 Where code lies in memory moves a loop by 10 to 30 %, so each interpreter in C is built four times, its code further on by
-16 bytes each, and several builds of xdpvm can be given. Each figure is the least of TIMES runs, in turn, over
+16 bytes each, and several builds of xdpvm can be given. A PROGRAM may be an object file, as `rt run` leaves it in
+crates/xdpvm/out/xdpvm.o: it is linked four times in the same way. Each figure is the least of TIMES runs, in turn, over
 all builds.
 """
 import os
@@ -20,6 +21,7 @@ import tempfile
 
 sys.path.insert(0, os.path.join(os.path.dirname(os.path.abspath(__file__)), "../checks"))
 from common import TOP, Ended, measured, need, record, straight, there, write
+import unproved
 
 PROGRAMS = [os.path.abspath(path) for path in sys.argv[1:]] or [f"{TOP}/crates/xdpvm/out/xdpvm"]
 TIMES = int(os.environ.get("TIMES", "8"))
@@ -231,6 +233,18 @@ def built() -> list[str]:
     return list(kinds)
 
 
+def in_layouts(path: str) -> list[str]:
+    """A program, or those of an object file, one for each layout."""
+    if not path.endswith(".o"):
+        return [path]
+    archives = unproved.libraries(unproved.the_kit())
+    programs = [os.path.abspath(f"xdpvm{pad}") for pad in PADS]
+    for pad, program in zip(PADS, programs):
+        skipped = write(f"pad{pad}.s", f'.section .note.GNU-stack,"",@progbits\n.text\n.skip {pad + 1}, 0x90\n')
+        subprocess.run(["cc", "-o", program, skipped, path, *archives, archives[0]], check=True)
+    return programs
+
+
 def processor(words: list[str]) -> Ended | None:
     """How a command ended; None where DPDK's interpreter refuses the program."""
     ended = measured(words)
@@ -313,6 +327,7 @@ def main() -> None:
     with tempfile.TemporaryDirectory() as folder:
         os.chdir(folder)
         kinds = built()
+        PROGRAMS[:] = [program for path in PROGRAMS for program in in_layouts(path)]
         assembled("idle", IDLE)
         write("none.frames", plain(0))
         columns = "".join(f"{kind + '/C':>9}" for kind in kinds[1:])
