@@ -1,5 +1,5 @@
 -- Why the program ends early, and its status then.
-use Rattle.std.specs.Prelude.{◌≡◌, ℕ, List}
+use Rattle.std.specs.Prelude.{◌≡◌, ◌≢◌, ℕ, List}
 use Rattle.std.specs.String.{string_bytes}
 use Rattle.std.specs.declared.io.ErrorKind.{ErrorKind}
 use Rattle.survey_commands.specs.declared.failures.SurveyError.{SurveyError}
@@ -14,14 +14,17 @@ failure_status (Unwritten name kind) = 4
 failure_status (File line) = 4
 failure_status Memory = 5
 
--- the file at the path cannot be read for this cause, or memory ran out
+-- the file at the path cannot be read for this cause, which is not that memory ran out; or it did
 abbrev pub IsUnread : List ℕ → ErrorKind → SurveyError → Type 0
-IsUnread path kind (Unread name cause) = (string_bytes name ≡ path) × (cause ≡ kind)
+IsUnread path kind (Unread name cause) =
+    (string_bytes name ≡ path) × (cause ≡ kind) × (kind ≢ ErrorKind.OutOfMemory)
 IsUnread path kind Memory = Unit {0}
 IsUnread path kind failure = ⊥
 
--- the file or output of this name cannot be written for this cause, or memory ran out
+-- the file or output of this name cannot be written for this cause, which is not that memory ran
+-- out; or it did
 abbrev pub IsUnwritten : List ℕ → ErrorKind → SurveyError → Type 0
-IsUnwritten path kind (Unwritten name cause) = (string_bytes name ≡ path) × (cause ≡ kind)
+IsUnwritten path kind (Unwritten name cause) =
+    (string_bytes name ≡ path) × (cause ≡ kind) × (kind ≢ ErrorKind.OutOfMemory)
 IsUnwritten path kind Memory = Unit {0}
 IsUnwritten path kind failure = ⊥
