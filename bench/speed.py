@@ -233,12 +233,12 @@ def built() -> list[str]:
     return list(kinds)
 
 
-def in_layouts(path: str) -> list[str]:
-    """A program, or those of an object file, one for each layout."""
+def in_layouts(number: int, path: str) -> list[str]:
+    """A program, or those of an object file, one for each layout: number is its place among those that are given."""
     if not path.endswith(".o"):
         return [path]
     archives = unproved.libraries(unproved.the_kit())
-    programs = [os.path.abspath(f"xdpvm{pad}") for pad in PADS]
+    programs = [os.path.abspath(f"xdpvm{number}-{pad}") for pad in PADS]
     for pad, program in zip(PADS, programs):
         skipped = write(f"pad{pad}.s", f'.section .note.GNU-stack,"",@progbits\n.text\n.skip {pad + 1}, 0x90\n')
         subprocess.run(["cc", "-o", program, skipped, path, *archives, archives[0]], check=True)
@@ -312,7 +312,7 @@ def compared(kinds: list[str], name: str, text: str, stream: bytes) -> None:
 
 
 def main() -> None:
-    need(*PROGRAMS)
+    need(*(path for path in PROGRAMS if not path.endswith(".o")))
     rows = [
         ("packet parse, 64 in a frame", PARSE, packets(5000)),
         ("loop of 2 instructions", counted(499_998), plain(400)),
@@ -327,7 +327,7 @@ def main() -> None:
     with tempfile.TemporaryDirectory() as folder:
         os.chdir(folder)
         kinds = built()
-        PROGRAMS[:] = [program for path in PROGRAMS for program in in_layouts(path)]
+        PROGRAMS[:] = [program for number, path in enumerate(PROGRAMS) for program in in_layouts(number, path)]
         assembled("idle", IDLE)
         write("none.frames", plain(0))
         columns = "".join(f"{kind + '/C':>9}" for kind in kinds[1:])
