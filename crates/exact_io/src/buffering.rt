@@ -84,7 +84,7 @@ impl<W: Write + Drop> PromptWriter<W> {
         Ok(count)
     }
 
-    // Whether nothing has failed, and so many bytes go into the buffer.
+    // Whether nothing has failed, and the buffer has room for `count` bytes more.
     #[inline(always)]
     fn takes_at_once(&self, count: usize) -> bool
         ensures { result ≡ true → failure_of self.now ≡ None }
