@@ -1,6 +1,6 @@
 //! The call that verifies an image.
 
-ghost use Rattle.std.specs.Prelude.{◌≡◌, ◌≢◌, ◌<◌, ◌↔◌, ◌⊎◌, Err, IfOk};
+ghost use Rattle.std.specs.Prelude.{◌≡◌, ◌≢◌, ◌<◌, ◌↔◌, ◌⊎◌, [], Err, IfOk, length};
 ghost use Rattle.isa_model.specs.Code.Limits.{max_explored};
 ghost use Rattle.image.specs.Images.{image_bytes};
 ghost use Rattle.bounds.specs.Bounds.{IsVerified};
@@ -9,6 +9,7 @@ ghost use Rattle.walks.specs.Refused.{IsRefused};
 ghost use Rattle.walks.specs.Accepting.{BoundsAll};
 ghost use Rattle.walks.specs.Counts.{HasNumber};
 ghost use Rattle.messages.specs.Lines.{is_memory};
+ghost use Rattle.messages.specs.Texts.{program_front};
 ghost use Rattle.calls.specs.Crossing.{IsDecision};
 ghost use Rattle.calls.specs.Verdicts.{ReturnsBound, only_bound, IsRefusedImage, FillsImageRefusal, FillsProgramRefusal, IsUndecided};
 ghost use Rattle.calls.specs.declared.statuses.NotAccepted.TheVariants as NotAccepted;
@@ -81,6 +82,8 @@ fn write_refusal(
     requires { IsRefused program.now rejected.refusal rejected.slot }
     ensures refused { result ≡ REFUSED
         → FillsProgramRefusal program.now why.old why.new out.new }
+    ensures no_room { result ≡ REFUSED → why.old ≡ [] → out.new.said
+        ≡ length (program_front program.now rejected.refusal rejected.slot) }
     ensures why_kept { result ≢ REFUSED → why.new ≡ why.old }
     ensures memory { result ≡ MEMORY → out.new ≡ out.old }
     ensures status { (result ≡ REFUSED) ⊎ (result ≡ MEMORY) }

@@ -1,5 +1,8 @@
 //! The steps of a frame's run, as text for people and as JSON.
 
+ghost use Rattle.std.specs.Prelude.{◌≡◌, option_map};
+ghost use Rattle.coverage.specs.Steps.{registers_at};
+
 use crate::jsons::quoted;
 use crate::reads::{Held, read_by};
 use crate::report_words::end_words;
@@ -32,10 +35,13 @@ struct StepShown {
     wrote: Vec<Held>,
 }
 
-/// What the registers hold after a step; `None` where the step ended the run, and changed nothing.
-fn after_step<'a>(shown: &'a FrameSteps, index: usize) -> Option<&'a [Value; 11]> {
-    match shown.steps.get(index.saturating_add(1)) {
-        Some(next) => Some(&next.registers),
+/// What the registers hold before the step of an index, or after the last one; `None` where that
+/// one ended the run, and changed nothing.
+fn registers_at<'a>(shown: &'a FrameSteps, index: usize) -> Option<&'a [Value; 11]>
+    ensures { option_map (λ registers. registers.now) result ≡ registers_at shown.now index }
+{
+    match shown.steps.get(index) {
+        Some(step) => Some(&step.registers),
         None => match shown.stop.end {
             End::Limit => Some(&shown.stop.registers),
             End::Exit(_, _) | End::Trap(_, _) => None,
@@ -58,12 +64,13 @@ fn step_shown(
     index: usize,
     step: &StepTaken,
 ) -> Result<StepShown, AllocError> {
-    let wrote = match after_step(shown, index) {
+    let next = index.saturating_add(1);
+    let wrote = match registers_at(shown, next) {
         Some(after) => written_by(alloc, step, after)?,
         None => Vec::new(alloc),
     };
     Ok(StepShown {
-        number: index.saturating_add(1),
+        number: next,
         slot: step.slot,
         insn: step_insn(alloc, step)?,
         read: read_by(alloc, step)?,

@@ -1,7 +1,8 @@
 -- What the file of the frames out has, where they became a capture.
-use Rattle.std.specs.Prelude.{◌≡◌, ℕ, List, Option, unwrap_or}
+use Rattle.std.specs.Prelude.{◌≡◌, ℕ, List, Option, false, unwrap_or}
 use Rattle.isa_model.specs.declared.versions.Version.{Version}
 use Rattle.captures.specs.declared.kinds.CaptureForm.{CaptureForm}
+use Rattle.captures.specs.declared.kinds.CaptureKind.{CaptureKind}
 use Rattle.captures.specs.declared.kinds.LostCounts.{LostCounts}
 use Rattle.captures.specs.Writing.{HasWritten}
 
@@ -16,3 +17,7 @@ pub record HasCaptured (known : Option CaptureForm) (lost : LostCounts)
   pub part : List ℕ
   pub described : ℕ
   pub written : HasWritten form version part described lost origin handed before got
+
+-- the frames that pass have no reason
+abbrev pub passing_frames : CaptureKind → CaptureForm
+passing_frames kind = record { kind = kind; has_reasons = false }

@@ -87,11 +87,7 @@ fn copy_from<'a, S: Source + Drop, W: Write + Drop>(
                 source: &mut frames,
             };
             let ended = copied(frame_form, from.placing, lent, name, output);
-            let unsaid = Unsaid {
-                damage: frames.damage(),
-                captured: frames.counts(),
-                lost: copied_by(&ended),
-            };
+            let unsaid = Unsaid::of(&frames, copied_by(&ended));
             ending_with(alloc, outcome_of(ended, form), unsaid)
         }
         Err(outcome) => Ending::plain(outcome),
@@ -125,11 +121,7 @@ fn capture_from<'a, S: Source + Drop, W: Write + Drop>(
                 output,
                 Unfollowed,
             );
-            let unsaid = Unsaid {
-                damage: frames.damage(),
-                captured: frames.counts(),
-                lost: Lost::Capture(loss),
-            };
+            let unsaid = Unsaid::of(&frames, Lost::Capture(loss));
             ending_with(alloc, outcome_of(ended, form), unsaid)
         }
         Err(outcome) => Ending::plain(outcome),

@@ -7,7 +7,7 @@ ghost use Rattle.maps.specs.Maps.{contents_of, rows_of};
 ghost use Rattle.words.specs.FilterRequests as judging;
 ghost use Rattle.words.specs.FilterRequests.{filter_request_of};
 ghost use Rattle.filtering.specs.Running.{program_of};
-ghost use Rattle.filtering.specs.Capturing.{HasCaptured};
+ghost use Rattle.filtering.specs.Capturing.{HasCaptured, passing_frames};
 ghost use Rattle.filtering.specs.Files.{FiltersBy, FiltersFiles, FiltersOn, FiltersSome, RunsWanted};
 ghost use Rattle.filtering.specs.Losing.{WithUnsaid};
 
@@ -76,6 +76,16 @@ fn run_captured<'a, S: Source + Drop, W1: Write + Drop, W2: Write + Drop, T: Fol
     run_wanted(alloc, ready, maps, source, report, name, sent)
 }
 
+// A capture of the frames that pass has none with a reason.
+fn passing_form(kind: CaptureKind) -> CaptureForm
+    ensures { result ≡ passing_frames kind }
+{
+    CaptureForm {
+        kind,
+        has_reasons: false,
+    }
+}
+
 // Runs a program, with a capture of the frames that pass. `lost` gets what it does not say.
 fn filter_to_capture<'a, S: Source + Drop, W1: Write + Drop, W2: Write>(
     alloc: Global,
@@ -102,11 +112,7 @@ fn filter_to_capture<'a, S: Source + Drop, W1: Write + Drop, W2: Write>(
         report,
         maps_out,
     } = opened;
-    let passing = CaptureForm {
-        kind,
-        has_reasons: false,
-    };
-    let mut sent = CaptureWriter::new(sent, passing, Unfollowed);
+    let mut sent = CaptureWriter::new(sent, passing_form(kind), Unfollowed);
     let ended = run_captured(alloc, ready, maps, source, report, name, &mut sent);
     *lost = Lost::Capture(Loss {
         kind,
@@ -209,8 +215,7 @@ fn filter_counted<'a, S: Source + Drop, W1: Write + Drop, W2: Write>(
         maps_out,
     };
     let outcome = filter_opened(alloc, ready, maps, lent, name, lines, &mut unsaid.lost);
-    unsaid.captured = source.counts();
-    unsaid.damage = source.damage();
+    *unsaid = Unsaid::of(&source, unsaid.lost);
     outcome
 }
 

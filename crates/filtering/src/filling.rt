@@ -1,6 +1,7 @@
 //! What a program's maps hold before the first frame.
 
-ghost use Rattle.std.specs.Prelude.{◌≡◌, IfOk, IfErr, OnOk, option_map};
+ghost use Rattle.std.specs.Prelude.{◌≡◌, ◌≢◌, IfOk, IfErr, OnOk, Some, option_map};
+ghost use Rattle.commands.specs.Statuses.{IsReadFailure};
 ghost use Rattle.maps.specs.Maps.{contents_of, rows_of};
 ghost use Rattle.map_texts.specs.Reading.{AreFilledFrom};
 ghost use Rattle.filtering.specs.Filling.{BeginsWith, BeginsNot, RefusesMapText, SaysTextError};
@@ -36,6 +37,16 @@ impl<S: Read> Read for Noted<S> {
     }
 }
 
+// How the task ends where the text at the path could not be read, for this cause if it is known.
+fn unread<'a>(path: &'a str, cause: Option<ErrorKind>) -> TaskOutcome<'a>
+    ensures known { (kind : ErrorKind) → cause ≡ Some kind → kind ≢ ErrorKind.OutOfMemory
+        → result ≡ TaskOutcome.CannotRead path.entry kind }
+    ensures failed { IsReadFailure path.now result }
+{
+    let kind = cause.unwrap_or(ErrorKind::Other);
+    TaskOutcome::of_read(path, &io::Error::from(kind))
+}
+
 // How the task ends if a text does not fill the maps; a text that could not be read failed for this
 // cause.
 fn text_refused<'a, W: Write>(
@@ -48,10 +59,7 @@ fn text_refused<'a, W: Write>(
     ensures { SaysTextError error path.now (W.contents out.old) (W.contents out.new) result }
 {
     match error.kind {
-        MapTextErrorKind::ReadFailed => {
-            let kind = cause.unwrap_or(ErrorKind::Other);
-            TaskOutcome::of_read(path, &io::Error::from(kind))
-        }
+        MapTextErrorKind::ReadFailed => unread(path, cause),
         _ => say_made(
             maps_line(alloc, error),
             TaskOutcome::Refused(Rejection::Maps(error)),

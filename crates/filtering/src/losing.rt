@@ -5,7 +5,9 @@ ghost use Rattle.std.specs.Prelude.{◌≡◌, IfOk};
 ghost use Rattle.std.specs.String.{string_bytes};
 ghost use Rattle.filtering.specs.Losing.{TellsUnsaid, captured_text, count_line, damage_text, damage_words, interface_words, left_text, lost_line, lost_of, lost_text, unsaid_text};
 
-use captures::{CaptureCounts, CaptureDamage, CaptureKind, CopyCounts, LostCounts, PacketFault};
+use captures::{
+    CaptureCounts, CaptureDamage, CaptureKind, CopyCounts, FramesOf, LostCounts, PacketFault,
+};
 use commands::{Ending, TaskOutcome};
 use std::alloc::{AllocError, Global};
 
@@ -140,12 +142,29 @@ pub struct Unsaid {
 }
 
 impl Unsaid {
+    ghost use Rattle.captures.specs.Choices.{frames_counts, frames_damage};
+
     /// All is kept, as far as is known.
     pub fn nothing() -> Unsaid {
         Unsaid {
             damage: None,
             captured: CaptureCounts::none(),
             lost: Lost::Nothing,
+        }
+    }
+
+    /// What is not kept of frames that came from this source, and where its capture is damaged.
+    pub fn of<R>(frames: &FramesOf<R>, lost: Lost) -> Unsaid
+        ensures { result ≡ record {
+          damage = frames_damage frames.now;
+          captured = frames_counts frames.now;
+          lost = lost;
+        } }
+    {
+        Unsaid {
+            damage: frames.damage(),
+            captured: frames.counts(),
+            lost,
         }
     }
 }

@@ -1,6 +1,6 @@
 //! Why the program ends early, and its message then.
 
-ghost use Rattle.std.specs.Prelude.{◌≡◌, ◌≤◌};
+ghost use Rattle.std.specs.Prelude.{◌≡◌, ◌≢◌, ◌≤◌, []};
 ghost use Rattle.survey_commands.specs.Failures.{IsUnread, IsUnwritten, failure_status};
 
 use exact_io::write_bytes;
@@ -69,7 +69,10 @@ pub fn unnamed_line(alloc: Global, path: &str) -> Result<String, AllocError> {
 }
 
 // What is said of arguments: the text on them, or where it is empty the usage.
-fn words_text(text: &str) -> &str {
+fn words_text(text: &str) -> &str
+    ensures text { text.now ≢ [] → result.now ≡ text.now }
+    ensures usage { text.now ≡ [] → result.now ≡ USAGE.now }
+{
     if text.is_empty() { USAGE } else { text }
 }
 

@@ -1,14 +1,14 @@
 //! How often each instruction of an image is run over the frames of a stream.
 
-ghost use Rattle.std.specs.Prelude.{◌≤◌, IfOk};
+ghost use Rattle.std.specs.Prelude.{◌≡◌, ◌≤◌, IfOk};
+ghost use Rattle.survey_commands.specs.Ends.{finish_status};
 
 use crate::begun::{NotBegun, judged, load, maps_begun, parsed_again};
 use crate::failures::SurveyError;
-use crate::streams::{open_stream, say_faulted};
+use crate::streams::{open_stream, say_finish};
 use coverage::{BoundVerdict, StreamHits, hits_csv, hits_json, hits_text};
 use exact_io::write_bytes;
 use image::Image;
-use isa_model::Finish;
 use std::alloc::{AllocError, Global};
 use std::io;
 use std::io::Write;
@@ -70,6 +70,29 @@ fn count<R: Files + Clock + AllocGlobal, W1: Write, W2: Write>(
     }
 }
 
+/// Writes the counts, and says on standard error which fault ended the stream, if one did.
+fn write_counted<R: Files + AllocGlobal, W1: Write, W2: Write>(
+    rt: &R,
+    asked: RunAsked<'_>,
+    format: Format,
+    counted: &Counted,
+    out: &mut W1,
+    err: &mut W2,
+) -> Result<u8, SurveyError>
+    ensures { IfOk result (λ status. status ≡ finish_status counted.now.hits.finish) }
+{
+    let alloc = rt.alloc();
+    let text = text_of(alloc, asked.image, format, counted)?;
+    match write_through(text.as_slice(), out) {
+        Ok(()) => {}
+        Err(error) => return Err(SurveyError::of_output(alloc, error.kind())),
+    }
+    if let BoundVerdict::Unknown = counted.verdict {
+        return Err(SurveyError::Memory);
+    }
+    Ok(say_finish(rt, asked.frames, counted.hits.finish, err))
+}
+
 /// Prints how often each instruction is run over the frames of a stream, and returns the status: 2
 /// where the image or the text of the maps is refused, 3 where a fault ended the stream, which is
 /// said after the counts of the frames before it. Where memory runs out while the bound is looked
@@ -83,21 +106,8 @@ pub fn print_hits<R: Files + Clock + AllocGlobal, W1: Write, W2: Write>(
 ) -> Result<u8, SurveyError>
     ensures { IfOk result (λ status. status ≤ 5) }
 {
-    let alloc = rt.alloc();
-    let counted = match count(rt, asked, out, err) {
-        Ok(counted) => counted,
-        Err(ended) => return ended.ended(),
-    };
-    let text = text_of(alloc, asked.image, format, &counted)?;
-    match write_through(text.as_slice(), out) {
-        Ok(()) => {}
-        Err(error) => return Err(SurveyError::of_output(alloc, error.kind())),
-    }
-    if let BoundVerdict::Unknown = counted.verdict {
-        return Err(SurveyError::Memory);
-    }
-    match counted.hits.finish {
-        Finish::End => Ok(0),
-        Finish::Fault(fault, _) => Ok(say_faulted(rt, asked.frames, fault, err)),
+    match count(rt, asked, out, err) {
+        Ok(counted) => write_counted(rt, asked, format, &counted, out, err),
+        Err(ended) => ended.ended(),
     }
 }

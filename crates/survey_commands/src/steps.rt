@@ -1,6 +1,7 @@
 //! The run of one frame of a stream, step by step.
 
-ghost use Rattle.std.specs.Prelude.{◌≤◌, IfOk};
+ghost use Rattle.std.specs.Prelude.{◌≡◌, ◌≤◌, IfOk};
+ghost use Rattle.survey_commands.specs.Ends.{found_status, missing_status};
 
 use crate::begun::{NotBegun, judged, load, maps_begun, parsed_again};
 use crate::failures::SurveyError;
@@ -10,6 +11,7 @@ use coverage::{
     write_text,
 };
 use exact_io::write_bytes;
+use image::Image;
 use isa_model::{Finish, Version};
 use std::alloc::{AllocError, Global};
 use std::io;
@@ -34,6 +36,17 @@ fn skipped_line(alloc: Global, frame: u32, reason: u32) -> Result<String, AllocE
     format!(in alloc; "frame {frame} has reason {reason}: it is not run\n")
 }
 
+/// The version of the program.
+fn version_of(image: &Image) -> Version
+    ensures { result ≡ image.now.version }
+{
+    if image.version() == 1 {
+        Version::One
+    } else {
+        Version::Two
+    }
+}
+
 /// Runs the image on the stream, up to the frame.
 fn find<R: Files + Clock + AllocGlobal, W1: Write, W2: Write>(
     rt: &R,
@@ -48,11 +61,7 @@ fn find<R: Files + Clock + AllocGlobal, W1: Write, W2: Write>(
         Ok(again) => again,
         Err(failure) => return Err(NotBegun::Failed(failure)),
     };
-    let program = if image.version() == 1 {
-        Version::One
-    } else {
-        Version::Two
-    };
+    let program = version_of(&image);
     let maps = maps_begun(rt, alloc, &image, asked.maps, out, err)?;
     let source = open_stream(rt, alloc, asked.frames)?;
     if let BoundVerdict::Unknown = judged(alloc, again, err)? {
@@ -104,7 +113,7 @@ fn write_skipped<W1: Write, W2: Write>(
     out: &mut W1,
     err: &mut W2,
 ) -> Result<u8, SurveyError>
-    ensures { IfOk result (λ status. status ≤ 5) }
+    ensures { IfOk result (λ status. status ≡ 0) }
 {
     let text = skipped_text(alloc, about, len, reason, is_json)?;
     let line = skipped_line(alloc, about.frame, reason)?;
@@ -126,7 +135,7 @@ fn say_missing<R: Files + AllocGlobal, W: Write>(
     finish: Finish,
     err: &mut W,
 ) -> Result<u8, SurveyError>
-    ensures { IfOk result (λ status. status ≤ 5) }
+    ensures { IfOk result (λ status. status ≡ missing_status finish) }
 {
     let line = no_frame_line(rt.alloc(), frame, count)?;
     let _ = write_bytes(err, line.as_bytes());
@@ -136,24 +145,19 @@ fn say_missing<R: Files + AllocGlobal, W: Write>(
     }
 }
 
-/// Prints the steps of the run of the frame of this number, and returns the status: 1 where the
-/// stream does not have that frame, 2 where the image or the text of the maps is refused, 3 where
-/// a fault ended the stream before the frame.
-pub fn print_steps<R: Files + Clock + AllocGlobal, W1: Write, W2: Write>(
+/// Writes what was found, or says on standard error why that are no steps.
+fn write_found<R: Files + AllocGlobal, W1: Write, W2: Write>(
     rt: &R,
     asked: RunAsked<'_>,
     frame: u32,
     is_json: bool,
+    found: &Found,
     out: &mut W1,
     err: &mut W2,
 ) -> Result<u8, SurveyError>
-    ensures { IfOk result (λ status. status ≤ 5) }
+    ensures { IfOk result (λ status. status ≡ found_status found.now.frame) }
 {
     let alloc = rt.alloc();
-    let found = match find(rt, asked, frame, out, err) {
-        Ok(found) => found,
-        Err(ended) => return ended.ended(),
-    };
     let about = FrameShown {
         image: asked.image,
         frame,
@@ -171,5 +175,24 @@ pub fn print_steps<R: Files + Clock + AllocGlobal, W1: Write, W2: Write>(
         FrameFound::Missing(count, finish) => {
             say_missing(rt, asked.frames, frame, *count, *finish, err)
         }
+    }
+}
+
+/// Prints the steps of the run of the frame of this number, and returns the status: 1 where the
+/// stream does not have that frame, 2 where the image or the text of the maps is refused, 3 where
+/// a fault ended the stream before the frame.
+pub fn print_steps<R: Files + Clock + AllocGlobal, W1: Write, W2: Write>(
+    rt: &R,
+    asked: RunAsked<'_>,
+    frame: u32,
+    is_json: bool,
+    out: &mut W1,
+    err: &mut W2,
+) -> Result<u8, SurveyError>
+    ensures { IfOk result (λ status. status ≤ 5) }
+{
+    match find(rt, asked, frame, out, err) {
+        Ok(found) => write_found(rt, asked, frame, is_json, &found, out, err),
+        Err(ended) => ended.ended(),
     }
 }

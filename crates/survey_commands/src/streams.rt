@@ -1,11 +1,12 @@
 //! The frame stream that an image is run on.
 
-ghost use Rattle.std.specs.Prelude.{◌≤◌};
+ghost use Rattle.std.specs.Prelude.{◌≡◌};
+ghost use Rattle.survey_commands.specs.Ends.{finish_status};
 
 use crate::begun::NotBegun;
 use crate::failures::SurveyError;
 use frames::Buffered;
-use isa_model::Fault;
+use isa_model::{Fault, Finish};
 use messages::{FileForm, file_form_of, say_fault, write_texts};
 use std::alloc::Global;
 use std::fs;
@@ -56,7 +57,7 @@ fn form_of<R: Files>(rt: &R, path: &str) -> FileForm {
 
 /// Says on standard error which fault ended the stream of a file, and returns the status.
 pub fn say_faulted<R: Files, W: Write>(rt: &R, path: &str, fault: Fault, err: &mut W) -> u8
-    ensures { result ≤ 3 }
+    ensures { result ≡ 3 }
 {
     let _ = match fault {
         Fault::BadMagic => {
@@ -65,4 +66,15 @@ pub fn say_faulted<R: Files, W: Write>(rt: &R, path: &str, fault: Fault, err: &m
         _ => say_fault(err, fault, FileForm::Unknown),
     };
     3
+}
+
+/// Says on standard error which fault ended the stream of a file, if one did, and returns the
+/// status.
+pub fn say_finish<R: Files, W: Write>(rt: &R, path: &str, finish: Finish, err: &mut W) -> u8
+    ensures { result ≡ finish_status finish }
+{
+    match finish {
+        Finish::End => 0,
+        Finish::Fault(fault, _) => say_faulted(rt, path, fault, err),
+    }
 }

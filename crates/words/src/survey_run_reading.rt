@@ -1,5 +1,8 @@
 //! What the commands of xdpvm_survey that run an image on a frame stream ask for.
 
+ghost use Rattle.std.specs.Prelude.{◌≡◌, ◌≤◌, MatchOption};
+ghost use Rattle.isa_model.specs.Code.Limits.{max_steps};
+
 use super::survey_asked::{Format, RunAsked, SurveyAsked};
 use super::survey_reading::{number_in, wrong};
 use super::tasks::{StepLimit, WordsError};
@@ -31,7 +34,10 @@ fn format_in(alloc: Global, matches: &ArgMatches<'_>) -> Result<Format, WordsErr
 }
 
 // A limit of so many steps, if a run may have it.
-fn limit_of(steps: u64) -> Option<StepLimit> {
+fn limit_of(steps: u64) -> Option<StepLimit>
+    ensures { MatchOption result ((1 ≤ steps) → (steps ≤ max_steps) → ⊥)
+        (λ limit. limit.steps ≡ steps) }
+{
     if steps < 1 || steps > u64::from(MAX_STEPS) {
         return None;
     }
