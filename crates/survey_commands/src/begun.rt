@@ -6,10 +6,12 @@ ghost use Rattle.maps.specs.Maps.{rows_of};
 use crate::failures::SurveyError;
 use crate::files::read_image;
 use crate::looks::{say, say_malformed};
+use crate::streams::open_stream;
 use control_flow::FlowError;
 use coverage::BoundVerdict;
 use exact_io::write_bytes;
 use explorer::{Refusal, verify};
+use frames::Buffered;
 use image::{Image, ImageError};
 use map_texts::{MapTextError, MapTextErrorKind, fill_maps};
 use maps::Maps;
@@ -18,6 +20,7 @@ use std::alloc::{AllocError, Global};
 use std::fs;
 use std::io::{ErrorKind, Read, Write};
 use std::rt::Files;
+use words::RunAsked;
 
 /// Why a run does not begin: standard output or standard error says it, or it is a failure.
 #[derive(Drop)]
@@ -177,4 +180,41 @@ pub fn maps_begun<R: Files, W1: Write, W2: Write>(
             Err(error) => { Err(NotBegun::Failed(SurveyError::of_read(alloc, path, error.kind()))) }
         },
     }
+}
+
+/// What a run on a frame stream begins with: the image and once more for its verdict, its bytes, the
+/// maps before the first frame, and the stream.
+#[derive(Drop)]
+pub struct Begun<S> {
+    pub bytes: Vec<u8>,
+    pub image: Image,
+    pub again: Image,
+    pub maps: Maps,
+    pub source: Buffered<S>,
+}
+
+/// Reads the image and what its maps begin with, and opens the stream.
+pub fn begin<R: Files, W1: Write, W2: Write>(
+    rt: &R,
+    alloc: Global,
+    asked: RunAsked<'_>,
+    out: &mut W1,
+    err: &mut W2,
+) -> Result<Begun<<R as Files>::File>, NotBegun>
+    ensures { IfOk result (λ begun. rows_of begun.maps ≡ begun.image.maps) }
+{
+    let (bytes, image) = load(rt, alloc, asked.image, out, err)?;
+    let again = match parsed_again(alloc, bytes.as_slice()) {
+        Ok(again) => again,
+        Err(failure) => return Err(NotBegun::Failed(failure)),
+    };
+    let maps = maps_begun(rt, alloc, &image, asked.maps, out, err)?;
+    let source = open_stream(rt, alloc, asked.frames)?;
+    Ok(Begun {
+        bytes,
+        image,
+        again,
+        maps,
+        source,
+    })
 }

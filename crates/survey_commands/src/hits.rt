@@ -3,9 +3,9 @@
 ghost use Rattle.std.specs.Prelude.{◌≡◌, ◌≤◌, IfOk};
 ghost use Rattle.survey_commands.specs.Ends.{finish_status};
 
-use crate::begun::{NotBegun, judged, load, maps_begun, parsed_again};
+use crate::begun::{Begun, NotBegun, begin, judged, parsed_again};
 use crate::failures::SurveyError;
-use crate::streams::{open_stream, say_finish};
+use crate::streams::say_finish;
 use coverage::{BoundVerdict, StreamHits, hits_csv, hits_json, hits_text};
 use exact_io::write_bytes;
 use image::Image;
@@ -51,13 +51,13 @@ fn count<R: Files + Clock + AllocGlobal, W1: Write, W2: Write>(
     err: &mut W2,
 ) -> Result<Counted, NotBegun> {
     let alloc = rt.alloc();
-    let (bytes, image) = load(rt, alloc, asked.image, out, err)?;
-    let again = match parsed_again(alloc, bytes.as_slice()) {
-        Ok(again) => again,
-        Err(failure) => return Err(NotBegun::Failed(failure)),
-    };
-    let maps = maps_begun(rt, alloc, &image, asked.maps, out, err)?;
-    let source = open_stream(rt, alloc, asked.frames)?;
+    let Begun {
+        bytes,
+        image,
+        again,
+        maps,
+        source,
+    } = begin(rt, alloc, asked, out, err)?;
     let verdict = judged(alloc, again, err)?;
     let hits = coverage::hits(alloc, image, maps, asked.limit.steps, source)?;
     match parsed_again(alloc, bytes.as_slice()) {

@@ -3,9 +3,9 @@
 ghost use Rattle.std.specs.Prelude.{◌≡◌, ◌≤◌, IfOk};
 ghost use Rattle.survey_commands.specs.Ends.{found_status, missing_status};
 
-use crate::begun::{NotBegun, judged, load, maps_begun, parsed_again};
+use crate::begun::{Begun, NotBegun, begin, judged};
 use crate::failures::SurveyError;
-use crate::streams::{open_stream, say_faulted};
+use crate::streams::say_faulted;
 use coverage::{
     BoundVerdict, FrameFound, FrameShown, FrameSteps, skip_json, skip_text, skip_words, write_json,
     write_text,
@@ -56,14 +56,14 @@ fn find<R: Files + Clock + AllocGlobal, W1: Write, W2: Write>(
     err: &mut W2,
 ) -> Result<Found, NotBegun> {
     let alloc = rt.alloc();
-    let (bytes, image) = load(rt, alloc, asked.image, out, err)?;
-    let again = match parsed_again(alloc, bytes.as_slice()) {
-        Ok(again) => again,
-        Err(failure) => return Err(NotBegun::Failed(failure)),
-    };
+    let Begun {
+        bytes: _,
+        image,
+        again,
+        maps,
+        source,
+    } = begin(rt, alloc, asked, out, err)?;
     let program = version_of(&image);
-    let maps = maps_begun(rt, alloc, &image, asked.maps, out, err)?;
-    let source = open_stream(rt, alloc, asked.frames)?;
     if let BoundVerdict::Unknown = judged(alloc, again, err)? {
         return Err(NotBegun::Failed(SurveyError::Memory));
     }

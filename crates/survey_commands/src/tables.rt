@@ -1,6 +1,6 @@
 //! Proof tables that a survey makes and writes.
 
-ghost use Rattle.std.specs.Prelude.{◌≡◌, IfSome, None};
+ghost use Rattle.std.specs.Prelude.{◌≡◌, IfSome, None, Ok};
 ghost use Rattle.listeners.specs.declared.listing.ExploredInsn.{ExploredInsn};
 ghost use Rattle.proof_table.specs.Writing.{IsForTable};
 ghost use Rattle.surveys.specs.Tallies.{searched};
@@ -152,6 +152,53 @@ fn is_too_large<W: Write>(
     }
 }
 
+/// What a table is made of, and since when, with the paths of its image and its file.
+#[derive(Clone, Copy)]
+struct TableParts<'a> {
+    image: &'a str,
+    path: &'a str,
+    verified: &'a Verified,
+    explored: &'a Explored,
+    since: Option<Instant>,
+}
+
+/// Writes the table of an accepted program as it is made, if it has more bytes than are held at
+/// once, and returns whether there is one. One that has more bytes than are wanted is not written:
+/// standard error says so. None: it can be held, and is not written.
+fn put_large_table<R: Files + Clock, W: Write>(
+    rt: &R,
+    alloc: Global,
+    wanted: TablesWanted<'_>,
+    parts: TableParts<'_>,
+    counts: &mut Counts,
+    err: &mut W,
+) -> Result<Option<bool>, SurveyError>
+    requires { IsForTable parts.verified.now.program parts.explored.now }
+    ensures held { result ≡ Ok None → counts.new ≡ counts.old }
+    ensures bound { counts.new.bound ≡ counts.old.bound }
+    ensures slot { counts.new.slot ≡ counts.old.slot }
+    ensures size { SaysTableSize parts.entry.verified.now.program counts.old counts.new }
+    ensures rest { searched counts.new ≡ searched counts.old }
+{
+    if most_bytes(parts.explored) <= MOST_HELD.min(wanted.most.unwrap_or(u64::MAX)) {
+        return Ok(None);
+    }
+    let Ok(size) = table_size(alloc, parts.verified, parts.explored) else {
+        return Ok(Some(false));
+    };
+    let is_too_large = is_too_large(alloc, parts.image, size, wanted.most, err)?;
+    if !is_too_large && size <= MOST_HELD {
+        return Ok(None);
+    }
+    counts.table_bytes = Some(size);
+    if is_too_large {
+        return Ok(Some(true));
+    }
+    let is_written = stream_table(rt, alloc, parts.path, parts.verified, parts.explored)?;
+    counts.prove_microseconds = microseconds_since(rt, parts.since);
+    Ok(Some(is_written))
+}
+
 /// Makes the table of an accepted program and writes it to a file, tested if it is not large, and
 /// adds its size and the times to what was counted. One that has more bytes than are wanted is not
 /// written: standard error says so, and only its size is added. False: memory ran out, or there is
@@ -175,20 +222,15 @@ pub fn put_table<R: Files + Clock, W: Write>(
         return Ok(false);
     };
     let path = table_path(alloc, wanted.folder, image)?;
-    if most_bytes(&explored) > MOST_HELD.min(wanted.most.unwrap_or(u64::MAX)) {
-        let Ok(size) = table_size(alloc, &verified, &explored) else {
-            return Ok(false);
-        };
-        let is_too_large = is_too_large(alloc, image, size, wanted.most, err)?;
-        if is_too_large || size > MOST_HELD {
-            counts.table_bytes = Some(size);
-            if is_too_large {
-                return Ok(true);
-            }
-            let is_written = stream_table(rt, alloc, path.as_str(), &verified, &explored)?;
-            counts.prove_microseconds = microseconds_since(rt, since);
-            return Ok(is_written);
-        }
+    let parts = TableParts {
+        image,
+        path: path.as_str(),
+        verified: &verified,
+        explored: &explored,
+        since,
+    };
+    if let Some(is_there) = put_large_table(rt, alloc, wanted, parts, counts, err)? {
+        return Ok(is_there);
     }
     match tested_table(rt, alloc, verified, explored, since, counts) {
         Some(table) => {

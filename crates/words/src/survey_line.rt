@@ -127,26 +127,47 @@ fn with_paths<'a>(alloc: Global, command: Command<'a>) -> Result<Command<'a>, Al
     command.arg(paths)
 }
 
-/// The program, whose arguments are those of a survey, with its commands.
-pub fn program<'a>(alloc: Global) -> Result<Command<'a>, AllocError> {
-    let empty = Command::new(alloc, NAME)
+// The program, without arguments and commands.
+fn empty_program<'a>(alloc: Global) -> Result<Command<'a>, AllocError> {
+    Command::new(alloc, NAME)
         .version(VERSION)
         .about(ABOUT)
         .after_help(AFTER)
         .args_conflicts_with_subcommands(true)
-        .bin_name(NAME)?;
-    let log = look(alloc, "log", LOG_ABOUT)?
-        .arg(option(alloc, SLOT))?
-        .arg(option(alloc, STATES))?
-        .arg(flag(alloc, "html", HTML))?;
-    let graph = flag(
-        alloc,
-        "dot",
-        "Prints the basic blocks as a graph for dot -Tsvg",
-    );
-    let dis = look(alloc, "dis", DIS_ABOUT)?.arg(graph)?;
-    let with_paths = with_paths(alloc, empty)?;
+        .bin_name(NAME)
+}
+
+// The command that prints a search.
+fn log<'a>(alloc: Global) -> Result<Command<'a>, AllocError> {
+    let command = look(alloc, "log", LOG_ABOUT)?;
+    let command = command.arg(option(alloc, SLOT))?;
+    let command = command.arg(option(alloc, STATES))?;
+    command.arg(flag(alloc, "html", HTML))
+}
+
+// The command that prints an image.
+fn dis<'a>(alloc: Global) -> Result<Command<'a>, AllocError> {
+    let graph = "Prints the basic blocks as a graph for dot -Tsvg";
+    look(alloc, "dis", DIS_ABOUT)?.arg(flag(alloc, "dot", graph))
+}
+
+// The commands on one image.
+fn with_looks<'a>(alloc: Global, command: Command<'a>) -> Result<Command<'a>, AllocError> {
+    let log = log(alloc)?;
+    let command = command.subcommand(log)?;
+    command.subcommand(dis(alloc)?)
+}
+
+// The commands that run an image on a frame stream.
+fn with_runs<'a>(alloc: Global, command: Command<'a>) -> Result<Command<'a>, AllocError> {
+    let hits = hits(alloc)?;
+    let command = command.subcommand(hits)?;
+    command.subcommand(steps(alloc)?)
+}
+
+/// The program, whose arguments are those of a survey, with its commands.
+pub fn program<'a>(alloc: Global) -> Result<Command<'a>, AllocError> {
+    let with_paths = with_paths(alloc, empty_program(alloc)?)?;
     let surveying = with_options(alloc, with_paths)?;
-    let looking = surveying.subcommand(log)?.subcommand(dis)?;
-    looking.subcommand(hits(alloc)?)?.subcommand(steps(alloc)?)
+    with_runs(alloc, with_looks(alloc, surveying)?)
 }
