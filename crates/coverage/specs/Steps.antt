@@ -7,8 +7,6 @@ use Rattle.isa_model.specs.declared.instructions.Place.{Place}
 use Rattle.isa_model.specs.declared.values.Cell.{Cell}
 use Rattle.isa_model.specs.declared.values.Value.{Value}
 use Rattle.isa_model.specs.declared.values.Value.TheVariants.{Ptr}
-use Rattle.isa_model.specs.declared.ends.End.{End}
-use Rattle.isa_model.specs.declared.ends.End.TheVariants.{Limit}
 use Rattle.isa_model.specs.declared.ends.TrapReason.{TrapReason}
 use Rattle.isa_model.specs.declared.versions.Version.{Version}
 use Rattle.isa_model.specs.Code.Instructions.{Program}
@@ -106,17 +104,6 @@ ShowsFrame p limit contents f stream (answers.Ran steps) =
 ShowsFrame p limit contents f stream (answers.Skipped len reason) =
     (f.reason ≢ 0) × (reason ≡ f.reason) × (len ≡ length f.body)
 ShowsFrame p limit contents f stream (answers.Missing count finish) = ⊥
-
--- what the registers hold where a step begins, or after the last one: where that one ended the run
--- it changed nothing
-abbrev pub registers_by : Option StepTaken → End → List Value → Option (List Value)
-registers_by (Some step) end last = Some step.registers
-registers_by None Limit last = Some last
-registers_by None end last = None
-
-abbrev pub registers_at : FrameSteps → ℕ → Option (List Value)
-registers_at shown index =
-    registers_by (slice_get shown.steps.items index) shown.stop.end shown.stop.registers
 
 -- the source begins with the frames before the one of this number, and with it; those before it
 -- were run, each on what the one before left

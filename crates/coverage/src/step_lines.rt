@@ -1,7 +1,7 @@
 //! The steps of a frame's run, as text for people and as JSON.
 
-ghost use Rattle.std.specs.Prelude.{◌≡◌, option_map};
-ghost use Rattle.coverage.specs.Steps.{registers_at};
+ghost use Rattle.std.specs.Prelude.{◌≡◌, ◌≢◌, IfSome, None, Some, option_map, slice_get};
+ghost use Rattle.isa_model.specs.declared.ends.End.TheVariants.{Limit};
 
 use crate::jsons::quoted;
 use crate::reads::{Held, read_by};
@@ -38,7 +38,12 @@ struct StepShown {
 /// What the registers hold before the step of an index, or after the last one; `None` where that
 /// one ended the run, and changed nothing.
 fn registers_at<'a>(shown: &'a FrameSteps, index: usize) -> Option<&'a [Value; 11]>
-    ensures { option_map (λ registers. registers.now) result ≡ registers_at shown.now index }
+    ensures step { IfSome (slice_get shown.now.steps.items index)
+        (λ step. option_map (λ registers. registers.now) result ≡ Some step.registers) }
+    ensures limit { slice_get shown.now.steps.items index ≡ None → shown.now.stop.end ≡ Limit
+        → option_map (λ registers. registers.now) result ≡ Some shown.now.stop.registers }
+    ensures ended { slice_get shown.now.steps.items index ≡ None → shown.now.stop.end ≢ Limit
+        → result ≡ None }
 {
     match shown.steps.get(index) {
         Some(step) => Some(&step.registers),

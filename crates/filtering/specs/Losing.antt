@@ -5,7 +5,6 @@ use Rattle.std.specs.declared.alloc.Global.{Global}
 use Rattle.std.specs.String.{string_bytes}
 use Rattle.commands.specs.declared.outcomes.TaskOutcome.{TaskOutcome}
 use Rattle.commands.specs.declared.endings.Ending.{Ending}
-use Rattle.filtering.specs.declared.losing.Loss.{Loss}
 use Rattle.filtering.specs.declared.losing.Lost.{Lost}
 use Rattle.filtering.specs.declared.losing.Lost.TheVariants.{Nothing, Capture, Stream}
 use Rattle.filtering.specs.declared.losing.Unsaid.{Unsaid}
