@@ -182,8 +182,8 @@ pub fn maps_begun<R: Files, W1: Write, W2: Write>(
     }
 }
 
-/// What a run on a frame stream begins with: the image and once more for its verdict, its bytes, the
-/// maps before the first frame, and the stream.
+/// What a run on a frame stream begins with: the bytes of the image, the image, the same once more
+/// for its verdict, the maps before the first frame, and the stream.
 #[derive(Drop)]
 pub struct Begun<S> {
     pub bytes: Vec<u8>,
