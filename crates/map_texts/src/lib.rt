@@ -15,6 +15,3 @@ mod longest;
 pub use errors::{MapTextError, MapTextErrorKind};
 pub use filling::{fill_maps, fill_maps_by};
 pub use listings::write_maps;
-
-#[cfg(test)]
-mod tests;

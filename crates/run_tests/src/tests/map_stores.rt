@@ -1,4 +1,5 @@
-//! Map stores: their answers to updates, deletes and look-ups.
+//! Map stores: their answers to updates, deletes and look-ups, and texts that fill them.
 
 mod answers;
 mod stores;
+mod texts;

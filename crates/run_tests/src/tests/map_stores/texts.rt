@@ -1,7 +1,8 @@
 //! Texts that fill maps, and texts that are refused.
 
-use super::{fill_maps, write_maps};
+use crate::tests::rows::holds_at;
 use isa_model::{MapDef, MapType};
+use map_texts::{fill_maps, write_maps};
 use maps::Maps;
 use std::alloc::Global;
 use std::io;
@@ -115,6 +116,13 @@ const TEXTS: &[(&'static str, &str, usize, usize, &str)] = &[
     ("map 1 03000000 00\n", "M4", 1, 16, ""),
     ("map 1 03000000 00000\n", "M6", 1, 20, ""),
     ("\nmap 1 03000000 0000000\n", "M6", 2, 20, ""),
+    (
+        "map 0 0a0b 01\nmap 0 0a0c 01",
+        "M7",
+        2,
+        1,
+        "map 0 0a0b 01\n",
+    ),
 ];
 
 // Whether a text that is read `chunk` bytes at a time does what its row says.
@@ -149,10 +157,9 @@ fn are_listed(lines: &[u8], written: &[u8]) -> bool {
 #[test]
 fn texts(rt: HostRuntime) -> Result<(), Fail> {
     for (i, row) in TEXTS.iter().enumerate() {
-        let so = is_so(rt.alloc(), row, 1)
-            && is_so(rt.alloc(), row, 7)
-            && is_so(rt.alloc(), row, 5000);
-        assert!(rt; so, "row {i}");
+        for chunk in [1, 7, 5000] {
+            holds_at(&rt, is_so(rt.alloc(), row, chunk), i, chunk);
+        }
     }
     Ok(())
 }
