@@ -1,6 +1,7 @@
 //! The call that verifies an image.
 
-ghost use Rattle.std.specs.Prelude.{◌≡◌, ◌≢◌, ◌<◌, ◌↔◌, ◌⊎◌, [], Err, IfOk, length};
+ghost use Rattle.std.specs.Prelude.{◌≡◌, ◌≢◌, ◌<◌, ◌↔◌, ◌⊎◌, [], false, None, Err, IfOk, IfSome, length};
+ghost use Rattle.std.specs.String.{string_bytes};
 ghost use Rattle.isa_model.specs.Code.Limits.{max_explored};
 ghost use Rattle.image.specs.Images.{image_bytes};
 ghost use Rattle.bounds.specs.Bounds.{IsVerified};
@@ -9,6 +10,7 @@ ghost use Rattle.walks.specs.Refused.{IsRefused};
 ghost use Rattle.walks.specs.Accepting.{BoundsAll};
 ghost use Rattle.walks.specs.Counts.{HasNumber};
 ghost use Rattle.messages.specs.Lines.{is_memory};
+ghost use Rattle.messages.specs.Reasons.{IsReason};
 ghost use Rattle.messages.specs.Texts.{program_front};
 ghost use Rattle.calls.specs.Crossing.{IsDecision};
 ghost use Rattle.calls.specs.Verdicts.{ReturnsBound, only_bound, IsRefusedImage, FillsImageRefusal, FillsProgramRefusal, IsUndecided};
@@ -21,8 +23,8 @@ use control_flow::FlowError;
 use explorer::{Refusal, Verified, verify};
 use image::{Image, ImageError};
 use isa_model::MAX_EXPLORED;
-use listeners::{NoBound, Rejected, verify_within};
-use messages::{image_text, program_text};
+use listeners::{NoBound, Rejected, SearchPath, explain, verify_within};
+use messages::{image_text, program_text, reason};
 use std::alloc::Global;
 
 /// The verdict on an image: the most steps of a run if it is accepted, and otherwise the slot at
@@ -71,6 +73,28 @@ pub fn verified_of(alloc: Global, image: &[u8]) -> Result<Verified, NotAccepted>
     }
 }
 
+// What is known where a program is refused, if that is asked for: by the path of the search that
+// refused it, or by a second search.
+fn known_of(
+    alloc: Global,
+    image: &Image,
+    refusal: Refusal,
+    slot: usize,
+    path: Option<SearchPath>,
+    asked: bool,
+) -> Option<String>
+    requires refused { IfSome path (λ _. IsRefused image.now refusal slot) }
+    ensures known { IfSome result (λ text. IsReason image.now refusal slot (string_bytes text)) }
+    ensures unasked { asked ≡ false → result ≡ None }
+{
+    if asked {
+        let found = explain(alloc, image, refusal, slot, path);
+        reason(alloc, image, refusal, slot, found)
+    } else {
+        None
+    }
+}
+
 // Writes why a program is refused.
 fn write_refusal(
     alloc: Global,
@@ -96,7 +120,8 @@ fn write_refusal(
     if is_memory(refusal) {
         return MEMORY;
     }
-    let Some(text) = program_text(alloc, program, refusal, slot, path, !why.is_empty()) else {
+    let known = known_of(alloc, program, refusal, slot, path, !why.is_empty());
+    let Some(text) = program_text(alloc, program, refusal, slot, known) else {
         return MEMORY;
     };
     *out = Verdict {

@@ -22,7 +22,7 @@ use control_flow::FlowError;
 use exact_io::write_bytes;
 use image::Image;
 use isa_model::Insn;
-use listeners::{Rejected, SearchPath};
+use listeners::{Rejected, SearchPath, explain};
 use messages::{Rejection, STANDARD_OUTPUT, reason, verdict_line};
 use std::alloc::{AllocError, Global};
 use std::io::Write;
@@ -132,7 +132,8 @@ fn program_ending<'a>(
 {
     let why = match outcome {
         TaskOutcome::Refused(Rejection::Program(refusal, slot, _)) => {
-            reason(alloc, image, refusal, slot, path)
+            let found = explain(alloc, image, refusal, slot, path);
+            reason(alloc, image, refusal, slot, found)
         }
         _ => None,
     };

@@ -214,6 +214,39 @@ pub fn told_form<S>(frames: &FramesOf<S>, form: FileForm) -> FileForm
     }
 }
 
+// The outputs of a run, made.
+#[derive(Drop)]
+struct Outputs<'a, W: Write + Drop> {
+    sent: PromptWriter<W>,
+    report: Option<Named<'a, W>>,
+    maps_out: Option<Named<'a, W>>,
+}
+
+// Makes the outputs: the frames out, the report, and what the maps hold at the end.
+fn make_outputs<'a, R: Files>(
+    rt: &R,
+    alloc: Global,
+    task: &FilterTask<'a>,
+    read: &[&str],
+) -> Result<Outputs<'a, Replaced<R::File>>, TaskOutcome<'a>>
+    ensures report { IfOk result (λ made. option_map (λ o. o.path.now) made.report
+        ≡ option_map (λ p. p.now) task.now.report) }
+    ensures maps_out { IfOk result (λ made. option_map (λ o. o.path.now) made.maps_out
+        ≡ option_map (λ p. p.now) task.now.maps_out) }
+    ensures failed { IfErr result (IsOutputConflict (filter_request_of task.now)) }
+{
+    let out = task.paths.out;
+    let sent = open_sent(rt, alloc, out, false, read)?;
+    let report = open_wanted(rt, alloc, task.report, false, read, &[out])?;
+    let written = [out, task.report.unwrap_or(out)];
+    let maps_out = open_wanted(rt, alloc, task.maps_out, true, read, &written)?;
+    Ok(Outputs {
+        sent,
+        report,
+        maps_out,
+    })
+}
+
 /// Opens the frames, and then makes the outputs: the frames out, the report, and what the maps hold
 /// at the end. At the end the first bytes of the frames are read ahead, of a capture its head.
 pub fn open_all<'a, 'b, R: Files + Clock>(
@@ -236,20 +269,16 @@ pub fn open_all<'a, 'b, R: Files + Clock>(
     let frames = frames_path(task.paths.frames);
     let source = open_frames(rt, alloc, frames)?;
     keep_all_apart(rt, &task, &read)?;
-    let out = task.paths.out;
-    let sent = open_sent(rt, alloc, out, false, &read)?;
-    let report = open_wanted(rt, alloc, task.report, false, &read, &[out])?;
-    let written = [out, task.report.unwrap_or(out)];
-    let maps_out = open_wanted(rt, alloc, task.maps_out, true, &read, &written)?;
+    let outputs = make_outputs(rt, alloc, &task, &read)?;
     let (source, form) = begin_frames(rt, frames, source);
     let source = frames_of(alloc, source, form, Reasons::Ignored, frames)?;
     let form = told_form(&source, form);
     Ok(Opened {
         source,
         form,
-        sent,
-        kind: kind_of_out(out, form),
-        report,
-        maps_out,
+        sent: outputs.sent,
+        kind: kind_of_out(task.paths.out, form),
+        report: outputs.report,
+        maps_out: outputs.maps_out,
     })
 }

@@ -1,18 +1,15 @@
 //! The messages about refused images, program texts and programs, each as a whole.
 
-ghost use Rattle.std.specs.Prelude.{◌≡◌, ◌++◌, false, None, IfSome};
+ghost use Rattle.std.specs.Prelude.{◌≡◌, ◌++◌, None, IfSome};
 ghost use Rattle.std.specs.String.{string_bytes};
-ghost use Rattle.walks.specs.Refused.{IsRefused};
 ghost use Rattle.messages.specs.Messages.{rejection_text};
 ghost use Rattle.messages.specs.Reasons.{IsReason};
 ghost use Rattle.messages.specs.Texts.{image_text, source_text, program_front, IsProgramText};
 
 use crate::lines::{image_line, text_line, verdict_line};
-use crate::reasons::reason;
 use crate::rejections::Rejection;
 use assembler::AsmError;
 use image::{Image, ImageError};
-use listeners::SearchPath;
 use std::alloc::Global;
 use walks::Refusal;
 
@@ -60,43 +57,21 @@ pub fn program_front(alloc: Global, image: &Image, refusal: Refusal, slot: usize
     }
 }
 
-// What is known at the instruction, if that is asked for.
-fn known_of(
-    alloc: Global,
-    image: &Image,
-    refusal: Refusal,
-    slot: usize,
-    path: Option<SearchPath>,
-    asked: bool,
-) -> Option<String>
-    requires refused { IfSome path (λ _. IsRefused image.now refusal slot) }
-    ensures known { IfSome result (λ text. IsReason image.now refusal slot (string_bytes text)) }
-    ensures unasked { asked ≡ false → result ≡ None }
-{
-    if asked {
-        reason(alloc, image, refusal, slot, path)
-    } else {
-        None
-    }
-}
-
-/// The message why a program is refused, at which slot and instruction, and if asked for, what is
-/// known there: by the path of the search that refused it, or by a second search. None: memory ran
-/// out.
+/// The message why a program is refused, at which slot and instruction, and what is known there
+/// (`reason`), if that is given. None: memory ran out.
 pub fn program_text(
     alloc: Global,
     image: &Image,
     refusal: Refusal,
     slot: usize,
-    path: Option<SearchPath>,
-    asked: bool,
+    known: Option<String>,
 ) -> Option<Vec<u8>>
-    requires refused { IfSome path (λ _. IsRefused image.now refusal slot) }
+    requires known { IfSome known
+        (λ text. IsReason image.now refusal slot (string_bytes text)) }
     ensures text { IfSome result (λ text. IsProgramText image.now refusal slot text.items) }
-    ensures unasked { asked ≡ false → IfSome result
+    ensures unknown { known ≡ None → IfSome result
         (λ text. text.items ≡ program_front image.now refusal slot) }
 {
-    let known = known_of(alloc, image, refusal, slot, path, asked);
     let mut text = program_front(alloc, image, refusal, slot)?;
     let Some(known) = known else {
         return Some(text);

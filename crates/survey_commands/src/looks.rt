@@ -8,6 +8,7 @@ use control_flow::FlowError;
 use exact_io::write_bytes;
 use explorer::Refusal;
 use image::{Image, ImageError};
+use listeners::explain;
 use messages::{Rejection, file_form_of, image_line, reason, verdict_line};
 use std::alloc::{AllocError, Global};
 use std::io;
@@ -73,7 +74,8 @@ pub fn tell<W: Write>(
 ) -> io::Result<()> {
     let rejection = Rejection::Program(refusal, slot, image.at(slot).copied());
     rejection.say(err)?;
-    if let Some(known) = reason(alloc, image, refusal, slot, None) {
+    let found = explain(alloc, image, refusal, slot, None);
+    if let Some(known) = reason(alloc, image, refusal, slot, found) {
         write_bytes(err, known.as_bytes())?;
     }
     rejection.say_code(err)

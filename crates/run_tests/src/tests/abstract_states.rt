@@ -12,7 +12,6 @@ mod narrower;
 mod numbers;
 mod operations;
 mod pointers;
-mod rows;
 mod samples;
 mod scalars;
 mod splices;

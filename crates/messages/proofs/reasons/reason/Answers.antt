@@ -13,8 +13,8 @@ returns-in-Flow c =
 pub returns : goal.returns
 returns c =
     rw c.ok-2.ensures.value
-    (of_state c.args.image.now c.args.refusal c.args.slot c.in_ok-found.found.value
-    c.in_ok-insn.insn.now c.lines_of.result c.in_ok-found.ensures.explains
+    (of_state c.args.image.now c.args.refusal c.args.slot c.in-Some.found.value
+    c.in_ok-insn.insn.now c.lines_of.result (rw c.in-Some.is at c.requires.found)
     (sym c.in_ok-insn.ensures)
     (subst
     (λ (x : Explanation). IfOk c.lines_of.result (λ text. string_bytes text

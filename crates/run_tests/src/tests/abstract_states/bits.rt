@@ -1,10 +1,11 @@
 //! How sharp known bits are, on examples worked out by hand that are like what programs compute.
 
 use super::operations::{Relation, Unary};
-use super::rows::{Holds, hold_all};
+use crate::tests::rows::{Holds, hold_all};
 use isa_model::{AluOp, ByteOrder, Extension, SwapWidth, Width};
 use known_bits::Bits;
 use reg_state::Domain;
+use std::alloc::Global;
 
 const FULL: Width = Width::Full64;
 
@@ -67,7 +68,7 @@ const RESULTS: &[Operation] = &[
 ];
 
 impl Holds for Operation {
-    fn holds(&self) -> bool {
+    fn holds(&self, _: Global) -> bool {
         let (op, width, a, b, wanted) = self;
         pair_of(alu(*op, *width, bits_of(*a), bits_of(*b))) == *wanted
     }
@@ -115,7 +116,7 @@ fn unary_of(operation: &Unary, a: Bits) -> Bits {
 }
 
 impl Holds for UnaryOperation {
-    fn holds(&self) -> bool {
+    fn holds(&self, _: Global) -> bool {
         let (operation, a, wanted) = self;
         pair_of(unary_of(operation, bits_of(*a))) == *wanted
     }
@@ -145,7 +146,7 @@ fn limits_of(pair: Pair) -> Limits {
 }
 
 impl Holds for Limited {
-    fn holds(&self) -> bool {
+    fn holds(&self, _: Global) -> bool {
         let (pair, wanted) = self;
         limits_of(*pair) == *wanted
     }
@@ -172,7 +173,7 @@ fn common_pair(a: Pair, b: Pair) -> Option<Pair> {
 }
 
 impl Holds for Common {
-    fn holds(&self) -> bool {
+    fn holds(&self, _: Global) -> bool {
         let (a, b, wanted, is_covered) = self;
         common_pair(*a, *b) == *wanted && Domain::covers(bits_of(*a), bits_of(*b)) == *is_covered
     }
@@ -190,7 +191,7 @@ const BETWEEN: &[Between] = &[
 ];
 
 impl Holds for Between {
-    fn holds(&self) -> bool {
+    fn holds(&self, _: Global) -> bool {
         let (least, greatest, wanted) = self;
         *least <= *greatest && pair_of(Bits::between(*least, *greatest)) == *wanted
     }
@@ -274,7 +275,7 @@ fn related(relation: &Relation, width: Width, a: Bits, b: Bits) -> Option<(Bits,
 }
 
 impl Holds for Related {
-    fn holds(&self) -> bool {
+    fn holds(&self, _: Global) -> bool {
         let (relation, width, a, b, wanted) = self;
         match related(relation, *width, bits_of(*a), bits_of(*b)) {
             Some((a, b)) => *wanted == Some((pair_of(a), pair_of(b))),

@@ -1,10 +1,11 @@
 //! How sharp the sets are that a conditional jump leaves.
 
-use super::rows::{Holds, hold_all};
+use crate::tests::rows::{Holds, hold_all};
 use branch_refine::{Branch, refine};
 use isa_model::{Comparison, Cond, Operand, Reg, Width};
 use reg_state::{Domain, Kind, Scalar};
 use stack_state::State;
+use std::alloc::Global;
 
 const FULL: Width = Width::Full64;
 
@@ -96,7 +97,7 @@ fn narrowed(cond: Cond, taken: bool, before: &(Limits, Limits)) -> Option<(Limit
 }
 
 impl Holds for Row {
-    fn holds(&self) -> bool {
+    fn holds(&self, _: Global) -> bool {
         let (comparison, width, operand, taken, before, wanted) = self;
         let cond = Cond {
             width: *width,

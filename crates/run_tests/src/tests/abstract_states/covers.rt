@@ -1,14 +1,15 @@
 //! Which states cover which, on examples.
 
-use super::rows::{Holds, hold_all};
 use super::samples::{Held, Put, Sample, state_of};
+use crate::tests::rows::{Holds, hold_all};
 use state_cover::covers;
+use std::alloc::Global;
 
 /// Two states, and whether the first covers the second.
 type Row = (Sample, Sample, bool);
 
 impl Holds for Row {
-    fn holds(&self) -> bool {
+    fn holds(&self, _: Global) -> bool {
         let (a, b, wanted) = self;
         covers(&state_of(a), &state_of(b)) == *wanted
     }

@@ -1,8 +1,9 @@
 //! Which kinds cover which, on examples.
 
-use super::rows::{Holds, hold_all};
+use crate::tests::rows::{Holds, hold_all};
 use isa_model::Width;
 use reg_state::{Domain, Kind, Scalar};
+use std::alloc::Global;
 
 const OWN: u32 = 7;
 
@@ -61,7 +62,7 @@ const COVERED: &[Covered] = &[
 ];
 
 impl Holds for Covered {
-    fn holds(&self) -> bool {
+    fn holds(&self, _: Global) -> bool {
         let (a, b, identity, wanted) = self;
         kind_of(a).covers(kind_of(b), *identity) == *wanted
     }
@@ -76,7 +77,7 @@ const IDENTITIES: &[Identified] = &[
 ];
 
 impl Holds for Identified {
-    fn holds(&self) -> bool {
+    fn holds(&self, _: Global) -> bool {
         let (held, null, packet) = self;
         let kind = kind_of(held);
         kind.null_identity() == *null && kind.packet_identity() == *packet

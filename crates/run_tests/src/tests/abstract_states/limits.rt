@@ -1,10 +1,11 @@
 //! How tight limits are, on examples worked out by hand that are like what programs compute.
 
 use super::operations::{Relation, Unary};
-use super::rows::{Holds, hold_all};
+use crate::tests::rows::{Holds, hold_all};
 use isa_model::{AluOp, ByteOrder, Extension, SwapWidth, Width};
 use ranges::{Low, Range};
 use reg_state::Domain;
+use std::alloc::Global;
 
 const FULL: Width = Width::Full64;
 
@@ -91,7 +92,7 @@ fn limits_of(range: Range) -> Limits {
 }
 
 impl Holds for Limited {
-    fn holds(&self) -> bool {
+    fn holds(&self, _: Global) -> bool {
         let (set, wanted) = self;
         limits_of(range_of(*set)) == *wanted
     }
@@ -188,7 +189,7 @@ const RESULTS: &[Operation] = &[
 ];
 
 impl Holds for Operation {
-    fn holds(&self) -> bool {
+    fn holds(&self, _: Global) -> bool {
         let (op, width, a, b, wanted) = self;
         Range::alu(*op, *width, range_of(*a), range_of(*b)) == range_of(*wanted)
     }
@@ -245,7 +246,7 @@ fn unary_of(operation: &Unary, a: Range) -> Range {
 }
 
 impl Holds for UnaryOperation {
-    fn holds(&self) -> bool {
+    fn holds(&self, _: Global) -> bool {
         let (operation, a, wanted) = self;
         unary_of(operation, range_of(*a)) == range_of(*wanted)
     }
@@ -283,7 +284,7 @@ fn range_if(set: Option<Set>) -> Option<Range> {
 }
 
 impl Holds for Common {
-    fn holds(&self) -> bool {
+    fn holds(&self, _: Global) -> bool {
         let (a, b, wanted, is_covered) = self;
         let (a, b) = (range_of(*a), range_of(*b));
         Domain::meet(a, b) == range_if(*wanted) && Domain::covers(a, b) == *is_covered
@@ -351,7 +352,7 @@ fn related(relation: &Relation, a: Range, b: Range) -> Option<(Range, Range)> {
 }
 
 impl Holds for Related {
-    fn holds(&self) -> bool {
+    fn holds(&self, _: Global) -> bool {
         let (relation, a, b, wanted) = self;
         related(relation, range_of(*a), range_of(*b)) == ranges_if(*wanted)
     }

@@ -3,9 +3,10 @@
 
 use super::changes::{Change, Look, Row, Set, refined, set_of};
 use super::operations::Unary;
-use super::rows::{Holds, hold_all};
+use crate::tests::rows::{Holds, hold_all};
 use isa_model::{AluOp, ByteOrder, Comparison, Extension, SwapWidth, Width};
 use reg_state::Scalar;
+use std::alloc::Global;
 
 const FULL: Width = Width::Full64;
 
@@ -77,7 +78,7 @@ fn leaves(comparison: Comparison, taken: bool, wanted: Limits) -> bool {
 }
 
 impl Holds for Compared {
-    fn holds(&self) -> bool {
+    fn holds(&self, _: Global) -> bool {
         let (comparison, yes, no) = self;
         leaves(*comparison, true, *yes) && leaves(*comparison, false, *no)
     }
@@ -195,7 +196,7 @@ fn goes(comparison: Comparison, taken: bool, number: u64) -> bool {
 }
 
 impl Holds for Never {
-    fn holds(&self) -> bool {
+    fn holds(&self, _: Global) -> bool {
         let (comparison, never, number) = self;
         !goes(*comparison, *never, *number) && goes(*comparison, !*never, *number)
     }

@@ -1,10 +1,11 @@
 //! How much narrower results become: reversed bytes, parts of numbers, and signed quotients and
 //! remainders, worked out by hand at the ends, and from all members of small sets.
 
-use super::rows::{Holds, hold_all};
+use crate::tests::rows::{Holds, hold_all};
 use isa_model::{AluOp, ByteOrder, SwapWidth, Width, numbers};
 use ranges::Range;
 use reg_state::{Domain, Scalar};
+use std::alloc::Global;
 
 const FULL: Width = Width::Full64;
 
@@ -98,7 +99,7 @@ fn bits_of_set(operation: Operation, value: u64, mask: u64) -> (u64, u64) {
 
 impl Holds for Operation {
     /// Returns whether as many bits are known as in the results of all members together.
-    fn holds(&self) -> bool {
+    fn holds(&self, _: Global) -> bool {
         for (value, mask) in BITS {
             let wanted = bits_of_results(*self, *value, *mask);
             if bits_of_set(*self, *value, *mask) != wanted {
@@ -132,7 +133,7 @@ fn between(limits: (u64, u64)) -> Scalar {
 }
 
 impl Holds for Part {
-    fn holds(&self) -> bool {
+    fn holds(&self, _: Global) -> bool {
         let (limits, (from, count), wanted) = self;
         let part = of_set(Operation::Part(*from, *count), between(*limits));
         let wide = part.range.wide;
@@ -203,7 +204,7 @@ fn divided(op: AluOp, width: Width, limits: (i64, i64), by: i64) -> (i64, i64) {
 }
 
 impl Holds for Divided {
-    fn holds(&self) -> bool {
+    fn holds(&self, _: Global) -> bool {
         let (widths, least, greatest, by, quotients, remainders) = self;
         let limits = (*least, *greatest);
         for width in *widths {
@@ -263,7 +264,7 @@ fn has_limits_of_unsigned(op: AluOp, width: Width, wanted: (u64, u64)) -> bool {
 }
 
 impl Holds for Signed {
-    fn holds(&self) -> bool {
+    fn holds(&self, _: Global) -> bool {
         let (op, width, wanted) = self;
         loses_none(*op, *width) && has_limits_of_unsigned(*op, *width, *wanted)
     }

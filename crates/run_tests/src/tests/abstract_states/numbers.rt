@@ -2,9 +2,10 @@
 //! 4.1 to 4.3.
 
 use super::operations::Unary;
-use super::rows::{Holds, hold_all};
+use crate::tests::rows::{Holds, hold_all};
 use isa_model::numbers::{compare, compute, negate, reorder, sign_extend};
 use isa_model::{AluOp, ByteOrder, Comparison, Extension, SwapWidth, Width};
+use std::alloc::Global;
 
 const MINUS_ONE: u64 = 0xffff_ffff_ffff_ffff;
 
@@ -199,14 +200,14 @@ const UNARY_OPERATIONS: &[UnaryComputed] = &[
 ];
 
 impl Holds for Computed {
-    fn holds(&self) -> bool {
+    fn holds(&self, _: Global) -> bool {
         let (op, a, b, full, low) = self;
         compute(*op, Width::Full64, *a, *b) == *full && compute(*op, Width::Low32, *a, *b) == *low
     }
 }
 
 impl Holds for Compared {
-    fn holds(&self) -> bool {
+    fn holds(&self, _: Global) -> bool {
         let (comparison, a, b, full, low) = self;
         compare(*comparison, Width::Full64, *a, *b) == *full
             && compare(*comparison, Width::Low32, *a, *b) == *low
@@ -214,7 +215,7 @@ impl Holds for Compared {
 }
 
 impl Holds for UnaryComputed {
-    fn holds(&self) -> bool {
+    fn holds(&self, _: Global) -> bool {
         let (operation, a, wanted) = self;
         let found = match operation {
             Unary::Negate(width) => negate(*width, *a),

@@ -1,11 +1,12 @@
 //! What packet tests and null tests show, at every copy of an identity.
 
-use super::rows::{Holds, hold_all};
+use crate::tests::rows::{Holds, hold_all};
 use arrayvec::ArrayVec;
 use branch_refine::{Branch, Compared, compared_by, refine};
 use isa_model::{Comparison, Cond, Operand, Reg, Width};
 use reg_state::{Domain, Kind, Scalar};
 use stack_state::{AbstractFrame, StackSlot, State};
+use std::alloc::Global;
 
 const FULL: Width = Width::Full64;
 
@@ -173,7 +174,7 @@ fn proved(bytes: u32) -> [Kind; 4] {
 }
 
 impl Holds for Proved {
-    fn holds(&self) -> bool {
+    fn holds(&self, _: Global) -> bool {
         let (test, bytes) = self;
         packet_test(*test, 14, &UNPROVED) == Some(proved(*bytes))
     }
@@ -233,7 +234,7 @@ const COPIES: &[PacketTest] = &[
 ];
 
 impl Holds for PacketTest {
-    fn holds(&self) -> bool {
+    fn holds(&self, _: Global) -> bool {
         let (test, fixed, before, after) = self;
         packet_test(*test, *fixed, before) == Some(kinds_of(after))
     }
@@ -327,7 +328,7 @@ fn kinds_if(held: &Option<Copies>) -> Option<[Kind; 4]> {
 }
 
 impl Holds for NullTest {
-    fn holds(&self) -> bool {
+    fn holds(&self, _: Global) -> bool {
         let (tested, copies, comparison, taken, after) = self;
         let state = in_call(kind_of(tested), Kind::Unset, kinds_of(copies));
         let cond = condition(*comparison, FULL, Reg::R2, ZERO);
@@ -372,7 +373,7 @@ const UNDEFINED: &[Undefined] = &[
 /// Says whether a comparison is not defined if r2 and r3 hold this, and all copies stay if it holds
 /// and if it does not.
 impl Holds for Undefined {
-    fn holds(&self) -> bool {
+    fn holds(&self, _: Global) -> bool {
         let (comparison, width, operand, left, right) = self;
         let cond = condition(*comparison, *width, Reg::R2, *operand);
         let (left, right) = (kind_of(left), kind_of(right));

@@ -2,9 +2,10 @@
 
 use super::changes::{Change, Look, Row, Set, refined, set_of};
 use super::operations::Unary;
-use super::rows::{Holds, hold_all};
+use crate::tests::rows::{Holds, hold_all};
 use isa_model::{AluOp, ByteOrder, Comparison, Extension, SwapWidth, Width};
 use reg_state::{Domain, Scalar};
+use std::alloc::Global;
 
 const FULL: Width = Width::Full64;
 
@@ -138,7 +139,7 @@ const SINGLE: &[Single] = &[
 ];
 
 impl Holds for Single {
-    fn holds(&self) -> bool {
+    fn holds(&self, _: Global) -> bool {
         let (set, number, greatest) = self;
         let set = set_of(set);
         set.number() == *number && set.greatest() == *greatest
@@ -189,7 +190,7 @@ const COMPARISONS: &[Compared] = &[
 ];
 
 impl Holds for Compared {
-    fn holds(&self) -> bool {
+    fn holds(&self, _: Global) -> bool {
         let (comparison, number, goes, stays) = self;
         left_of_byte(*comparison, true, *number) == *goes
             && left_of_byte(*comparison, false, *number) == *stays
@@ -231,7 +232,7 @@ fn between(limits: Limits) -> Scalar {
 }
 
 impl Holds for Narrowing {
-    fn holds(&self) -> bool {
+    fn holds(&self, _: Global) -> bool {
         let (comparison, taken, limits, number, wanted) = self;
         match refined(*comparison, FULL, *taken, between(*limits), *number) {
             Some(left) => match wanted {

@@ -1,10 +1,11 @@
 //! Numbers some of whose bits were overwritten: worked out by hand at the ends, and from all
 //! members of small sets.
 
-use super::rows::{Holds, hold_all};
+use crate::tests::rows::{Holds, hold_all};
 use isa_model::Width;
 use known_bits::spliced;
 use reg_state::{Domain, Scalar};
+use std::alloc::Global;
 
 /// The least and the greatest number.
 type Limits = (u64, u64);
@@ -55,7 +56,7 @@ fn written(old: Scalar, (from, count): Part, new: Scalar) -> Scalar {
 }
 
 impl Holds for Written {
-    fn holds(&self) -> bool {
+    fn holds(&self, _: Global) -> bool {
         let (old, part, new, wanted) = self;
         let wide = written(between(*old), *part, between(*new)).range.wide;
         wide.least == wanted.0 && wide.greatest == wanted.1
@@ -94,7 +95,7 @@ const GREATEST: &[u64] = &[12, 15, 17];
 
 impl Holds for Part {
     /// For some small sets, whether the new numbers fit into the part or not, no number is lost.
-    fn holds(&self) -> bool {
+    fn holds(&self, _: Global) -> bool {
         for least in 0..12 {
             for greatest in GREATEST {
                 if !contains_all((least, *greatest), *self, (12 - least, *greatest)) {

@@ -1,9 +1,10 @@
 //! What is known of the bytes of a call frame, on frames written by hand.
 
-use super::rows::{Holds, hold_all};
+use crate::tests::rows::{Holds, hold_all};
 use isa_model::{Size, Width};
 use reg_state::{Domain, Kind, Scalar};
 use stack_state::{StackSlot, StackState};
+use std::alloc::Global;
 
 /// A set of numbers.
 enum Numbers {
@@ -127,7 +128,7 @@ fn is_shown(stack: &StackState, look: &Look) -> bool {
 type Row = (&'static [Act], &'static [Look]);
 
 impl Holds for Row {
-    fn holds(&self) -> bool {
+    fn holds(&self, _: Global) -> bool {
         let (acts, looks) = self;
         let stack = after(*acts);
         for look in *looks {

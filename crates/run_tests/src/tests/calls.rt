@@ -1,9 +1,8 @@
-//! The tests, by the crate whose calls they make, and what they share.
+//! The calls from C and Rust, on a few small images and with arguments that are not allowed.
 
 mod buffers;
 mod descriptions;
 mod images;
-mod rows;
 mod runs;
 mod sessions;
 mod tables;

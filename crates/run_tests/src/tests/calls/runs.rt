@@ -2,7 +2,7 @@
 
 use super::buffers::holds;
 use super::images::{ENDLESS, HEAD, INTERFACE, ONE_FRAME, OTHER, PASS, UNGUARDED};
-use super::rows::{Holds, hold_all};
+use crate::tests::rows::{Holds, hold_all};
 use calls::running::{Ended, run_once};
 use calls::streaming::{Streamed, run_stream};
 use calls::tracing::{TracedEnd, trace_once};

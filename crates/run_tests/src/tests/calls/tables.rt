@@ -2,7 +2,7 @@
 
 use super::buffers::holds;
 use super::images::{ENDLESS, OTHER, PASS};
-use super::rows::{Holds, hold_all};
+use crate::tests::rows::{Holds, hold_all};
 use calls::rechecks::{Rechecked, recheck_table};
 use std::alloc::Global;
 

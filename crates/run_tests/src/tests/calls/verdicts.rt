@@ -2,7 +2,7 @@
 
 use super::buffers::holds;
 use super::images::{ENDLESS, OTHER, PASS, UNGUARDED};
-use super::rows::{Holds, hold_all};
+use crate::tests::rows::{Holds, hold_all};
 use calls::assembling::{Assembled, assemble_text};
 use calls::judging::{Verdict, verify_image};
 use calls::naming::{number_of_action, write_version};

@@ -2,7 +2,7 @@
 
 use super::buffers::holds;
 use super::images::{MAPS, OTHER, PASS};
-use super::rows::{Holds, hold_all};
+use crate::tests::rows::{Holds, hold_all};
 use calls::buffers::TextSize;
 use calls::describing::{Described, MapRow, describe_image};
 use calls::disassembling::disassemble_image;
