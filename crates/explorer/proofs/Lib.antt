@@ -1,11 +1,5 @@
 mod Common
-pub mod ConstantsLaws
-pub mod ChangeLaws
-pub mod EarlierLaws
-pub mod HeldLaws
-pub mod PendingLaws
 pub mod StoredStatesLaws
-pub mod GroupLaws
 pub mod Paths
 pub mod SearchMoves
 pub mod Lengthening
@@ -16,5 +10,3 @@ pub mod Walking
 pub mod Counting
 pub mod Telling
 pub mod Trails
-pub mod SameMaps
-pub mod ProvedBytesLaws

@@ -1,5 +1,6 @@
 -- What stays true of a search, move by move.
-use Rattle.explorer.proofs.Common.{◌≡◌, ◌≤◌, ◌+◌, ◌∷◌, ◌++◌, [], ℕ, Some, None, Option, List, length, length-append, max, arith, refl, sym, ap, ◌∙◌, subst, inl, inr, All, All-push, All-pop, Insn, Program, fetch, start, State, IsFlow, StepsToWays, StoredState, Visit, Search, Visits, Move, New, Covered, Finished, StoredAt, GetsNumber, precision_in, Settles, Spends, CountsTo, Arrives, AllSettled, IsAtInsns, IfReady, IfStepsTo, Waiting, Path, OnPath, HasEnded, Explores, Comes, AfterMove, Precision, Coarse, Forgets, Forgets-as, WalksTo-as, LeadsTo-forgets, GoesOnTo-forgets, StepsInto, LeadsNowhere, Nothing}
+use Rattle.explorer.proofs.Common.{◌≡◌, ◌≤◌, ◌+◌, ◌∷◌, ◌++◌, [], ℕ, Some, None, Option, List, length, length-append, max, arith, refl, sym, ap, ◌∙◌, subst, inl, inr, All-push, All-pop, Insn, Program, fetch, start, State, IsFlow, StepsToWays, StoredState, Visit, Search, Visits, Move, New, Covered, Finished, StoredAt, GetsNumber, precision_in, Settles, Spends, CountsTo, Arrives, AllSettled, IsAtInsns, IfReady, IfStepsTo, Waiting, Path, OnPath, HasEnded, Explores, Comes, AfterMove, Precision, Coarse, Forgets, Forgets-as, WalksTo-as, LeadsTo-forgets, GoesOnTo-forgets, StepsInto, LeadsNowhere, Nothing}
+use Rattle.std.specs.List.{All}
 use Rattle.isa_model.specs.declared.instructions.Insn.TheVariants.{CallLocal}
 use Rattle.control_flow.proofs.FlowLaws.{IsFlow-Follows, IsFlow-fall, IsFlow-call}
 use Rattle.control_flow.specs.Graph.{BeginsInsn}

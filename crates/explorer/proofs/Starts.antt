@@ -1,5 +1,6 @@
 -- The start of a search, and the starts of the machine that its state means.
-use Rattle.explorer.proofs.Common.{◌≡◌, [], ℕ, Option, List, arith, refl, sym, subst, IsSome, All, All-nil, All-cons, Insn, Program, IsImage, start, State, Within, StoredState, AllSettled, IsAtInsns, Precision, Forgets, Forgets-slot, Forgets-returns}
+use Rattle.explorer.proofs.Common.{◌≡◌, [], ℕ, Option, List, arith, refl, sym, subst, IsSome, All-nil, All-cons, Insn, Program, IsImage, start, State, Within, StoredState, AllSettled, IsAtInsns, Precision, Forgets, Forgets-slot, Forgets-returns}
+use Rattle.std.specs.List.{All}
 use Rattle.image.proofs.ImageLaws.{fetch-zero}
 use Rattle.image.proofs.Programs.{IsProgram-IsImage}
 use Rattle.isa_model.specs.Running.Runs.{start_state}

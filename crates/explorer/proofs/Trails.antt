@@ -1,5 +1,6 @@
 -- A trail with one visit more, or one less.
-use Rattle.explorer.proofs.Common.{◌≡◌, ◌∙◌, ℕ, suc, ◌+◌, ◌≤◌, List, [], ◌∷◌, ◌++◌, take, set, get_or, length, length-append, Bool, true, false, Option, Some, None, refl, sym, ap, arith, is_some, option_to_list, get_or-append_seam, set_split, set-get_or, drop_all, take_all, take_more, State, Visit, KeptVisit, pending_of, states_left, visits_of, one_if, waiting_count}
+use Rattle.explorer.proofs.Common.{◌≡◌, ◌∙◌, ℕ, suc, ◌+◌, ◌≤◌, List, [], ◌∷◌, ◌++◌, take, set, get_or, length, length-append, Bool, true, false, Option, Some, None, refl, sym, ap, arith, is_some, option_to_list, set_split, set-get_or, drop_all, take_all, take_more, State, Visit, KeptVisit, pending_of, states_left, visits_of, one_if, waiting_count}
+use Rattle.std.proofs.Math.Seq.{get_or-append_seam}
 
 pending_of-append : (b : Bool) (states more : List State) → one_if b ≤ length states
     → pending_of b (states ++ more) ≡ pending_of b states

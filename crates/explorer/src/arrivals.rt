@@ -5,11 +5,11 @@ ghost use Rattle.control_flow.specs.Flows.{IsJoin};
 ghost use Rattle.walks.specs.Forgetting.{IsForgotten, Forgets};
 ghost use Rattle.explorer.specs.Search.{Arrives, RefusesArrival, precision_in};
 
-use crate::kept::Kept;
 use crate::long_searches::forget_by;
 use crate::moves::{Move, NO_MEMORY, Refused};
 use crate::stored_states::StoredStates;
 use control_flow::{Flow, KeptNumbers};
+use kept_states::Kept;
 use stack_state::State;
 use std::alloc::{AllocError, Global};
 use walks::{Refusal, forget_all, kept_slots, may_forget_all};

@@ -13,14 +13,11 @@ ghost use Rattle.walks.specs.Forgetting.{Forgets};
 ghost use Rattle.explorer.specs.Search.{precision_in};
 
 use crate::arrivals::forget_at;
-use crate::callers::{Callers, keep_callers};
-use crate::kept::Kept;
 use crate::long_searches::forget_by;
-use crate::others::Others;
-use crate::proved_bytes::has_proved;
 use crate::stored_states::StoredStates;
 use control_flow::{Flow, KeptNumbers, SlotMask};
 use image::Image;
+use kept_states::{Callers, Kept, Others, has_proved, keep_callers};
 use stack_state::State;
 use state_index::{Part, take_parts_in};
 use std::alloc::{AllocError, Global};

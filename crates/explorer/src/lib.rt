@@ -5,36 +5,15 @@
 //! `specs/Search.antt` says what a search knows.
 #![tactic(auto)]
 
-mod around;
 mod arrivals;
-mod blanks;
-mod callers;
-mod changes;
-mod changing;
-mod constants;
 mod current;
-mod differences;
-mod earlier_numbers;
-mod earlier_parts;
-mod groups;
-mod held_places;
-mod kept;
-mod kept_frames;
-mod latest;
 pub mod listened;
 mod listening;
 mod long_searches;
 mod look_ups;
 mod moves;
-mod of_two;
-mod others;
-mod part_changes;
-mod pending;
-mod proved_bytes;
 mod retracing;
 mod search;
-mod shared_parts;
-mod signed_limits;
 mod state_trees;
 mod steps;
 mod stored_forms;
@@ -43,7 +22,7 @@ mod trail;
 pub mod verified;
 
 pub use bounds::Verified;
-pub use kept::Kept;
+pub use kept_states::Kept;
 pub use listened::{Searched, own_words, search_with, verify_with};
 pub use listening::Listener;
 pub use moves::Halt;

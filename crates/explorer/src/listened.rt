@@ -15,7 +15,6 @@ ghost use Rattle.control_flow.specs.Flows.{IsFlow};
 ghost use Rattle.explorer.specs.Search.{IsNew};
 ghost use Rattle.explorer.specs.Listening.{IfRefused, IfStopped, IsSearchedAgain, IsOutsideSearch, EndsAsPrecise};
 
-use crate::kept::Kept;
 use crate::listening::Listener;
 use crate::moves::{Halt, NO_MEMORY, Refused};
 use crate::search::Search;
@@ -25,6 +24,7 @@ use bounds::Verified;
 use control_flow::{Flow, KeptNumbers};
 use image::Image;
 use isa_model::MAX_EXPLORED;
+use kept_states::Kept;
 use std::alloc::Global;
 use std::mem;
 use walks::{Refusal, SearchLimit};

@@ -8,8 +8,8 @@ ghost use Rattle.walks.specs.Forgetting.{Precision};
 ghost use Rattle.explorer.specs.Listening.{ComesTo, IfRefused, IsToTell, HearsMove, IsToRefuse, EndsIn};
 
 use crate::current::Current;
-use crate::kept::Kept;
 use crate::moves::{Halt, Move, Refused};
+use kept_states::Kept;
 use stack_state::State;
 use std::convert::Infallible;
 use transfer::Ways;

@@ -15,7 +15,6 @@ ghost use Rattle.explorer.specs.Listening.{BeginsPath, BeginFails, ComesBackAt, 
 
 use crate::arrivals::arrive;
 use crate::current::Current;
-use crate::kept::Kept;
 use crate::listening::{Listener, halt, tell};
 use crate::long_searches::lengthen;
 use crate::moves::{Halt, Move, NO_MEMORY, NextMove, Refused};
@@ -24,6 +23,7 @@ use crate::trail::Trail;
 use control_flow::{Flow, KeptNumbers};
 use image::Image;
 use isa_model::MAX_EXPLORED;
+use kept_states::Kept;
 use stack_state::State;
 use state_index::Part;
 use std::alloc::{AllocError, Global};

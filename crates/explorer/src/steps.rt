@@ -8,7 +8,6 @@ ghost use Rattle.walks.specs.Refused.{StopsAt};
 ghost use Rattle.explorer.specs.Search.{AfterMove, IsNext, precision_in};
 ghost use Rattle.explorer.specs.Listening.{ShowsStep, StepFails};
 
-use crate::kept::Kept;
 use crate::long_searches::forget_by;
 use crate::moves::{Move, NO_MEMORY, NextMove, Refused};
 use crate::search::Search;
@@ -16,6 +15,7 @@ use crate::trail::{Course, Visit};
 use control_flow::Flow;
 use image::Image;
 use isa_model::MAX_EXPLORED;
+use kept_states::Kept;
 use state_index::Part;
 use std::alloc::{AllocError, Global};
 use transfer::Ways;

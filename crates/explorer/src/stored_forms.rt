@@ -3,8 +3,7 @@
 ghost use Rattle.std.specs.Prelude.{◌≡◌, None, IfOk, IfSome};
 ghost use Rattle.state_index.specs.Parts.{AreParts};
 
-use crate::kept::Kept;
-use crate::others::Others;
+use kept_states::{Kept, Others};
 use stack_state::State;
 use state_index::Part;
 use std::alloc::{AllocError, Global};

@@ -6,13 +6,11 @@ ghost use Rattle.state_index.specs.Parts.{AreBlankBeside, AreParts};
 ghost use Rattle.state_index.specs.Rooms.{HasShapeRoom};
 ghost use Rattle.explorer.specs.StoredStates.{IsStored, IsCovered, IsRepeated, StoredAt, GetsNumber};
 
-use crate::groups::FEW;
-use crate::kept::{Kept, PLACES};
 use crate::look_ups::{Found, Scan};
-use crate::others::{Other, Others};
 use crate::state_trees::tree_of;
 use crate::stored_forms::stored_form;
 use control_flow::SlotMask;
+use kept_states::{FEW, Kept, Other, Others, PLACES};
 use stack_state::State;
 use state_cover::covers;
 use state_index::{Effort, Key, LONG_SCAN, OwnShape, StateIndex};

@@ -4,9 +4,7 @@ ghost use Rattle.std.specs.Prelude.{◌≡◌, ◌≤◌, ◌+◌, ◌++◌, ◌
 ghost use Rattle.explorer.specs.declared.trail.Visit.{Visit as TheVisit};
 ghost use Rattle.explorer.specs.Trail.{TakesLastPending};
 
-use crate::kept::Kept;
-use crate::others::Others;
-use crate::pending::PendingStates;
+use kept_states::{Kept, Others, PendingStates};
 use std::alloc::{AllocError, Global};
 use std::marker::Model;
 

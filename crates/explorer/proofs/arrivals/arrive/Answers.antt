@@ -1,4 +1,5 @@
-use Rattle.explorer.proofs.Common.{◌∙◌, ap, length, refl, List, sym, subst, inr, AreParts, StoredState, IsCovered, IsRepeated, stored_too}
+use Rattle.explorer.proofs.Common.{◌∙◌, ap, length, refl, List, sym, subst, inr, StoredState, IsCovered, IsRepeated, stored_too}
+use Rattle.state_index.specs.Parts.{AreParts}
 use Rattle.state_index.specs.declared.keys.Key.{Key}
 use Rattle.explorer.proofs.arrivals.arrive.Goals as goal
 

@@ -1,4 +1,5 @@
-use Rattle.explorer.proofs.Common.{◌≡◌, ◌∙◌, ◌-◌, ◌++◌, ◌∷◌, [], take, ap, sym, length, length-append, arith, take-append_seam, Visit, KeptVisit, Visits, waiting_count}
+use Rattle.explorer.proofs.Common.{◌≡◌, ◌∙◌, ◌-◌, ◌++◌, ◌∷◌, [], take, ap, sym, length, length-append, arith, Visit, KeptVisit, Visits, waiting_count}
+use Rattle.std.proofs.Math.Seq.{take-append_seam}
 use Rattle.std.specs.Vec.{vec_len}
 use Rattle.explorer.proofs.Trails.{visits_of-more, waiting_count-more}
 use Rattle.explorer.proofs.trail.Trail.push.Goals as goal

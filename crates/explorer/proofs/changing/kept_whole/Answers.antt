@@ -1,7 +1,0 @@
-use Rattle.explorer.proofs.Common.{◌∷◌, ap, states_from}
-use Rattle.explorer.proofs.changing.kept_whole.Goals as goal
-
-pub returns : goal.returns
-unfolding states_from
-returns c = λ any states parts frame.
-    ap (λ s. s ∷ states_from any states parts frame) c.in_ok-state.ensures.ok

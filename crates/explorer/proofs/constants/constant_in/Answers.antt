@@ -1,7 +1,0 @@
-use Rattle.explorer.proofs.Common.{◌∙◌, ap, Kind, InRegister}
-use Rattle.explorer.proofs.constants.constant_in.Goals as goal
-
-pub returns : goal.returns
-returns c =
-    c.in-InRegister.is
-    ∙ ap (λ (k : Kind). InRegister c.in-InRegister.number k) c.in_ok-value.ensures

@@ -1,9 +1,0 @@
-use Rattle.explorer.proofs.Common.{◌∙◌, ◌++◌, ap, whole}
-use Rattle.explorer.proofs.GroupLaws.{whole-more}
-use Rattle.explorer.proofs.groups.push_group.Goals as goal
-
-pub returns : goal.returns
-returns c =
-    ap whole c.in_ok-push.ensures.items
-    ∙ whole-more c.args.groups.now.items c.in_ok-group.group
-    ∙ ap (λ l. whole c.args.groups.now.items ++ l) c.in_ok-group.ensures

@@ -1,6 +1,0 @@
-use Rattle.std.proofs.Common.{◌≡◌, length}
-use Rattle.explorer.proofs.kept_frames.resize.Given as goal
-
--- there are as many call frames as were counted
-abbrev pub invariant-loop-more : goal.invariant-loop-more
-invariant-loop-more l = length l.frames.items ≡ l._more

@@ -1,6 +1,0 @@
-use Rattle.explorer.proofs.Common.{◌≡◌, map, proved_kind}
-use Rattle.explorer.proofs.proved_bytes.leave_out_of_all.Given as goal
-
-abbrev pub invariant-loop-index : goal.invariant-loop-index
-invariant-loop-index l =
-    map (proved_kind l.proved.identity l.proved.bytes) l.kinds ≡ map (proved_kind l.proved.identity l.proved.bytes) l.fn.kinds

@@ -1,0 +1,11 @@
+pub mod Constants
+pub mod Groups
+pub mod ProvedBytes
+pub mod Around
+pub mod Changes
+pub mod HeldPlaces
+pub mod Pending
+pub mod OfTwo
+pub mod SignedLimits
+pub mod EarlierNumbers
+pub mod EarlierParts
