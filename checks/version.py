@@ -19,7 +19,7 @@ PLACES = (
     ("crates/words/src/command_line.rt", rf'(pub const VERSION: &str = ")({FORM})(";)'),
     ("crates/words/src/survey_line.rt", rf'(const VERSION: &str = ")({FORM})(";)'),
     ("crates/calls/src/naming.rt", rf'(fill\(buffer, b")({FORM})("\))'),
-    ("crates/run_tests/src/tests/calls/verdicts.rt", rf'(holds\(&version, b")({FORM})("\))'),
+    ("crates/run_tests/src/tests/embedding/verdicts.rt", rf'(holds\(&version, b")({FORM})("\))'),
     ("examples/embed/xdpvm.h", rf'(#define XDPVM_VERSION ")({FORM})(")'),
     ("examples/embed/embed.rs", rf'(xdpvm::version\(\), ")({FORM})("\))'),
 )

@@ -4,9 +4,9 @@
 //! cases in tests/programs.
 
 mod abstract_states;
-mod calls;
 mod clocks;
 mod cuts;
+mod embedding;
 mod flows;
 mod lexemes;
 mod map_stores;

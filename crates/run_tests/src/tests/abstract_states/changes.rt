@@ -3,9 +3,10 @@
 //! costs as much as the whole trait.
 
 use super::operations::Unary;
-use super::rows::Holds;
+use crate::tests::rows::Holds;
 use isa_model::{AluOp, Comparison, Width};
 use reg_state::{Domain, Scalar, refine};
+use std::alloc::Global;
 
 /// A set of numbers.
 #[derive(Drop)]
@@ -160,7 +161,7 @@ fn is_seen(left: Option<Scalar>, look: &Look) -> bool {
 pub type Row = (Set, &'static [Change], &'static [Look]);
 
 impl Holds for Row {
-    fn holds(&self) -> bool {
+    fn holds(&self, _: Global) -> bool {
         let (set, changes, looks) = self;
         let left = after(set, *changes);
         for look in *looks {

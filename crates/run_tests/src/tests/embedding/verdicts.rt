@@ -122,22 +122,22 @@ impl Holds for Judging {
     }
 }
 
-/// r0 of a run, and the number of the action that its low 32 bits name, or 5 if they name none.
-type Named = (u64, u32);
+/// The number of the action that the low 32 bits of r0 name, or 5 if they name none, and r0.
+type Named = (u32, u64);
 
 const ACTIONS: &[Named] = &[
     (0, 0),
     (1, 1),
-    (0x7_0000_0002, 2),
+    (2, 0x7_0000_0002),
     (3, 3),
     (4, 4),
     (5, 5),
-    (0xffff_ffff, 5),
+    (5, 0xffff_ffff),
 ];
 
 impl Holds for Named {
     fn holds(&self, _alloc: Global) -> bool {
-        number_of_action(self.0) == self.1
+        number_of_action(self.1) == self.0
     }
 }
 
