@@ -23,74 +23,99 @@ const HTML: &str =
 const DIS_ABOUT: &str =
     "Prints slots, bytes, labels and text of an image, or its basic blocks as a graph";
 
-/// An option that takes a value, the name of its value in the help, and its help text.
+/// An option, the name of its value in the help, if it takes one, and its help text.
 #[derive(Clone, Copy)]
 pub struct ValueChoice {
     pub name: &'static str,
-    pub value_name: &'static str,
+    pub value_name: Option<&'static str>,
     pub help: &'static str,
 }
 
-const CHOICES: [ValueChoice; 6] = [
+const CHOICES: &[ValueChoice] = &[
     ValueChoice {
         name: "format",
-        value_name: "FORMAT",
+        value_name: Some("FORMAT"),
         help: "How rows are written: table, csv or json [default: table]",
     },
     ValueChoice {
         name: "sort",
-        value_name: "COLUMN",
+        value_name: Some("COLUMN"),
         help: "Sorts by a column: texts from a to z, numbers from the greatest to the least",
     },
     ValueChoice {
         name: "only",
-        value_name: "refused",
+        value_name: Some("refused"),
         help: "Prints only the rows of refused images",
     },
     ValueChoice {
         name: "compare",
-        value_name: "OLD.csv",
+        value_name: Some("OLD.csv"),
         help: "Prints what differs from an earlier survey, written as csv",
     },
     ValueChoice {
         name: "tables",
-        value_name: "FOLDER",
+        value_name: Some("FOLDER"),
         help: "Writes a proof table of each accepted image there, and tests it",
     },
     ValueChoice {
         name: "most",
-        value_name: "BYTES",
+        value_name: Some("BYTES"),
         help: "Writes no table of more bytes than this",
+    },
+    ValueChoice {
+        name: "no-header",
+        value_name: None,
+        help: "Leaves the names of the columns out",
     },
 ];
 
-const SLOT: ValueChoice = ValueChoice {
-    name: "slot",
-    value_name: "N",
-    help: "Prints only what was explored at this slot",
-};
+const LOG_CHOICES: &[ValueChoice] = &[
+    ValueChoice {
+        name: "slot",
+        value_name: Some("N"),
+        help: "Prints only what was explored at this slot",
+    },
+    ValueChoice {
+        name: "states",
+        value_name: Some("N"),
+        help: "Prints at most so many states [default: 10000]",
+    },
+    ValueChoice {
+        name: "html",
+        value_name: None,
+        help: HTML,
+    },
+];
 
-const STATES: ValueChoice = ValueChoice {
-    name: "states",
-    value_name: "N",
-    help: "Prints at most so many states [default: 10000]",
-};
+const DIS_CHOICES: &[ValueChoice] = &[ValueChoice {
+    name: "dot",
+    value_name: None,
+    help: "Prints the basic blocks as a graph for dot -Tsvg",
+}];
 
-/// An option that takes a value.
+/// An option.
 pub fn option<'a>(alloc: Global, choice: ValueChoice) -> Arg<'a> {
-    Arg::new(alloc, choice.name)
-        .long(choice.name)
-        .action(ArgAction::Set)
-        .value_name(choice.value_name)
-        .help(choice.help)
+    let option = Arg::new(alloc, choice.name).long(choice.name);
+    match choice.value_name {
+        Some(name) => option
+            .action(ArgAction::Set)
+            .value_name(name)
+            .help(choice.help),
+        None => option.action(ArgAction::SetTrue).help(choice.help),
+    }
 }
 
-/// An option that takes no value.
-pub fn flag<'a>(alloc: Global, name: &'static str, help: &'static str) -> Arg<'a> {
-    Arg::new(alloc, name)
-        .long(name)
-        .action(ArgAction::SetTrue)
-        .help(help)
+/// A command with these options, unless memory ran out before.
+pub fn with_options<'a>(
+    alloc: Global,
+    command: Result<Command<'a>, AllocError>,
+    choices: &[ValueChoice],
+) -> Result<Command<'a>, AllocError> {
+    let mut command = command?;
+    for choice in choices {
+        command = command.arg(option(alloc, *choice))?;
+    }
+    Ok(command)
 }
 
 /// A command on one image.
@@ -106,68 +131,49 @@ pub fn look<'a>(
     Command::new(alloc, name).about(about).arg(image)
 }
 
-// The options of a survey.
-fn with_options<'a>(alloc: Global, command: Command<'a>) -> Result<Command<'a>, AllocError> {
-    let mut command = command;
-    for choice in CHOICES {
-        command = command.arg(option(alloc, choice))?;
-    }
-    let header = flag(alloc, "no-header", "Leaves the names of the columns out");
-    command.arg(header)
-}
-
-// The images of a survey.
-fn with_paths<'a>(alloc: Global, command: Command<'a>) -> Result<Command<'a>, AllocError> {
+// The program, with the images of a survey as arguments.
+fn with_paths<'a>(alloc: Global) -> Result<Command<'a>, AllocError> {
+    let empty = Command::new(alloc, NAME)
+        .version(VERSION)
+        .about(ABOUT)
+        .after_help(AFTER)
+        .args_conflicts_with_subcommands(true)
+        .bin_name(NAME)?;
     let paths = Arg::new(alloc, "paths")
         .required(true)
         .num_args(1..)
         .action(ArgAction::Append)
         .value_name("IMAGE|FOLDER")
         .help("Images, and folders of them");
-    command.arg(paths)
-}
-
-// The program, without arguments and commands.
-fn empty_program<'a>(alloc: Global) -> Result<Command<'a>, AllocError> {
-    Command::new(alloc, NAME)
-        .version(VERSION)
-        .about(ABOUT)
-        .after_help(AFTER)
-        .args_conflicts_with_subcommands(true)
-        .bin_name(NAME)
+    empty.arg(paths)
 }
 
 // The command that prints a search.
 fn log<'a>(alloc: Global) -> Result<Command<'a>, AllocError> {
-    let command = look(alloc, "log", LOG_ABOUT)?;
-    let command = command.arg(option(alloc, SLOT))?;
-    let command = command.arg(option(alloc, STATES))?;
-    command.arg(flag(alloc, "html", HTML))
+    with_options(alloc, look(alloc, "log", LOG_ABOUT), LOG_CHOICES)
 }
 
 // The command that prints an image.
 fn dis<'a>(alloc: Global) -> Result<Command<'a>, AllocError> {
-    let graph = "Prints the basic blocks as a graph for dot -Tsvg";
-    look(alloc, "dis", DIS_ABOUT)?.arg(flag(alloc, "dot", graph))
+    with_options(alloc, look(alloc, "dis", DIS_ABOUT), DIS_CHOICES)
 }
 
-// The commands on one image.
-fn with_looks<'a>(alloc: Global, command: Command<'a>) -> Result<Command<'a>, AllocError> {
-    let log = log(alloc)?;
-    let command = command.subcommand(log)?;
-    command.subcommand(dis(alloc)?)
-}
-
-// The commands that run an image on a frame stream.
-fn with_runs<'a>(alloc: Global, command: Command<'a>) -> Result<Command<'a>, AllocError> {
-    let hits = hits(alloc)?;
-    let command = command.subcommand(hits)?;
-    command.subcommand(steps(alloc)?)
+// The program with one more command, unless memory ran out before.
+fn with_command<'a>(
+    program: Result<Command<'a>, AllocError>,
+    made: Result<Command<'a>, AllocError>,
+) -> Result<Command<'a>, AllocError> {
+    match program {
+        Ok(program) => program.subcommand(made?),
+        Err(error) => Err(error),
+    }
 }
 
 /// The program, whose arguments are those of a survey, with its commands.
 pub fn program<'a>(alloc: Global) -> Result<Command<'a>, AllocError> {
-    let with_paths = with_paths(alloc, empty_program(alloc)?)?;
-    let surveying = with_options(alloc, with_paths)?;
-    with_runs(alloc, with_looks(alloc, surveying)?)
+    let surveying = with_options(alloc, with_paths(alloc), CHOICES);
+    let with_log = with_command(surveying, log(alloc));
+    let with_dis = with_command(with_log, dis(alloc));
+    let with_hits = with_command(with_dis, hits(alloc));
+    with_command(with_hits, steps(alloc))
 }
