@@ -4,11 +4,11 @@
 usage: python3 bench/gate.py [--most N] [--to FILE] [COMMAND ..]      (the default: rt ci)
 
 The seconds are those of the provers (user and system), by crate: its code, its tests, and its must-fail edits, and the
-greatest memory of one of them. They are read from /proc twice a second, so a prover loses half a
-second at most. The command's output is passed on, and its status is the script's. --most: only the
-N crates that took most; --to: the table is written to a file. After it comes the longest chain: crates of crates.txt, each
-of which waits for the one before, whose code and tests take most together, so that no number of cores can be faster. With
-`taskset -c 0,1` in front it all runs on two cores. In the gate: `.ci/run` prints the ten crates that took most.
+greatest memory of one of them; what blocks of pages prove, as a reader would, has a line of its own. They are read from /proc
+twice a second, so a prover loses half a second at most. The command's output is passed on, and its status is the script's.
+--most: only the N crates that took most; --to: the table is written to a file. At the end stands the longest chain: crates of
+crates.txt, each of which waits for the one before, whose code and tests take most together, so that no number of cores can be
+faster. With `taskset -c 0,1` in front it all runs on two cores. In the gate: `.ci/run` prints the ten crates that took most.
 """
 import argparse
 import os
@@ -23,6 +23,7 @@ from common import bytes_of, crates_below, write
 TICKS = os.sysconf("SC_CLK_TCK")
 Seen = dict[tuple[str, str, int], tuple[float, int]]  # seconds and megabytes of a prover: its crate, its kind and its number
 KINDS = ("code", "tests", "edits")
+PAGES = "pages"
 
 
 def read(path: str) -> bytes:
@@ -41,7 +42,13 @@ def prover(pid: int) -> tuple[str, str] | None:
         folder = os.readlink(f"/proc/{pid}/cwd")
     except OSError:
         return None
-    kind = "edits" if "/edits-" in folder or "/rt-edit-" in folder else "tests" if "--test" in words else "code"
+    # Edits aside only `rt check` begins with what an earlier check kept, and so a page; `rt ci` proves from nothing.
+    if "/edits-" in folder or "/rt-edit-" in folder:
+        kind = "edits"
+    elif "--incremental" in words:
+        kind = PAGES
+    else:
+        kind = "tests" if "--test" in words else "code"
     return words[words.index("--crate-name") + 1], kind
 
 
@@ -82,6 +89,8 @@ def table(seen: Seen, seconds: float, most: int | None) -> Iterator[str]:
     crates: dict[str, dict[str, float]] = {}
     peaks: dict[str, int] = {}
     for (crate, kind, _), (spent, peak) in seen.items():
+        if kind == PAGES:
+            continue
         crates.setdefault(crate, dict.fromkeys(KINDS, 0.0))[kind] += spent
         peaks[crate] = max(peaks.get(crate, 0), peak)
     yield f"{seconds:.0f} s on {len(os.sched_getaffinity(0))} cores; processor seconds of the provers:"
@@ -90,6 +99,8 @@ def table(seen: Seen, seconds: float, most: int | None) -> Iterator[str]:
         yield f"| {crate} | " + " | ".join(f"{row[kind]:.0f}" for kind in KINDS) + f" | {peaks[crate] / 1024:.1f} |"
     sums = [sum(row[kind] for row in crates.values()) for kind in KINDS]
     yield f"| all {len(crates)} | " + " | ".join(f"{it:.0f}" for it in sums) + " | |"
+    by_pages = sum(spent for (_, kind, _), (spent, _) in seen.items() if kind == PAGES)
+    yield f"\nblocks of pages: {by_pages:.0f} s"
     chain, longest = longest_chain({crate: row["code"] + row["tests"] for crate, row in crates.items()})
     yield f"\nthe longest chain, {longest:.0f} s of code and tests: {', '.join(chain)}"
 
