@@ -12,7 +12,7 @@ use Rattle.host.specs.declared.traced.Counted.{Counted}
 use Rattle.host.specs.Counts.{Totals}
 use Rattle.commands.specs.Streams.{outcome_at}
 use Rattle.filtering.specs.declared.ready.Ready.{Ready}
-use Rattle.filtering.specs.Counting.{counts_text}
+use Rattle.host.specs.CountLines.{counts_text}
 use Rattle.filtering.specs.Delivering.{Filters, GetsReport}
 use Rattle.filtering.specs.Finishing.{SaysCounts}
 

@@ -13,7 +13,7 @@ use Rattle.commands.specs.declared.outcomes.TaskOutcome.{TaskOutcome}
 use Rattle.commands.specs.Saying.{LacksMemory, Says}
 use Rattle.commands.specs.Statuses.{IsWriteFailure}
 use Rattle.commands.specs.Streams.{outcome_at}
-use Rattle.filtering.specs.Counting.{counts_text}
+use Rattle.host.specs.CountLines.{counts_text}
 
 -- the lines say the counts, and the task ends as the stream did; or memory ran out
 abbrev pub SaysCounts : Totals → Tally → FileForm → Option (List ℕ) → Option (List ℕ)

@@ -1,6 +1,5 @@
 pub mod Filling
 pub mod Running
-pub mod Counting
 pub mod Delivering
 pub mod Opening
 pub mod Finishing

@@ -6,11 +6,10 @@ ghost use Rattle.commands.specs.Statuses.{is_silent};
 ghost use Rattle.commands.specs.Streams.{outcome_at};
 ghost use Rattle.filtering.specs.Finishing.{WritesEnd, SaysCounts};
 
-use super::counting::counts_text;
 use super::delivering::store_maps;
 use super::opening::Named;
 use commands::{TaskOutcome, say_made};
-use host::{Counted, FrameCounts, Tally};
+use host::{Counted, FrameCounts, Tally, counts_text};
 use messages::FileForm;
 use std::alloc::Global;
 use std::io::Write;

@@ -4,7 +4,6 @@
 
 mod conversions;
 mod copying;
-mod counting;
 mod delivering;
 mod executing;
 mod files;

@@ -9,6 +9,7 @@ pub mod Accepted
 pub mod Promise
 pub mod EndCounts
 pub mod Counts
+pub mod CountLines
 pub mod Counting
 pub mod InvalidRuns
 pub mod Places

@@ -7,6 +7,7 @@
 mod checked;
 mod clocks;
 mod closings;
+mod count_lines;
 mod counting;
 mod counts;
 mod end_counts;
@@ -30,6 +31,7 @@ mod verified;
 mod versions;
 
 pub use checked::{run_checked, run_checked_counted_from, run_checked_from};
+pub use count_lines::counts_text;
 pub use counts::{FrameCounts, MOST_REASONS, ReasonCount};
 pub use end_counts::{ActionCounts, TrapCounts};
 pub use errors::HostError;

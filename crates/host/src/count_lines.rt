@@ -3,9 +3,11 @@
 ghost use Rattle.std.specs.Prelude.{◌≡◌, IfOk};
 ghost use Rattle.std.specs.String.{string_bytes};
 ghost use Rattle.host.specs.Counts.{totals_of};
-ghost use Rattle.filtering.specs.Counting.{access_lines, action_lines, answer_lines, count_line, counts_text, end_line, reason_line, reason_lines, trap_line, trap_lines};
+ghost use Rattle.host.specs.CountLines.{access_lines, action_lines, answer_lines, count_line, counts_text, end_line, reason_line, reason_lines, trap_line, trap_lines};
 
-use host::{ActionCounts, FrameCounts, ReasonCount, Tally, TrapCounts};
+use crate::counts::{FrameCounts, ReasonCount};
+use crate::end_counts::{ActionCounts, TrapCounts};
+use crate::tallies::Tally;
 use isa_model::TrapReason;
 use std::alloc::{AllocError, Global};
 

@@ -1,7 +1,7 @@
 use Rattle.std.proofs.Common.{◌≡◌, ◌++◌, drop}
 use Rattle.std.specs.String.{string_bytes}
-use Rattle.filtering.specs.Counting.{reason_lines}
-use Rattle.filtering.proofs.counting.reason_lines.Given as goal
+use Rattle.host.specs.CountLines.{reason_lines}
+use Rattle.host.proofs.count_lines.reason_lines.Given as goal
 
 abbrev pub invariant-loop-index : goal.invariant-loop-index
 invariant-loop-index l =
