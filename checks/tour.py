@@ -11,7 +11,7 @@ left in crates/*/out; where they are not there, they are proved first. Each row 
 table of a frame names functions that its files have, its table of costs has what bench/costs.py prints, and the code and the edit
 that it shows stand in the crate. The last line counts, and the exit status is 1 if any block or row differs.
 
---whole runs the blocks `sh` and no others, in a fresh clone: some four minutes. No program was built before, but for those in
+--whole runs the blocks `sh` and no others, in a fresh clone: some two minutes. No program was built before, but for those in
 XDG_CACHE_HOME, where that is set.
 """
 import glob
@@ -153,7 +153,7 @@ def whole(page: str) -> list[str]:
     with tempfile.TemporaryDirectory(prefix="tour-clone-") as room:
         trusted = {"GIT_CONFIG_COUNT": "1", "GIT_CONFIG_KEY_0": "safe.directory", "GIT_CONFIG_VALUE_0": "*"}
         own = {**os.environ, **trusted, "XDG_CACHE_HOME": os.environ.get("XDG_CACHE_HOME") or f"{room}/cache"}
-        wanted = iter([r"(?m)^logic=proved functions=54\b", r"(?m)^\d+ cases, 0 differ$"])
+        wanted = iter([r"(?m)^logic=proved functions=11\b", r"(?m)^\d+ cases, 0 differ$"])
         for kind, body in re.findall(r"^```(sh|known_bits)\n(.*?)^```$", page, re.M | re.S):
             at = f"{room}/xdpvm" if os.path.isdir(f"{room}/xdpvm") else room
             if kind == "known_bits":
