@@ -1,5 +1,5 @@
 -- The names that most proofs of this crate cite, passed on from one place. Declares nothing.
-pub use Rattle.std.proofs.Common.{◌≡◌, ℕ, List, Option, Result, Ok, inr, ◌++◌, subst, Some, None, String, true, ap, refl, sym, inl, ◌⊎◌, arith, IfSome, ◌∙◌, ◌≤◌, Err, false, length, length-append, take, min, IfOk, IfErr, codes, drop, append_assoc, Bool, [], OnOk, OnErr, append-nil, ◌≢◌, ◌+◌, ◌-◌, ◌==◌, if◌then◌else◌, ◌∷◌, ap₂, is_err, MatchResult, decimal, rules, ◌^◌, ◌*◌, sum_by}
+pub use Rattle.std.proofs.Common.{◌≡◌, ℕ, List, Option, Result, Ok, inr, ◌++◌, subst, Some, None, String, true, ap, refl, sym, inl, ◌⊎◌, arith, IfSome, ◌∙◌, ◌≤◌, Err, false, length, length-append, take, min, IfOk, IfErr, codes, drop, append_assoc, Bool, [], OnOk, OnErr, append-nil, ◌≢◌, ◌+◌, ◌-◌, ◌==◌, if◌then◌else◌, ◌∷◌, ap₂, is_err, MatchResult, rules, ◌^◌}
 pub use Rattle.std.proofs.KnownBytes.{Keeps-refl, Consumes-trans}
 pub use Rattle.std.proofs.lemmas.Bool.{false≢true, both_ways}
 pub use Rattle.std.specs.Io.KnownBytes.{Keeps, append_known, Consumes, IsAtEnd, Appends}
@@ -26,14 +26,12 @@ pub use Rattle.commands.specs.Commands.{Serves, ShowsNone, TracesFile, TracesSom
 pub use Rattle.commands.specs.Executing.{IsTold, TellsDone, TellsFault, Executes, TellsBefore}
 pub use Rattle.commands.specs.Files.{RunsOn, RunsSome, OpensNone, MakesNone, RefusesTextFile, AssemblesFile, StoresSome, LoadsNone, DisassemblesFile}
 pub use Rattle.commands.specs.Flushing.{Flushes, IsFlushed, TellsFailure}
-pub use Rattle.commands.specs.InvalidRuns.{invalid_lines, TellsInvalid, TellsInvalidOf, answer_line, linux_line}
 pub use Rattle.commands.specs.Judging.{Accepts, EndsUnwritten, RefusesImage, RefusesText, StoresImage, IsBoundOf, RefusesProgram, RefusesTable, Verifies, SaysRefused, IsStoreFailure, SaysOfTable}
 pub use Rattle.commands.specs.Known.{outcome_text, with_code, TellsText, Tells, TellsTable, Plainly, IsKnownOfProgram, IsKnownOfTable, IfRefusal, TellsKept, ShowsKept}
 pub use Rattle.commands.specs.Proving.{StoresTable, GainsSaid, BeginsSaid, SaysSize, size_text}
 pub use Rattle.commands.specs.Saying.{AppendsPart, Says, LacksMemory}
 pub use Rattle.commands.specs.Statuses.{IsWriteFailureBy, status_of, is_unsaid, message_of, IsWordsEnd, IsReadFailure, IsMakeFailure, is_silent, IsWriteFailure, SaysWrongWords, IsWrongWords, IsOutputFailure, usage}
-pub use Rattle.commands.specs.Stopped.{stop_lines, TellsStopsOf, at_end, no_action_line, others_words, first_lines, told_at}
-pub use Rattle.commands.specs.Streams.{EndsTask, RunsAccepted, EndsBy, FailsBy, outcome_at, Traces, IsBeginningOf}
+pub use Rattle.commands.specs.Streams.{EndsTask, RunsAccepted, EndsBy, FailsBy, outcome_at, at_end, Traces, IsBeginningOf}
 pub use Rattle.commands.specs.declared.endings.Ending.{Ending}
 pub use Rattle.commands.specs.declared.outcomes.TaskOutcome.{TaskOutcome}
 pub use Rattle.commands.specs.declared.outcomes.TaskOutcome.TheVariants.{Done, WrongWords, Refused, Faulted, CannotRead, CannotWrite, CannotReplace, NoMemory}

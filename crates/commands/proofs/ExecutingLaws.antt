@@ -1,5 +1,7 @@
 -- What a status says of what standard error got.
-use Rattle.commands.proofs.Common.{◌≡◌, ℕ, List, ◌++◌, subst, Option, Some, None, String, true, ap, refl, sym, inl, inr, ◌⊎◌, arith, IfSome, Global, string_bytes, false≢true, TaskOutcome, Done, WrongWords, Refused, Faulted, CannotRead, CannotWrite, CannotReplace, NoMemory, WordsError, Wrong, NotUnicode, Memory, status_of, is_unsaid, message_of, IsWordsEnd, AppendsPart, outcome_text, with_code, FileForm, TaskRequest, RunFiles, Trace, Run, Verify, Prove, Recheck, Assemble, Disassemble, Explain, asked, IsTold, TellsDone, TellsFault, invalid_lines, stop_lines}
+use Rattle.commands.proofs.Common.{◌≡◌, ℕ, List, ◌++◌, subst, Option, Some, None, String, true, ap, refl, sym, inl, inr, ◌⊎◌, arith, IfSome, Global, string_bytes, false≢true, TaskOutcome, Done, WrongWords, Refused, Faulted, CannotRead, CannotWrite, CannotReplace, NoMemory, WordsError, Wrong, NotUnicode, Memory, status_of, is_unsaid, message_of, IsWordsEnd, AppendsPart, outcome_text, with_code, FileForm, TaskRequest, RunFiles, Trace, Run, Verify, Prove, Recheck, Assemble, Disassemble, Explain, asked, IsTold, TellsDone, TellsFault}
+use Rattle.messages.specs.InvalidRuns.{invalid_lines}
+use Rattle.messages.specs.Stopped.{stop_lines}
 use Rattle.std.proofs.lemmas.Option.{none-some}
 use Rattle.messages.specs.declared.rejections.Rejection.TheVariants as rejection
 use Rattle.commands.proofs.StatusesLaws.{silent_words, silent_memory, status_fits, unsaid_done}

@@ -1,5 +1,7 @@
 -- What the lines at the end of a message say.
-use Rattle.commands.proofs.Common.{◌≡◌, ℕ, List, Option, Some, None, String, Result, Ok, Err, false, subst, sym, inl, inr, ◌⊎◌, IfSome, string_bytes, PromptWriter, held, Global, Program, Bounded, TaskRequest, RunFiles, TableFiles, Trace, Run, Verify, Prove, Recheck, Assemble, Disassemble, Explain, HostError, TaskOutcome, Done, WrongWords, Refused, Faulted, CannotRead, CannotWrite, CannotReplace, NoMemory, Ending, KeptText, TellsText, Tells, TellsTable, Flushes, IsFlushed, TellsFailure, is_silent, Serves, ShowsNone, RunsOn, TellsInvalid, TellsInvalidOf, invalid_lines, TellsStopsOf, at_end, stop_lines}
+use Rattle.commands.proofs.Common.{◌≡◌, ℕ, List, Option, Some, None, String, Result, Ok, Err, false, subst, sym, inl, inr, ◌⊎◌, IfSome, string_bytes, PromptWriter, held, Global, Program, Bounded, TaskRequest, RunFiles, TableFiles, Trace, Run, Verify, Prove, Recheck, Assemble, Disassemble, Explain, HostError, TaskOutcome, Done, WrongWords, Refused, Faulted, CannotRead, CannotWrite, CannotReplace, NoMemory, Ending, KeptText, TellsText, Tells, TellsTable, Flushes, IsFlushed, TellsFailure, is_silent, Serves, ShowsNone, RunsOn, at_end}
+use Rattle.messages.specs.InvalidRuns.{TellsInvalid, TellsInvalidOf, invalid_lines}
+use Rattle.messages.specs.Stopped.{TellsStopsOf, stop_lines}
 use Rattle.host.specs.declared.invalid.InvalidFrame.{InvalidFrame}
 use Rattle.host.specs.declared.noting.Ran.{Ran}
 use Rattle.host.specs.declared.stops.Stops.{Stops}

@@ -28,8 +28,8 @@ use Rattle.commands.specs.Statuses.{IsWordsEnd, message_of, status_of}
 use Rattle.commands.specs.Saying.{AppendsPart, LacksMemory}
 use Rattle.commands.specs.Known.{Plainly, told_of}
 use Rattle.commands.specs.Flushing.{Flushes}
-use Rattle.commands.specs.InvalidRuns.{invalid_lines}
-use Rattle.commands.specs.Stopped.{stop_lines}
+use Rattle.messages.specs.InvalidRuns.{invalid_lines}
+use Rattle.messages.specs.Stopped.{stop_lines}
 use Rattle.commands.specs.declared.proving.TheConstants.{LARGE}
 use Rattle.proof_table.specs.Writing.{IsTableSize}
 use Rattle.commands.specs.Proving.{size_text}

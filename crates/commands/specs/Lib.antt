@@ -2,12 +2,10 @@ pub mod Commands
 pub mod Executing
 pub mod Files
 pub mod Flushing
-pub mod InvalidRuns
 pub mod Judging
 pub mod Known
 pub mod Proving
 pub mod Saying
 pub mod Statuses
-pub mod Stopped
 pub mod Streams
 pub mod Texts

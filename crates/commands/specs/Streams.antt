@@ -22,8 +22,8 @@ use Rattle.host.specs.Stops.{ShowsTraced}
 use Rattle.host.specs.Tallies.{tallied}
 use Rattle.host.specs.Reported.{Reports}
 use Rattle.commands.specs.declared.endings.Ending.{Ending}
-use Rattle.commands.specs.InvalidRuns.{TellsInvalidOf}
-use Rattle.commands.specs.Stopped.{TellsStopsOf, at_end}
+use Rattle.messages.specs.InvalidRuns.{TellsInvalidOf}
+use Rattle.messages.specs.Stopped.{TellsStopsOf}
 use Rattle.host.specs.declared.errors.HostError.TheVariants as failure
 
 -- how a task ends after a stream of this file form that came to its end, or had a fault
@@ -59,6 +59,12 @@ abbrev pub EndsTask : List ℕ → Option ErrorKind → FileForm → Result Tall
 EndsTask path cause form ended handed got result =
     (Keeps handed got × EndsBy path cause form ended result)
     ⊎ (IsBeginningOf got handed × FailsBy path cause form ended result)
+
+-- the message is written if the report was completed and all output was flushed
+abbrev pub at_end : TaskOutcome → Option (String Global) → Option (String Global)
+at_end Done why = why
+at_end (Faulted fault form) why = why
+at_end outcome why = None
 
 -- An accepted program is run on a stream: what is written is exactly the report of the program and
 -- of the packet frames that were found, which are those that the source's bytes spell, if those are

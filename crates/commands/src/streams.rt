@@ -1,18 +1,16 @@
 //! Programs that are run or traced on a frame stream, and how the task ends then.
 
 ghost use Rattle.exact_io.specs.Waiting.{behind, failure_of, held};
-ghost use Rattle.commands.specs.Streams.{EndsTask, RunsAccepted, Traces};
+ghost use Rattle.commands.specs.Streams.{EndsTask, RunsAccepted, Traces, at_end};
 
 use super::endings::Ending;
-use super::invalid::lines_of_invalid;
 use super::outcomes::TaskOutcome;
-use super::stopped::{at_end, lines_of_stops};
 use bounds::Verified;
 use exact_io::PromptWriter;
 use frames::Source;
 use host::{HostError, Ran, Tally, run_checked, run_noting_invalid, tally_in};
 use image::Image;
-use messages::{FileForm, STANDARD_OUTPUT};
+use messages::{FileForm, STANDARD_OUTPUT, lines_of_invalid, lines_of_stops};
 use std::alloc::Global;
 use std::io::Write;
 use words::StepLimit;
@@ -43,6 +41,17 @@ pub fn outcome_of<'a, W: Write + Drop>(
             TaskOutcome::CannotWrite(STANDARD_OUTPUT, None)
         }
         Err(HostError::Frames) => TaskOutcome::CannotWrite(path, file.failure()),
+    }
+}
+
+// The message after a task that runs or traces a program, by how the task ended: it is written if
+// all of the output was flushed.
+fn at_end(outcome: TaskOutcome<'_>, why: Option<String>) -> Option<String>
+    ensures { result ≡ at_end outcome.entry why }
+{
+    match outcome {
+        TaskOutcome::Done | TaskOutcome::Faulted(_, _) => why,
+        _ => None,
     }
 }
 

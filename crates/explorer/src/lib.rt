@@ -24,7 +24,7 @@ pub mod verified;
 pub use bounds::Verified;
 pub use kept_states::Kept;
 pub use listened::{Searched, own_words, search_with, verify_with};
-pub use listening::Listener;
+pub use listening::{Listener, Nobody};
 pub use moves::Halt;
 pub use retracing::retrace;
 pub use stored_states::StoredState;

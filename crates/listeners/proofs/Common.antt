@@ -5,7 +5,7 @@ pub use Rattle.image.proofs.Programs.{IsProgram-IsImage}
 pub use Rattle.isa_model.specs.Code.Instructions.{Program}
 pub use Rattle.stack_state.specs.declared.states.State.{State}
 pub use Rattle.walks.proofs.AcceptingLaws.{AcceptsAll-refused, BoundsAll-number}
-pub use Rattle.walks.specs.Accepting.{AcceptsAll, BoundsAll}
+pub use Rattle.walks.specs.Accepting.{AcceptsAll}
 pub use Rattle.walks.specs.Explained.{IsLed, IsTurnBefore, ComesThrough, Explains}
 pub use Rattle.walks.specs.Forgetting.{Precision, Exact, Coarse}
 pub use Rattle.walks.specs.Refused.{StopsAt, StopsIn, IsRefused, precision_of}

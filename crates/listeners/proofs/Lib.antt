@@ -2,4 +2,3 @@ mod Common
 pub mod Stops
 pub mod Turning
 pub mod Following
-pub mod ListingLaws

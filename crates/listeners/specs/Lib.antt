@@ -1,5 +1,4 @@
 pub mod Followed
 pub mod Limited
-pub mod Listed
 pub mod Rejections
 pub mod Turns

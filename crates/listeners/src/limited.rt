@@ -12,12 +12,11 @@ ghost use Rattle.listeners.specs.declared.limited.NoBound.TheVariants as NoBound
 
 use crate::rejections::{Rejected, Unverified, verify_followed};
 use bounds::Verified;
-use explorer::{Kept, Listener};
+use explorer::{Kept, Listener, Nobody};
 use image::Image;
 use isa_model::MAX_EXPLORED;
 use stack_state::State;
 use std::alloc::Global;
-use std::convert::Infallible;
 
 /// Says why a search up to a limit has no bound.
 #[derive(Drop)]
@@ -26,36 +25,6 @@ pub enum NoBound {
     Refused(Rejected),
     /// More instructions than the limit would have to be explored.
     Limit,
-}
-
-/// Stops no search.
-#[derive(Clone, Copy, Drop)]
-struct Unlimited;
-
-impl Listener for Unlimited {
-    type Stop = Infallible;
-
-    ghost follows = { λ _ _ _ _ _. Unit {0} };
-
-    #[inline(always)]
-    fn arrives(&mut self, _state: &State) -> Result<(), Infallible> {
-        Ok(())
-    }
-
-    #[inline(always)]
-    fn covered(&mut self, _index: usize, _number: u32) -> Result<(), Infallible> {
-        Ok(())
-    }
-
-    #[inline(always)]
-    fn finished(&mut self, _number: u32) -> Result<(), Infallible> {
-        Ok(())
-    }
-
-    #[inline(always)]
-    fn begins_anew(&mut self) -> Result<(), Infallible> {
-        Ok(())
-    }
 }
 
 /// The limit is reached.
@@ -117,7 +86,7 @@ pub fn verify_within(alloc: Global, image: Image, limit: u32) -> Result<Verified
     ensures whole { max_explored ≤ limit → result ≢ Err NoBound.Limit }
 {
     if limit >= MAX_EXPLORED {
-        return match verify_followed(alloc, image, &mut Unlimited) {
+        return match verify_followed(alloc, image, &mut Nobody) {
             Ok(verified) => Ok(verified),
             Err(Unverified::Rejected(rejected)) => Err(NoBound::Refused(rejected)),
             Err(Unverified::Stopped(never)) => match never {},

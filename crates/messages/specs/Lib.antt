@@ -2,8 +2,10 @@ pub mod Causes
 pub mod Entries
 pub mod Faults
 pub mod Forms
+pub mod InvalidRuns
 pub mod Lines
 pub mod Messages
 pub mod Names
 pub mod Reasons
+pub mod Stopped
 pub mod Texts

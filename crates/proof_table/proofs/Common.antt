@@ -11,7 +11,6 @@ pub use Rattle.exact_io.specs.Transfers.{AppendsBeginning}
 pub use Rattle.image.proofs.Writing.{on_err}
 pub use Rattle.image.specs.Images.{IsImage}
 pub use Rattle.isa_model.specs.Code.Instructions.{Program}
-pub use Rattle.listeners.specs.Listed.{OfStart}
 pub use Rattle.stack_state.specs.Slots.{frame_slots}
 pub use Rattle.stack_state.specs.Starts.{first_registers}
 unfoldable pub use Rattle.stack_state.specs.Starts.{start}
@@ -24,6 +23,7 @@ pub use Rattle.table_entries.specs.Reading.{Read, then_read, joined, sized}
 unfoldable pub use Rattle.table_entries.specs.Reading.{many}
 pub use Rattle.walks.specs.Counts.{HasNumber}
 pub use Rattle.proof_table.specs.Fitting.{EntryFits, KindFits, StackSlotFits, FrameFits, stack_slot_said, frame_said, entry_said, WideFits, LowFits, ScalarFits, StackFits, PacketFits, MapFits, ValueFits, NullFits}
+pub use Rattle.proof_table.specs.Listed.{OfStart}
 pub use Rattle.proof_table.specs.Spelling.{named_bytes, signed_4, signed_8, scalar_bytes, head_bytes, table_bytes}
 unfoldable pub use Rattle.proof_table.specs.Spelling.{frame_bytes, entry_bytes, kind_bytes, stack_slot_bytes, bits_bytes, wide_bytes, low_bytes, stack_bytes, packet_bytes, value_bytes, null_bytes}
 pub use Rattle.proof_table.specs.Writing.{IsForTable, IsTableSize, GainsTable, GainsTableOf, BeginsTable, GainsEntries, BeginsEntries, SpellsEntry, IsNumberedAs, OfFirst, entry_for, entries_for, table_length}

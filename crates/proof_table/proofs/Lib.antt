@@ -4,4 +4,5 @@ pub mod KindLaws
 pub mod FrameLaws
 pub mod EntryLaws
 pub mod TableLaws
+pub mod ListingLaws
 pub mod WritingLaws

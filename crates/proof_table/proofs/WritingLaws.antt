@@ -10,7 +10,7 @@ use Rattle.std.proofs.KnownBytes.{Appends-nil, Appends-trans}
 use Rattle.exact_io.proofs.TransferLaws.{AppendsBeginning-first, AppendsBeginning-second}
 use Rattle.image.proofs.ImageLaws.{fetch-zero}
 use Rattle.stack_state.specs.declared.states.State.{State}
-use Rattle.listeners.specs.declared.listing.ExploredInsn.{ExploredInsn}
+use Rattle.proof_table.specs.declared.listing.ExploredInsn.{ExploredInsn}
 use Rattle.isa_model.specs.declared.limits.TheConstants.{MAX_EXPLORED}
 use Rattle.table_entries.specs.Tables.{table_read}
 use Rattle.proof_table.proofs.FittingLaws.{entry_bytes-said}

@@ -7,8 +7,8 @@ use Rattle.isa_model.specs.declared.limits.TheConstants.{MAX_EXPLORED}
 use Rattle.exact_io.specs.Transfers.{AppendsBeginning}
 use Rattle.stack_state.specs.Starts.{start}
 use Rattle.walks.specs.Counts.{HasNumber}
-use Rattle.listeners.specs.declared.listing.ExploredInsn.{ExploredInsn}
-use Rattle.listeners.specs.Listed.{OfStart}
+use Rattle.proof_table.specs.declared.listing.ExploredInsn.{ExploredInsn}
+use Rattle.proof_table.specs.Listed.{OfStart}
 use Rattle.table_entries.specs.declared.errors.WriteTableError.{WriteTableError}
 use Rattle.table_entries.specs.declared.errors.WriteTableError.TheVariants.{Memory, Explored, Writer}
 use Rattle.table_entries.specs.Entries.{Entry}

@@ -9,6 +9,7 @@ ghost use Rattle.proof_table.specs.Fitting.{entry_said};
 
 use crate::entries::spell_entry;
 use crate::fitting::entry_fits;
+use crate::listing::{Explored, ExploredInsn, explore};
 use bounds::Verified;
 use byteorder::{ByteOrder, LittleEndian};
 use control_flow::FlowError;
@@ -16,7 +17,6 @@ use exact_io::write_bytes;
 use explorer::Refusal;
 use image::Image;
 use isa_model::MAX_EXPLORED;
-use listeners::{Explored, ExploredInsn, explore};
 use stack_state::State;
 use std::alloc::Global;
 use std::io::Write;

@@ -1,7 +1,7 @@
 //! Proof tables that a survey makes and writes.
 
 ghost use Rattle.std.specs.Prelude.{◌≡◌, IfSome, None, Ok};
-ghost use Rattle.listeners.specs.declared.listing.ExploredInsn.{ExploredInsn};
+ghost use Rattle.proof_table.specs.declared.listing.ExploredInsn.{ExploredInsn};
 ghost use Rattle.proof_table.specs.Writing.{IsForTable};
 ghost use Rattle.surveys.specs.Tallies.{searched};
 ghost use Rattle.survey_commands.specs.Tables.{HasTable, SaysTableSize};
@@ -9,9 +9,8 @@ ghost use Rattle.survey_commands.specs.Tables.{HasTable, SaysTableSize};
 use crate::failures::{SurveyError, large_line};
 use bounds::Verified;
 use exact_io::{PromptWriter, open_replaced, write_bytes};
-use listeners::Explored;
 use proof_table::{
-    WriteTableError, explore_again, most_bytes, recheck, table_size, write_explored,
+    Explored, WriteTableError, explore_again, most_bytes, recheck, table_size, write_explored,
 };
 use std::alloc::{AllocError, Global};
 use std::io::Write;

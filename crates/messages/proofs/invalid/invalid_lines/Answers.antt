@@ -1,7 +1,9 @@
-use Rattle.commands.proofs.Common.{◌≡◌, ℕ, List, ◌++◌, Result, Ok, Err, String, IfOk, refl, ap, ◌∙◌, codes, decimal, string_bytes, Global, answer_line, linux_line, invalid_lines, no_action_line, others_words}
+use Rattle.messages.proofs.Common.{◌≡◌, ℕ, List, ◌++◌, Result, Ok, Err, String, IfOk, refl, ap, ◌∙◌, codes, decimal, string_bytes, no_action_line, others_words}
+use Rattle.std.specs.declared.alloc.Global.{Global}
+use Rattle.messages.specs.InvalidRuns.{answer_line, linux_line, invalid_lines}
 use Rattle.std.specs.declared.alloc.AllocError.{AllocError}
 use Rattle.host.specs.declared.invalid.InvalidFrame.{InvalidFrame}
-use Rattle.commands.proofs.invalid.invalid_lines.Goals as goal
+use Rattle.messages.proofs.invalid.invalid_lines.Goals as goal
 
 abbrev joined : ℕ → List ℕ → List ℕ → List ℕ → List ℕ → List ℕ
 joined frame others answer hint linux =

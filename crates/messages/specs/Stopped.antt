@@ -15,8 +15,6 @@ use Rattle.host.specs.declared.stops.FrameStop.{FrameStop}
 use Rattle.host.specs.declared.stops.Stops.{Stops}
 use Rattle.host.specs.declared.traced.Traced.{Traced}
 use Rattle.host.specs.Stops.{Noted, noted_of}
-use Rattle.commands.specs.declared.outcomes.TaskOutcome.{TaskOutcome}
-use Rattle.commands.specs.declared.outcomes.TaskOutcome.TheVariants.{Done, Faulted}
 
 -- the instruction that begins at the slot, and the values of the registers that it reads
 abbrev pub insn_lines : Option Insn → List Value → List ℕ
@@ -92,9 +90,3 @@ TellsStops stops why = (stops.count ≡ 0 → why ≡ None)
 abbrev pub TellsStopsOf : Result Traced HostError → Option (String Global) → Type 0
 TellsStopsOf (Ok traced) why = TellsStops traced.stops why
 TellsStopsOf (Err error) why = why ≡ None
-
--- the message is written if the report was completed and all output was flushed
-abbrev pub at_end : TaskOutcome → Option (String Global) → Option (String Global)
-at_end Done why = why
-at_end (Faulted fault form) why = why
-at_end outcome why = None

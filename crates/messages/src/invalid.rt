@@ -2,7 +2,7 @@
 
 ghost use Rattle.std.specs.Prelude.{◌≡◌, ◌++◌, codes, decimal, IfOk};
 ghost use Rattle.std.specs.String.{string_bytes};
-ghost use Rattle.commands.specs.InvalidRuns.{answer_line, invalid_lines, TellsInvalidOf};
+ghost use Rattle.messages.specs.InvalidRuns.{answer_line, invalid_lines, TellsInvalidOf};
 
 use super::stopped::{NO_ACTION, others_words};
 use host::{HostError, InvalidFrame, Ran};

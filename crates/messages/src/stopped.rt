@@ -4,9 +4,8 @@ ghost use Rattle.std.specs.Prelude.{◌≡◌, ◌<◌, ◌^◌, None, IfOk, IfS
 ghost use Rattle.std.specs.String.{string_bytes};
 ghost use Rattle.isa_model.specs.Text.CanonicalText as canonical;
 ghost use Rattle.host.specs.Stops.{noted_of};
-ghost use Rattle.commands.specs.Stopped.{insn_lines, trap_line, end_line, others_words, stop_line, first_lines, told_at, more_line, stop_lines, TellsStopsOf, at_end};
+ghost use Rattle.messages.specs.Stopped.{insn_lines, trap_line, end_line, others_words, stop_line, first_lines, told_at, more_line, stop_lines, TellsStopsOf};
 
-use super::outcomes::TaskOutcome;
 use disassembler::write_insn;
 use explanations::value_lines;
 use host::{FrameStop, HostError, Stops, Traced};
@@ -174,16 +173,5 @@ pub fn lines_of_stops(alloc: Global, ended: &Result<Traced, HostError>) -> Optio
     match ended {
         Ok(traced) => known_of(alloc, &traced.stops),
         Err(_) => None,
-    }
-}
-
-/// The message after a task that runs or traces a program, by how the task ended: it is written if
-/// all of the output was flushed.
-pub fn at_end(outcome: TaskOutcome<'_>, why: Option<String>) -> Option<String>
-    ensures { result ≡ at_end outcome.entry why }
-{
-    match outcome {
-        TaskOutcome::Done | TaskOutcome::Faulted(_, _) => why,
-        _ => None,
     }
 }

@@ -10,7 +10,7 @@ ghost use Rattle.walks.specs.Refused.{IsRefused};
 ghost use Rattle.walks.specs.Accepting.{AcceptsAll, BoundsAll};
 ghost use Rattle.walks.specs.Counts.{HasNumber};
 ghost use Rattle.explorer.specs.Listening.{IfRefused, IfStopped};
-ghost use Rattle.listeners.specs.Listed.{OfStart};
+ghost use Rattle.proof_table.specs.Listed.{OfStart};
 
 use arrayvec::ArrayVec;
 use explorer::{Halt, Kept, Listener, Searched, StoredState, search_with};
@@ -45,7 +45,7 @@ pub struct Explored {
 
 impl Model for Explored {
     ghost use Rattle.std.specs.Prelude.{List};
-    ghost use Rattle.listeners.specs.declared.listing.ExploredInsn.{ExploredInsn};
+    ghost use Rattle.proof_table.specs.declared.listing.ExploredInsn.{ExploredInsn};
 
     ghost Value = { List ExploredInsn };
 
@@ -241,8 +241,8 @@ fn refusal_of(halt: Halt<AllocError>) -> (Refusal, usize)
 }
 
 /// Explores a program as `verify` does. Returns all that was explored by the search that accepted
-/// it, or why and at which slot the
-/// program is refused. The number of the first instruction is the bound.
+/// it, or why and at which slot the program is refused. The number of the first instruction is the
+/// bound.
 pub fn explore(alloc: Global, image: &Image) -> Result<Explored, (Refusal, usize)>
     ensures verified { IfOk result (λ insns. OfStart insns (λ n. IsVerified (record {
       program = image.now;

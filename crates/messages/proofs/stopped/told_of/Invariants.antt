@@ -1,5 +1,5 @@
-use Rattle.commands.proofs.Common.{◌≡◌, ◌-◌, ◌*◌, ◌^◌, ◌≤◌, take, sum_by, told_at}
-use Rattle.commands.proofs.stopped.told_of.Given as goal
+use Rattle.messages.proofs.Common.{◌≡◌, ◌-◌, ◌*◌, ◌^◌, ◌≤◌, take, sum_by, told_at}
+use Rattle.messages.proofs.stopped.told_of.Given as goal
 
 abbrev pub invariant-loop-found : goal.invariant-loop-found
 invariant-loop-found l =

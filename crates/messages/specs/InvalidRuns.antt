@@ -7,7 +7,7 @@ use Rattle.std.specs.String.{string_bytes}
 use Rattle.host.specs.declared.errors.HostError.{HostError}
 use Rattle.host.specs.declared.invalid.InvalidFrame.{InvalidFrame}
 use Rattle.host.specs.declared.noting.Ran.{Ran}
-use Rattle.commands.specs.Stopped.{no_action_line, others_words}
+use Rattle.messages.specs.Stopped.{no_action_line, others_words}
 
 -- what a frame's run answered, as a signed number
 abbrev pub answer_line : ℕ → List ℕ

@@ -1,5 +1,5 @@
-use Rattle.commands.proofs.Common.{◌≡◌, ◌++◌, drop, string_bytes, first_lines}
-use Rattle.commands.proofs.stopped.first_lines.Given as goal
+use Rattle.messages.proofs.Common.{◌≡◌, ◌++◌, drop, string_bytes, first_lines}
+use Rattle.messages.proofs.stopped.first_lines.Given as goal
 
 abbrev pub invariant-loop-index : goal.invariant-loop-index
 invariant-loop-index l =

@@ -1,9 +1,10 @@
-use Rattle.listeners.proofs.Common.{IsProgram-IsImage, BoundsAll, AcceptsAll-refused, BoundsAll-number}
-use Rattle.stack_state.specs.Starts.{start}
+use Rattle.proof_table.proofs.Common.{start, HasNumber}
 use Rattle.bounds.specs.Bounds.{IsVerified}
-use Rattle.walks.specs.Counts.{HasNumber}
-use Rattle.listeners.proofs.ListingLaws.{OfStart-number}
-use Rattle.listeners.proofs.listing.explore.Goals as goal
+use Rattle.image.proofs.Programs.{IsProgram-IsImage}
+use Rattle.walks.proofs.AcceptingLaws.{AcceptsAll-refused, BoundsAll-number}
+use Rattle.walks.specs.Accepting.{BoundsAll}
+use Rattle.proof_table.proofs.ListingLaws.{OfStart-number}
+use Rattle.proof_table.proofs.listing.explore.Goals as goal
 
 pub returns-in-Ok-clause-verified : goal.returns-in-Ok-clause-verified
 returns-in-Ok-clause-verified c =
