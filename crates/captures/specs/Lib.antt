@@ -20,3 +20,4 @@ pub mod Texts
 pub mod CopyCounts
 pub mod Placing
 pub mod Copies
+pub mod Losing

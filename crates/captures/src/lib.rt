@@ -22,6 +22,7 @@ mod interfaces;
 mod kinds;
 mod lending;
 mod links;
+mod losing;
 mod options;
 mod packet_bytes;
 mod packets;
@@ -48,6 +49,7 @@ pub use forms::{
 pub use frame_forms::{CopyCounts, FrameForm, StreamEnd};
 pub use kinds::{CaptureForm, CaptureKind, LostCounts};
 pub use lending::Lent;
+pub use losing::{Loss, Lost, Unsaid, unsaid_text};
 pub use packets::{CaptureDamage, CapturedHead, PacketEnd, PacketFault};
 pub use pieces::put;
 pub use placing::Placing;

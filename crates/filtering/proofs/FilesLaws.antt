@@ -12,8 +12,7 @@ use Rattle.commands.specs.Judging.{IsBoundOf, RefusesProgram}
 use Rattle.filtering.specs.declared.ready.Ready.{Ready}
 use Rattle.filtering.specs.declared.ready.Ready.TheVariants.{Bounded as Bound, Tested}
 use Rattle.filtering.specs.Filling.{BeginsNot, BeginsWith}
-use Rattle.filtering.specs.Finishing.{WritesEnd}
-use Rattle.filtering.specs.Losing.{WithUnsaid}
+use Rattle.filtering.specs.Finishing.{WritesEnd, WithUnsaid}
 use Rattle.filtering.specs.Opening.{IsOpenFailure, output_name}
 use Rattle.filtering.specs.Running.{program_of}
 

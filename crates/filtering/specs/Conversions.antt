@@ -26,12 +26,12 @@ use Rattle.filtering.specs.declared.conversions.Conversion.{Conversion}
 use Rattle.filtering.specs.declared.conversions.Conversion.TheVariants.{Ended, Unnamed}
 use Rattle.filtering.specs.declared.frame_kinds.WrittenForm.{WrittenForm}
 use Rattle.filtering.specs.declared.frame_kinds.WrittenForm.TheVariants.{Plain, Capture}
-use Rattle.filtering.specs.declared.losing.Loss.{Loss}
+use Rattle.captures.specs.declared.losing.Loss.{Loss}
 use Rattle.filtering.specs.Copying.{Copies, CopiesSome}
 use Rattle.filtering.specs.FrameKinds.{kind_of, written_as}
-use Rattle.filtering.specs.declared.losing.Lost.{Lost}
-use Rattle.filtering.specs.declared.losing.Lost.TheVariants as lost
-use Rattle.filtering.specs.Losing.{TellsUnsaid}
+use Rattle.captures.specs.declared.losing.Lost.{Lost}
+use Rattle.captures.specs.declared.losing.Lost.TheVariants as lost
+use Rattle.captures.specs.Losing.{TellsUnsaid}
 use Rattle.filtering.specs.Opening.{IsToldForm, frames_path, is_capture, output_name}
 
 -- ---- how the task ends

@@ -21,7 +21,7 @@ use Rattle.filtering.specs.declared.ready.Ready.TheVariants.{Bounded, Tested}
 use Rattle.filtering.specs.Delivering.{Filters}
 use Rattle.filtering.specs.Filling.{BeginsNot, BeginsWith}
 use Rattle.filtering.specs.Finishing.{WritesEnd}
-use Rattle.filtering.specs.Losing.{WithUnsaid}
+use Rattle.filtering.specs.Finishing.{WithUnsaid}
 use Rattle.filtering.specs.Opening.{IsOpenFailure, output_name}
 use Rattle.filtering.specs.Running.{program_of}
 

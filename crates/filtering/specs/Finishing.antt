@@ -14,6 +14,9 @@ use Rattle.commands.specs.Saying.{LacksMemory, Says}
 use Rattle.commands.specs.Statuses.{IsWriteFailure}
 use Rattle.commands.specs.Streams.{outcome_at}
 use Rattle.host.specs.CountLines.{counts_text}
+use Rattle.captures.specs.Losing.{TellsUnsaid}
+use Rattle.captures.specs.declared.losing.Unsaid.{Unsaid}
+use Rattle.commands.specs.declared.endings.Ending.{Ending}
 
 -- the lines say the counts, and the task ends as the stream did; or memory ran out
 abbrev pub SaysCounts : Totals → Tally → FileForm → Option (List ℕ) → Option (List ℕ)
@@ -41,3 +44,8 @@ WritesEnd counted form maps_out old new result =
     (StoresWanted (rows_of counted.traced.maps) (contents_of counted.traced.maps) maps_out
     × SaysCounts (totals_of counted.counts) counted.traced.tally form old new result)
     ⊎ StoresNot maps_out old new result
+
+-- the property holds of the task's outcome, and its message has at its end what is not kept of the
+-- frames
+abbrev pub WithUnsaid : (TaskOutcome → Type 0) → Ending → Type 0
+WithUnsaid P ending = P ending.outcome × ((unsaid : Unsaid) × TellsUnsaid unsaid ending.why)

@@ -3,7 +3,6 @@ pub mod Running
 pub mod Delivering
 pub mod Opening
 pub mod Finishing
-pub mod Losing
 pub mod Capturing
 pub mod Files
 pub mod Copying

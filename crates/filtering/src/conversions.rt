@@ -8,10 +8,12 @@ ghost use Rattle.filtering.specs.FrameKinds.{written_as};
 ghost use Rattle.filtering.specs.Conversions.{CapturesBegun, CapturesFrom, ConvertsBegun, ConvertsFiles, CopiesBegun, CopiesFrom, PrintsBegun, WritesBegun, copied_by, outcome_of, placing_of};
 
 use super::copying::{copied, copied_to_capture};
+use super::finishing::ending_with;
 use super::frame_kinds::{WrittenForm, kind_of, written_as};
-use super::losing::{Lost, Unsaid, ending_with};
 use super::opening::{frames_of, frames_path, is_dash, open_sent, output_name, told_form};
-use captures::{CaptureKind, FrameForm, Lent, Placing, Reasons, StreamEnd, Unfollowed};
+use captures::{
+    CaptureKind, FrameForm, Lent, Lost, Placing, Reasons, StreamEnd, Unfollowed, Unsaid,
+};
 use commands::{Ending, TaskOutcome, begin_frames, keep_apart, open_frames};
 use exact_io::PromptWriter;
 use frames::Source;

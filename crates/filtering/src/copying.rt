@@ -6,10 +6,10 @@ ghost use Rattle.exact_io.specs.Waiting.{behind, held};
 ghost use Rattle.captures.specs.declared.frame_forms.FrameForm.TheVariants.{Records};
 ghost use Rattle.filtering.specs.Copying.{CapturesAll, Copies, CopiesSome, DeliversCopy, all_frames};
 
-use super::losing::Loss;
 use super::sending::SentOutput;
 use captures::{
-    CaptureForm, CaptureKind, CaptureWriter, Followed, FrameForm, Placing, StreamEnd, copy_frames,
+    CaptureForm, CaptureKind, CaptureWriter, Followed, FrameForm, Loss, Placing, StreamEnd,
+    copy_frames,
 };
 use commands::TaskOutcome;
 use exact_io::PromptWriter;

@@ -9,16 +9,18 @@ ghost use Rattle.words.specs.FilterRequests.{filter_request_of};
 ghost use Rattle.filtering.specs.Running.{program_of};
 ghost use Rattle.filtering.specs.Capturing.{HasCaptured, passing_frames};
 ghost use Rattle.filtering.specs.Files.{FiltersBy, FiltersFiles, FiltersOn, FiltersSome, RunsWanted};
-ghost use Rattle.filtering.specs.Losing.{WithUnsaid};
+ghost use Rattle.filtering.specs.Finishing.{WithUnsaid};
 
 use super::delivering::{Names, run_reported, run_unreported};
 use super::filling::maps_begun;
-use super::finishing::finish;
-use super::losing::{Loss, Lost, Unsaid, ending_with};
+use super::finishing::{ending_with, finish};
 use super::opening::{Named, Opened, open_all, output_name};
 use super::ready::Ready;
 use super::sending::SentOutput;
-use captures::{CaptureForm, CaptureKind, CaptureWriter, Followed, FramesOf, Lent, Unfollowed};
+use captures::{
+    CaptureForm, CaptureKind, CaptureWriter, Followed, FramesOf, Lent, Loss, Lost, Unfollowed,
+    Unsaid,
+};
 use commands::{Ending, TaskOutcome, judge, load_image, load_shown};
 use frames::Source;
 use host::Counted;

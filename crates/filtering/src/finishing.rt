@@ -4,11 +4,13 @@ ghost use Rattle.std.specs.Prelude.{◌≡◌, false, option_map};
 ghost use Rattle.host.specs.Counts.{totals_of};
 ghost use Rattle.commands.specs.Statuses.{is_silent};
 ghost use Rattle.commands.specs.Streams.{outcome_at};
+ghost use Rattle.captures.specs.Losing.{TellsUnsaid};
 ghost use Rattle.filtering.specs.Finishing.{WritesEnd, SaysCounts};
 
 use super::delivering::store_maps;
 use super::opening::Named;
-use commands::{TaskOutcome, say_made};
+use captures::{Unsaid, unsaid_text};
+use commands::{Ending, TaskOutcome, say_made};
 use host::{Counted, FrameCounts, Tally, counts_text};
 use messages::FileForm;
 use std::alloc::Global;
@@ -64,5 +66,17 @@ pub fn finish<'a, W1: Write + Drop, W2: Write>(
             Err(outcome) => outcome,
         },
         None => say_counts(alloc, &counts, &tally, form, lines),
+    }
+}
+
+/// How a task ended, with the lines of where a capture is damaged and of what is not kept of the
+/// frames, if there is memory for them.
+pub fn ending_with<'a>(alloc: Global, outcome: TaskOutcome<'a>, unsaid: Unsaid) -> Ending<'a>
+    ensures outcome { result.outcome ≡ outcome.entry }
+    ensures why { TellsUnsaid unsaid result.why }
+{
+    Ending {
+        outcome,
+        why: unsaid_text(alloc, unsaid).ok(),
     }
 }

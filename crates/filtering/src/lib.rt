@@ -10,7 +10,6 @@ mod files;
 mod filling;
 mod finishing;
 mod frame_kinds;
-mod losing;
 mod opening;
 mod ready;
 mod sending;

@@ -3,11 +3,9 @@
 use Rattle.std.specs.Prelude.{◌≡◌, ℕ, ◌==◌, List, [], ◌++◌, Option, Some, None, String, IfSome, codes, decimal, if◌then◌else◌}
 use Rattle.std.specs.declared.alloc.Global.{Global}
 use Rattle.std.specs.String.{string_bytes}
-use Rattle.commands.specs.declared.outcomes.TaskOutcome.{TaskOutcome}
-use Rattle.commands.specs.declared.endings.Ending.{Ending}
-use Rattle.filtering.specs.declared.losing.Lost.{Lost}
-use Rattle.filtering.specs.declared.losing.Lost.TheVariants.{Nothing, Capture, Stream}
-use Rattle.filtering.specs.declared.losing.Unsaid.{Unsaid}
+use Rattle.captures.specs.declared.losing.Lost.{Lost}
+use Rattle.captures.specs.declared.losing.Lost.TheVariants.{Nothing, Capture, Stream}
+use Rattle.captures.specs.declared.losing.Unsaid.{Unsaid}
 use Rattle.captures.specs.declared.counts.CaptureCounts.{CaptureCounts}
 use Rattle.captures.specs.declared.packets.CaptureDamage.{CaptureDamage}
 use Rattle.captures.specs.declared.packets.PacketFault.{PacketFault}
@@ -86,8 +84,3 @@ unsaid_text unsaid =
 -- the lines at the end of the message, if there was memory for them
 abbrev pub TellsUnsaid : Unsaid → Option (String Global) → Type 0
 TellsUnsaid unsaid why = IfSome why (λ text. string_bytes text ≡ unsaid_text unsaid)
-
--- the property holds of the task's outcome, and its message has at its end what is not kept of the
--- frames
-abbrev pub WithUnsaid : (TaskOutcome → Type 0) → Ending → Type 0
-WithUnsaid P ending = P ending.outcome × ((unsaid : Unsaid) × TellsUnsaid unsaid ending.why)

@@ -3,12 +3,13 @@
 
 ghost use Rattle.std.specs.Prelude.{◌≡◌, IfOk};
 ghost use Rattle.std.specs.String.{string_bytes};
-ghost use Rattle.filtering.specs.Losing.{TellsUnsaid, captured_text, count_line, damage_text, damage_words, interface_words, left_text, lost_line, lost_of, lost_text, unsaid_text};
+ghost use Rattle.captures.specs.Losing.{captured_text, count_line, damage_text, damage_words, interface_words, left_text, lost_line, lost_of, lost_text, unsaid_text};
 
-use captures::{
-    CaptureCounts, CaptureDamage, CaptureKind, CopyCounts, FramesOf, LostCounts, PacketFault,
-};
-use commands::{Ending, TaskOutcome};
+use super::choices::FramesOf;
+use super::counts::CaptureCounts;
+use super::frame_forms::CopyCounts;
+use super::kinds::{CaptureKind, LostCounts};
+use super::packets::{CaptureDamage, PacketFault};
 use std::alloc::{AllocError, Global};
 
 // A line with these words and a count, unless it is 0.
@@ -169,24 +170,12 @@ impl Unsaid {
     }
 }
 
-// The lines of where a capture is damaged, and of what is not kept.
-fn unsaid_text(alloc: Global, unsaid: Unsaid) -> Result<String, AllocError>
+/// The lines of where a capture is damaged, and of what is not kept.
+pub fn unsaid_text(alloc: Global, unsaid: Unsaid) -> Result<String, AllocError>
     ensures { IfOk result (λ text. string_bytes text ≡ unsaid_text unsaid) }
 {
     let damage = damage_text(alloc, unsaid.damage)?;
     let captured = captured_text(alloc, unsaid.captured)?;
     let lost = lost_of(alloc, unsaid.lost)?;
     format!(in alloc; "{damage}{captured}{lost}")
-}
-
-/// How a task ended, with the lines of where a capture is damaged and of what is not kept of the
-/// frames, if there is memory for them.
-pub fn ending_with<'a>(alloc: Global, outcome: TaskOutcome<'a>, unsaid: Unsaid) -> Ending<'a>
-    ensures outcome { result.outcome ≡ outcome.entry }
-    ensures why { TellsUnsaid unsaid result.why }
-{
-    Ending {
-        outcome,
-        why: unsaid_text(alloc, unsaid).ok(),
-    }
 }
