@@ -7,6 +7,7 @@ ghost use Rattle.commands.specs.Statuses.{status_of, is_unsaid};
 ghost use Rattle.commands.specs.Saying.{AppendsPart};
 ghost use Rattle.commands.specs.Known.{ShowsKept, outcome_text, told_of};
 ghost use Rattle.commands.specs.Flushing.{Flushes};
+ghost use Rattle.commands.specs.Streams.{at_end};
 
 use super::outcomes::TaskOutcome;
 use assembler::{AsmError, shown};
@@ -34,6 +35,19 @@ impl<'a> Ending<'a> {
         ensures why { result.why ≡ None }
     {
         Ending { outcome, why: None }
+    }
+
+    /// A task that runs or traces a program on a stream ended with this outcome. The lines on its
+    /// frames are told if all of the output was flushed.
+    pub fn after_stream(outcome: TaskOutcome<'a>, lines: Option<String>) -> Self
+        ensures outcome { result.outcome ≡ outcome.entry }
+        ensures why { result.why ≡ at_end outcome.entry lines }
+    {
+        let why = match outcome {
+            TaskOutcome::Done | TaskOutcome::Faulted(_, _) => lines,
+            _ => None,
+        };
+        Ending { outcome, why }
     }
 
     /// Returns how a task ended for which this text was refused with an error in its bytes that

@@ -1,7 +1,7 @@
 //! Programs that are run or traced on a frame stream, and how the task ends then.
 
 ghost use Rattle.exact_io.specs.Waiting.{behind, failure_of, held};
-ghost use Rattle.commands.specs.Streams.{EndsTask, RunsAccepted, Traces, at_end};
+ghost use Rattle.commands.specs.Streams.{EndsTask, RunsAccepted, Traces};
 
 use super::endings::Ending;
 use super::outcomes::TaskOutcome;
@@ -44,17 +44,6 @@ pub fn outcome_of<'a, W: Write + Drop>(
     }
 }
 
-// The message after a task that runs or traces a program, by how the task ended: it is written if
-// all of the output was flushed.
-fn at_end(outcome: TaskOutcome<'_>, why: Option<String>) -> Option<String>
-    ensures { result ≡ at_end outcome.entry why }
-{
-    match outcome {
-        TaskOutcome::Done | TaskOutcome::Faulted(_, _) => why,
-        _ => None,
-    }
-}
-
 /// Runs an accepted program on a frame stream of this file form. The report is written to `out` as
 /// it is made, and the frames out through a buffer to a file that was opened by this path. If the
 /// report was completed, `why` says which packet frames' runs ended with INVALID.
@@ -76,10 +65,7 @@ pub fn run_stream<'a, R: Source + Drop, W1: Write, W2: Write + Drop>(
     let ended = run_noting_invalid(alloc, verified, source, out, file);
     let invalid = lines_of_invalid(alloc, &ended);
     let outcome = outcome_of(path, form, Ran::tally_in(ended), file);
-    Ending {
-        outcome,
-        why: at_end(outcome, invalid),
-    }
+    Ending::after_stream(outcome, invalid)
 }
 
 /// Runs a program on a frame stream of this file form, with checks. The checked report is written
@@ -105,8 +91,5 @@ pub fn trace_stream<'a, R: Source + Drop, W1: Write, W2: Write + Drop>(
     let ended = run_checked(alloc, image, limit.steps, source, out, file);
     let lines = lines_of_stops(alloc, &ended);
     let outcome = outcome_of(path, form, tally_in(ended), file);
-    Ending {
-        outcome,
-        why: at_end(outcome, lines),
-    }
+    Ending::after_stream(outcome, lines)
 }
