@@ -1,5 +1,5 @@
 -- What standard error gets before the message.
-use Rattle.commands.proofs.Common.{◌≡◌, ℕ, List, Option, Some, None, refl, inl, inr, ◌⊎◌, Keeps, Program, TaskRequest, TableFiles, Trace, Run, Verify, Prove, Recheck, Assemble, Disassemble, Explain, asked, WriteTableError, TaskOutcome, Ending, Says, EndsUnwritten, IsStoreFailure, IsBeginningOf, SaysSize, GainsSaid, BeginsSaid, StoresTable, ProvesTold, Serves, ServesTold, TellsBefore}
+use Rattle.commands.proofs.Common.{◌≡◌, ℕ, List, Option, Some, refl, inl, inr, ◌⊎◌, Keeps, Program, TaskRequest, TableFiles, Trace, Run, Verify, Prove, Recheck, Assemble, Disassemble, Explain, asked, WriteTableError, TaskOutcome, Ending, Says, EndsUnwritten, IsStoreFailure, IsBeginningOf, SaysSize, GainsSaid, BeginsSaid, StoresTable, ProvesTold, Serves, ServesTold, TellsBefore}
 use Rattle.table_entries.specs.Entries.{Entry}
 use Rattle.proof_table.specs.Spelling.{table_bytes}
 use Rattle.proof_table.specs.Writing.{GainsTableOf, IsTableSize, table_length}

@@ -1,4 +1,4 @@
-use Rattle.messages.proofs.Common.{◌≡◌, ◌++◌, ◌∙◌, ap, codes, List, ℕ, on_err, cause_line, shown_name, dash_line}
+use Rattle.messages.proofs.Common.{◌++◌, ◌∙◌, ap, codes, List, ℕ, on_err, cause_line, shown_name, dash_line}
 use Rattle.messages.proofs.Written.{ok_text, err_text, ok_behind, err_behind, first_failed}
 use Rattle.messages.proofs.causes.say_unread.Goals as goal
 

@@ -1,4 +1,4 @@
-use Rattle.proof_table.proofs.Common.{◌≡◌, ◌++◌, ◌-◌, ◌^◌, ◌+◌, List, ℕ, Some, arith, length, length-append, refl, sym, subst, min, Program, head_bytes, IsForTable, IsTableSize, GainsEntries}
+use Rattle.proof_table.proofs.Common.{◌≡◌, ◌++◌, ◌-◌, ◌+◌, Some, arith, length, length-append, refl, sym, subst, Program, head_bytes, IsForTable, IsTableSize, GainsEntries}
 use Rattle.proof_table.proofs.WritingLaws.{GainsEntries-none, GainsEntries-more, IsTableSize-entries, table_length-entries}
 use Rattle.proof_table.proofs.tables.table_size.Goals as goal
 
