@@ -106,6 +106,26 @@ fn steps_json(alloc: Global, hits: &StreamHits) -> Result<String, AllocError> {
     }
 }
 
+/// The members on the frames.
+fn frames_json(alloc: Global, path: &str, hits: &StreamHits) -> Result<String, AllocError> {
+    let path = quoted(alloc, path)?;
+    let (ran, skipped) = (hits.ran, hits.skipped);
+    let fault = fault_json(alloc, hits.finish)?;
+    format!(in alloc; "\"image\":{path},\"frames\":{ran},\"reasons\":{skipped},\"fault\":{fault}")
+}
+
+/// The members on the steps and the ends of the runs.
+fn runs_json(
+    alloc: Global,
+    hits: &StreamHits,
+    verdict: &BoundVerdict,
+) -> Result<String, AllocError> {
+    let verdict = verdict_json(alloc, verdict)?;
+    let steps = steps_json(alloc, hits)?;
+    let actions = ends_json(alloc, hits.ended.as_slice())?;
+    format!(in alloc; "{verdict},\"steps\":{steps},\"actions\":{actions}")
+}
+
 /// The counts as one JSON object, in one line.
 pub fn hits_json(
     alloc: Global,
@@ -114,14 +134,8 @@ pub fn hits_json(
     hits: &StreamHits,
     verdict: &BoundVerdict,
 ) -> Result<String, AllocError> {
-    let path = quoted(alloc, path)?;
-    let (ran, skipped) = (hits.ran, hits.skipped);
-    let fault = fault_json(alloc, hits.finish)?;
-    let verdict = verdict_json(alloc, verdict)?;
-    let steps = steps_json(alloc, hits)?;
-    let actions = ends_json(alloc, hits.ended.as_slice())?;
+    let frames = frames_json(alloc, path, hits)?;
+    let runs = runs_json(alloc, hits, verdict)?;
     let insns = insns_json(alloc, image, hits)?;
-    let front = format!(in alloc; "\"image\":{path},\"frames\":{ran},\"reasons\":{skipped}")?;
-    let middle = format!(in alloc; "\"fault\":{fault},{verdict},\"steps\":{steps}")?;
-    format!(in alloc; "{{{front},{middle},\"actions\":{actions},\"instructions\":[{insns}]}}\n")
+    format!(in alloc; "{{{frames},{runs},\"instructions\":[{insns}]}}\n")
 }

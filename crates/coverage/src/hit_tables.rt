@@ -41,13 +41,14 @@ fn csv_row(
     insn: &Insn,
 ) -> Result<Vec<RowCell>, AllocError> {
     let slots = &hits.slots;
-    let mut row = Vec::with_capacity(alloc, CSV_NAMES.len())?;
-    row.push(RowCell::Number(slot as u64))?;
-    row.push(RowCell::Text(insn_words(alloc, insn)?))?;
-    row.push(RowCell::Number(count_at(slots.runs.as_slice(), slot)))?;
-    row.push(way_cell(insn, slots.jumped.as_slice(), slot))?;
-    row.push(way_cell(insn, slots.fell.as_slice(), slot))?;
-    Ok(row)
+    let words = insn_words(alloc, insn)?;
+    Ok(vec![in alloc;
+        RowCell::Number(slot as u64),
+        RowCell::Text(words),
+        RowCell::Number(count_at(slots.runs.as_slice(), slot)),
+        way_cell(insn, slots.jumped.as_slice(), slot),
+        way_cell(insn, slots.fell.as_slice(), slot),
+    ]?)
 }
 
 /// The row of an instruction in the table.
@@ -59,14 +60,16 @@ fn table_row(
 ) -> Result<Vec<RowCell>, AllocError> {
     let slots = &hits.slots;
     let runs = count_at(slots.runs.as_slice(), slot);
-    let mut row = Vec::with_capacity(alloc, TABLE_NAMES.len())?;
-    row.push(RowCell::Text(String::from_str(alloc, if runs == 0 { "-" } else { "" })?))?;
-    row.push(RowCell::Number(slot as u64))?;
-    row.push(RowCell::Number(runs))?;
-    row.push(way_cell(insn, slots.jumped.as_slice(), slot))?;
-    row.push(way_cell(insn, slots.fell.as_slice(), slot))?;
-    row.push(RowCell::Text(insn_words(alloc, insn)?))?;
-    Ok(row)
+    let mark = String::from_str(alloc, if runs == 0 { "-" } else { "" })?;
+    let words = insn_words(alloc, insn)?;
+    Ok(vec![in alloc;
+        RowCell::Text(mark),
+        RowCell::Number(slot as u64),
+        RowCell::Number(runs),
+        way_cell(insn, slots.jumped.as_slice(), slot),
+        way_cell(insn, slots.fell.as_slice(), slot),
+        RowCell::Text(words),
+    ]?)
 }
 
 /// The heads of columns: texts are aligned at the left.

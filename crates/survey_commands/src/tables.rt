@@ -198,6 +198,31 @@ fn put_large_table<R: Files + Clock, W: Write>(
     Ok(Some(is_written))
 }
 
+/// Makes the table of what was explored of a verified program, tests it and writes it to the file at
+/// the path, and adds its size and the times to what was counted. False: memory ran out, or there is
+/// no such table.
+fn put_tested_table<R: Files + Clock>(
+    rt: &R,
+    alloc: Global,
+    path: &str,
+    verified: Verified,
+    explored: Explored,
+    since: Option<Instant>,
+    counts: &mut Counts,
+) -> Result<bool, SurveyError>
+    requires { IsForTable verified.program explored }
+    ensures bound { counts.new.bound ≡ counts.old.bound }
+    ensures slot { counts.new.slot ≡ counts.old.slot }
+    ensures size { SaysTableSize verified.program counts.old counts.new }
+    ensures rest { searched counts.new ≡ searched counts.old }
+{
+    let Some(table) = tested_table(rt, alloc, verified, explored, since, counts) else {
+        return Ok(false);
+    };
+    store_table(rt, alloc, path, table.as_slice())?;
+    Ok(true)
+}
+
 /// Makes the table of an accepted program and writes it to a file, tested if it is not large, and
 /// adds its size and the times to what was counted. One that has more bytes than are wanted is not
 /// written: standard error says so, and only its size is added. False: memory ran out, or there is
@@ -231,11 +256,5 @@ pub fn put_table<R: Files + Clock, W: Write>(
     if let Some(is_there) = put_large_table(rt, alloc, wanted, parts, counts, err)? {
         return Ok(is_there);
     }
-    match tested_table(rt, alloc, verified, explored, since, counts) {
-        Some(table) => {
-            store_table(rt, alloc, path.as_str(), table.as_slice())?;
-            Ok(true)
-        }
-        None => Ok(false),
-    }
+    put_tested_table(rt, alloc, path.as_str(), verified, explored, since, counts)
 }

@@ -219,6 +219,30 @@ fn write_changes<W: Write>(
     Ok(())
 }
 
+/// Writes the differences of rows from the earlier survey in a file.
+fn write_differences<R: Files, W: Write>(
+    rt: &R,
+    alloc: Global,
+    sheet: &Sheet<'_>,
+    path: &str,
+    rows: &[Row],
+    out: &mut W,
+) -> Result<(), SurveyError> {
+    let changes = compared(rt, alloc, path, rows)?;
+    write_changes(alloc, sheet, &changes, out)
+}
+
+/// Writes rows.
+fn write_rows<W: Write>(
+    alloc: Global,
+    sheet: &Sheet<'_>,
+    rows: &[Row],
+    out: &mut W,
+) -> Result<(), SurveyError> {
+    let grid = grid_of(alloc, rows, &sheet.layout)?;
+    write_grid(alloc, sheet, sheet.survey.has_header, &grid, out)
+}
+
 /// Writes the rows that waited, in their order, or the differences from an earlier survey.
 pub fn write_waiting<R: Files + AllocGlobal, W: Write>(
     rt: &R,
@@ -234,13 +258,7 @@ pub fn write_waiting<R: Files + AllocGlobal, W: Write>(
         sort(rows, column)?;
     }
     match sheet.survey.earlier {
-        Some(path) => {
-            let changes = compared(rt, alloc, path, rows.as_slice())?;
-            write_changes(alloc, sheet, &changes, out)
-        }
-        None => {
-            let grid = grid_of(alloc, rows.as_slice(), &sheet.layout)?;
-            write_grid(alloc, sheet, sheet.survey.has_header, &grid, out)
-        }
+        Some(path) => write_differences(rt, alloc, sheet, path, rows.as_slice(), out),
+        None => write_rows(alloc, sheet, rows.as_slice(), out),
     }
 }
