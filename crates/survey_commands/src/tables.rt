@@ -198,9 +198,9 @@ fn put_large_table<R: Files + Clock, W: Write>(
     Ok(Some(is_written))
 }
 
-/// Makes the table of what was explored of a verified program, tests it and writes it to the file at
-/// the path, and adds its size and the times to what was counted. False: memory ran out, or there is
-/// no such table.
+/// Makes the table of what was explored of a verified program, tests it and writes it to the file
+/// at the path, and adds its size and the times to what was counted. False: memory ran out, or
+/// there is no such table.
 fn put_tested_table<R: Files + Clock>(
     rt: &R,
     alloc: Global,
