@@ -235,7 +235,7 @@ measured p insns written h g =
     (Some written) refl h.some h.few h.number refl g
 
 -- they have the size of a table
-pub IsTableSize-entries : (p : Program) (insns : List ExploredInsn) (written : List ℕ) (size : ℕ)
+IsTableSize-entries : (p : Program) (insns : List ExploredInsn) (written : List ℕ) (size : ℕ)
     → IsForTable p insns
     → GainsEntries p insns (length insns) (Some (head_bytes (length insns))) (Some written)
     → size ≡ min (length written) (2 ^ 64 - 1) → IsTableSize p size
@@ -246,12 +246,27 @@ IsTableSize-entries p insns written size h g is = (
 )
 
 -- which is that of the table of these instructions
-pub table_length-entries : (p : Program) (insns : List ExploredInsn) (written : List ℕ) (size : ℕ)
+table_length-entries : (p : Program) (insns : List ExploredInsn) (written : List ℕ) (size : ℕ)
     → IsForTable p insns
     → GainsEntries p insns (length insns) (Some (head_bytes (length insns))) (Some written)
     → size ≡ min (length written) (2 ^ 64 - 1) → size ≡ table_length (entries_for insns)
 table_length-entries p insns written size h g is =
     is ∙ ap (λ (l : List ℕ). min (length l) (2 ^ 64 - 1)) (measured p insns written h g).gained
+
+-- both, once all entries were measured, for a program that is the image's
+pub sizes-entries : (p q : Program) (insns : List ExploredInsn) (n : ℕ) (written : List ℕ)
+    (size : ℕ) → q ≡ p → n ≡ length insns → IsForTable p insns
+    → GainsEntries q insns n (Some (head_bytes (length insns))) (Some written)
+    → size ≡ min (length written) (2 ^ 64 - 1)
+    → IsTableSize p size × (size ≡ table_length (entries_for insns))
+sizes-entries p q insns n written size is all h g measures =
+    let head = Some (head_bytes (length insns)) in
+    let whole : GainsEntries p insns (length insns) head (Some written) =
+    subst (λ (r : Program). GainsEntries r insns (length insns) head (Some written)) is
+    (subst (λ (m : ℕ). GainsEntries q insns m head (Some written)) all g) in (
+      IsTableSize-entries p insns written size h whole measures,
+      table_length-entries p insns written size h whole measures,
+    )
 
 pub BeginsTable-entries : (p : Program) (n : ℕ) (old mid new : Option (List ℕ)) → 1 ≤ n
     → n ≤ MAX_EXPLORED → Appends old mid (head_bytes n) → BeginsEntries p n mid new

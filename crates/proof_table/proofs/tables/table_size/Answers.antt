@@ -1,5 +1,5 @@
-use Rattle.proof_table.proofs.Common.{◌≡◌, ◌++◌, ◌-◌, ◌+◌, Some, arith, length, length-append, refl, sym, subst, Program, head_bytes, IsForTable, IsTableSize, GainsEntries}
-use Rattle.proof_table.proofs.WritingLaws.{GainsEntries-none, GainsEntries-more, IsTableSize-entries, table_length-entries}
+use Rattle.proof_table.proofs.Common.{◌≡◌, ◌++◌, Some, arith, length, length-append, refl, sym, head_bytes}
+use Rattle.proof_table.proofs.WritingLaws.{GainsEntries-none, GainsEntries-more, sizes-entries}
 use Rattle.proof_table.proofs.tables.table_size.Goals as goal
 
 pub loop-at-init : goal.loop-at-init
@@ -21,9 +21,7 @@ loop-at-preserved c =
 pub returns-clause-table : goal.returns-clause-table
 returns-clause-table c =
     let (written, all, size) = c.loop-at.invariant in
-    let image = c.image-image.result.now in
-    let insns = c.args.explored.now in
-    let count : c.loop-at.at ≡ length insns =
+    let count : c.loop-at.at ≡ length c.args.explored.now =
     omega (
       arith,
       c.requires.some,
@@ -31,20 +29,13 @@ returns-clause-table c =
       c.loop-at-test.false,
       c.loop-at.auto.at-end,
     ) in
-    let whole =
-    subst (λ n. GainsEntries image insns n (Some (head_bytes (length insns))) (Some written)) count
-    all in
-    subst (λ (p : Program). IsTableSize p c.loop-at.size) c.image-image.ensures.program
-    (IsTableSize-entries c.image-image.result.now c.args.explored.now written c.loop-at.size
-    (subst (λ (p : Program). IsForTable p c.args.explored.now) (sym c.image-image.ensures.program)
-    c.requires) whole size)
+    (sizes-entries _ c.image-image.result.now _ _ written _ c.image-image.ensures.program count
+    c.requires all size).0
 
 pub returns-clause-length : goal.returns-clause-length
 returns-clause-length c =
     let (written, all, size) = c.loop-at.invariant in
-    let image = c.image-image.result.now in
-    let insns = c.args.explored.now in
-    let count : c.loop-at.at ≡ length insns =
+    let count : c.loop-at.at ≡ length c.args.explored.now =
     omega (
       arith,
       c.requires.some,
@@ -52,9 +43,5 @@ returns-clause-length c =
       c.loop-at-test.false,
       c.loop-at.auto.at-end,
     ) in
-    let whole =
-    subst (λ n. GainsEntries image insns n (Some (head_bytes (length insns))) (Some written)) count
-    all in
-    table_length-entries c.image-image.result.now c.args.explored.now written c.loop-at.size
-    (subst (λ (p : Program). IsForTable p c.args.explored.now) (sym c.image-image.ensures.program)
-    c.requires) whole size
+    (sizes-entries _ c.image-image.result.now _ _ written _ c.image-image.ensures.program count
+    c.requires all size).1
