@@ -185,7 +185,7 @@ END
     echo "needs libc.so.6 with $needs$([ ${#statics[@]} -eq 0 ] || echo '; the -static programs need nothing')"
     echo "formats images XBP1 XBP2, frame streams XPF1 XPF2, proof tables XPT1"
     echo "licence $([ -f "$top/LICENSE" ] && echo LICENSE || echo 'none: nobody has said what others may do with these files')"
-    echo "rests bin/xdpvm: commands::execute_given; of its runs host::run: reports, of verify explorer::verify: verified, of recheck rechecking::recheck: verified"
+    echo "rests bin/xdpvm: xdpvm::execute_given; of its runs host::run: reports, of verify explorer::verify: verified, of recheck rechecking::recheck: verified"
     echo "rests bin/xdpvm_survey: survey_commands::execute_given; of a row surveys::judge: says"
     echo "rests bin/xdpvm_filter: filtering::execute_given; of its runs host::run_counted_from: reports"
     echo "rests lib/libxdpvm.a: the clauses of the exports of crates/xdpvm_c"

@@ -1,5 +1,7 @@
 -- Frames out that were delivered to their file only in part.
-use Rattle.commands.proofs.Common.{◌≡◌, ℕ, List, Option, Result, Ok, inr, Keeps, append_known, ErrorKind, HostError, Tally, FileForm, TaskOutcome, IsWriteFailureBy, EndsTask}
+use Rattle.commands.proofs.Common.{◌≡◌, ℕ, List, Option, Result, Ok, inr, Keeps, append_known, ErrorKind, FileForm, TaskOutcome, IsWriteFailureBy, EndsTask}
+use Rattle.host.specs.declared.errors.HostError.{HostError}
+use Rattle.host.specs.declared.tallies.Tally.{Tally}
 
 -- the stream came to its end, and then the file failed, and lacks the bytes that still wait
 pub fails_at_the_end : (name waits : List ℕ) (cause : Option ErrorKind) (form : FileForm)

@@ -1,5 +1,6 @@
 -- What a task did with files is what `Files` defines, by how far it came.
-use Rattle.commands.proofs.Common.{◌≡◌, ℕ, List, Option, None, Ok, refl, subst, inl, inr, ◌⊎◌, ErrorKind, KeptText, Program, Bounded, RunFiles, FileForm, TaskOutcome, Ending, IsReadFailure, IsMakeFailure, RunsAccepted, RunsOn, RunsSome, OpensNone, MakesNone, RefusesTextFile, AssemblesFile, StoresSome}
+use Rattle.commands.proofs.Common.{◌≡◌, ℕ, List, Option, None, Ok, refl, subst, inl, inr, ◌⊎◌, ErrorKind, KeptText, Program, RunFiles, FileForm, TaskOutcome, Ending, IsReadFailure, IsMakeFailure, RunsAccepted, RunsOn, RunsSome, OpensNone, MakesNone, RefusesTextFile, AssemblesFile, StoresSome}
+use Rattle.bounds.specs.Bounds.{Bounded}
 use Rattle.commands.specs.Texts.{spelled}
 use Rattle.frames.specs.Sources.{Origin}
 

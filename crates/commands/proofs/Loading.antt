@@ -1,5 +1,8 @@
 -- What a task did is what its command does, by how far it came: with an image, with a table.
-use Rattle.commands.proofs.Common.{◌≡◌, ℕ, List, Option, None, String, Result, Ok, Err, subst, sym, inl, inr, ◌⊎◌, ◌∙◌, IfOk, IfErr, Global, ErrorKind, Program, Bounded, IsVerified, FileForm, TaskOutcome, Done, WrongWords, Refused, Faulted, CannotRead, CannotWrite, CannotReplace, NoMemory, Ending, IsReadFailure, IsMakeFailure, bound_line, Accepts, IsBoundOf, RefusesProgram, RefusesTable, Verifies, Plainly, IsKnownOfProgram, IsKnownOfTable, Tells, LoadsNone, RunsOn, RunFiles, TableFiles, Traces, StoresTable, ShowsNone, TracesFile, TracesSome, IsShown, VerifiesFile, RechecksFile, ProvesTold, ProvesSome, RunsFile, RunsShown}
+use Rattle.commands.proofs.Common.{◌≡◌, ℕ, List, Option, None, String, Result, Ok, Err, subst, sym, inl, inr, ◌⊎◌, ◌∙◌, IfOk, IfErr, ErrorKind, Program, FileForm, TaskOutcome, Done, WrongWords, Refused, Faulted, CannotRead, CannotWrite, CannotReplace, NoMemory, Ending, IsReadFailure, IsMakeFailure, Accepts, IsBoundOf, RefusesProgram, RefusesTable, Verifies, Plainly, IsKnownOfProgram, IsKnownOfTable, Tells, LoadsNone, RunsOn, RunFiles, TableFiles, Traces}
+use Rattle.std.specs.declared.alloc.Global.{Global}
+use Rattle.bounds.specs.Bounds.{Bounded, IsVerified}
+use Rattle.commands.specs.Commands.{ShowsNone, TracesFile, TracesSome, IsShown, VerifiesFile, RechecksFile, RunsFile, RunsShown}
 use Rattle.image.specs.Images.{IsImage}
 use Rattle.rechecking.specs.Refusing.{ShowsBound}
 use Rattle.stack_state.specs.Starts.{start}
@@ -27,7 +30,7 @@ tells-none p (CannotReplace path conflict) why e = e
 tells-none p NoMemory why e = e
 
 -- the image was not loaded
-unloaded : (path : List ℕ) (old new : Option (List ℕ)) (o : TaskOutcome) (r : Ending)
+pub unloaded : (path : List ℕ) (old new : Option (List ℕ)) (o : TaskOutcome) (r : Ending)
     → LoadsNone path old new o → r.outcome ≡ o → r.why ≡ None → Plainly (LoadsNone path old new) r
 unloaded path old new o r h same none = (subst (LoadsNone path old new) (sym same) h, none)
 
@@ -163,65 +166,3 @@ pub shown_run : (files : RunFiles) (table : List ℕ) (old mid new : Option (Lis
     → RunsShown files table old new r
 shown_run files table old mid new v r e is runs =
     inr (v, is, runs-first files old mid new v r e runs)
-
--- ---- `prove`
-
-pub prove_unloaded : (files : TableFiles) (old new told_old told_new : Option (List ℕ))
-    (o : TaskOutcome) (r : Ending) → LoadsNone files.image old new o → told_new ≡ told_old
-    → r.outcome ≡ o → r.why ≡ None → ProvesTold files old new told_old told_new r
-prove_unloaded files old new told_old told_new o r h untold same none =
-    inl (unloaded files.image old new o r h same none, untold)
-
-pub prove_refused : (files : TableFiles) (old mid new told_old told_new : Option (List ℕ))
-    (p : Program) (r : Ending) → mid ≡ old → IsImage p → RefusesProgram p mid new r.outcome
-    → IsKnownOfProgram p r → told_new ≡ told_old → ProvesTold files old new told_old told_new r
-prove_refused files old mid new told_old told_new p r e h v known untold =
-    inr (
-      p,
-      h,
-      (
-        inl (
-          subst (λ (o : Option (List ℕ)). RefusesProgram p o new r.outcome) e v,
-          untold,
-        ),
-        known,
-      ),
-    )
-
-pub prove_unmade : (files : TableFiles) (old mid new told_old told_new : Option (List ℕ))
-    (v : Bounded) (o : TaskOutcome) (r : Ending) → mid ≡ old → new ≡ mid
-    → IsBoundOf v.program v.bound → IsMakeFailure files.table o → told_new ≡ told_old
-    → r.outcome ≡ o → r.why ≡ None → ProvesTold files old new told_old told_new r
-prove_unmade files old mid new told_old told_new v o r e f h failed untold same none =
-    inr (
-      v.program,
-      h.verified.image,
-      (
-        inr (v.bound, h, inl ((rw same failed, f ∙ e), untold)),
-        tells-none v.program r.outcome r.why none,
-      ),
-    )
-
-pub table_stored : (files : TableFiles)
-    (old mid now new before after told_old told_new : Option (List ℕ)) (v : Bounded)
-    (line : List ℕ) (o : TaskOutcome) (r : Ending) → mid ≡ old → now ≡ mid
-    → IsBoundOf v.program v.bound → line ≡ bound_line v.bound
-    → StoresTable v.program line files.table before after now new told_old told_new o
-    → r.outcome ≡ o → r.why ≡ None → ProvesTold files old new told_old told_new r
-table_stored files old mid now new before after told_old told_new v line o r e f h is stores same none =
-    let some : ProvesSome v.program v.bound files.table old new told_old told_new r.outcome = record {
-      before = before;
-      after = after;
-      stores =
-          rw same (subst
-          (λ (x : Option (List ℕ)). StoresTable v.program
-          (bound_line v.bound) files.table before after x new told_old told_new o) (f ∙ e)
-          (subst
-          (λ (l : List ℕ). StoresTable v.program l files.table before after now new told_old
-          told_new o) is stores));
-    } in
-    inr (
-      v.program,
-      h.verified.image,
-      (inr (v.bound, h, inr some), tells-none v.program r.outcome r.why none),
-    )

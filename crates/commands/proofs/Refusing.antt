@@ -1,5 +1,7 @@
 -- What is said of a program that is refused.
-use Rattle.commands.proofs.Common.{◌≡◌, ℕ, List, Option, subst, sym, inl, inr, Program, fetch, TaskOutcome, Done, WrongWords, Refused, Faulted, CannotRead, CannotWrite, CannotReplace, NoMemory, verdict_line, Says, IsWriteFailure, IfRefusal, SaysRefused, RefusesProgram}
+use Rattle.commands.proofs.Common.{◌≡◌, ℕ, List, Option, subst, sym, inl, inr, Program, fetch, TaskOutcome, Done, WrongWords, Refused, Faulted, CannotRead, CannotWrite, CannotReplace, NoMemory, IsWriteFailure, IfRefusal, SaysRefused, RefusesProgram}
+use Rattle.messages.specs.Lines.{verdict_line}
+use Rattle.commands.specs.Saying.{Says}
 use Rattle.isa_model.specs.declared.instructions.Insn.{Insn}
 use Rattle.walks.specs.declared.refusals.Refusal.{Refusal}
 use Rattle.walks.specs.Refused.{IsRefused}

@@ -1,5 +1,10 @@
 -- Laws of texts of which bytes were dropped: what they spell, and where they are refused.
-use Rattle.commands.proofs.Common.{◌≡◌, ◌≢◌, ℕ, ◌+◌, ◌-◌, ◌==◌, Bool, true, false, if◌then◌else◌, List, [], ◌∷◌, ◌++◌, refl, sym, ap, ap₂, ◌∙◌, append_assoc, Option, Some, None, Result, Ok, Err, subst, inl, inr, IfSome, IfOk, OnOk, is_err, MatchResult, String, Global, string_bytes, Consumes, Consumes-trans, without, gap_of, is_before, placed, in_place, all_placed, all_in_place, IsIdle, text_line, TaskOutcome, Done, WrongWords, Refused, Faulted, CannotRead, CannotWrite, CannotReplace, NoMemory, Ending, TellsText, TellsKept, ShowsKept, IsOutputFailure, Says, LacksMemory, RefusesText, RefusesTextFile, KeptText}
+use Rattle.commands.proofs.Common.{◌≡◌, ◌≢◌, ℕ, ◌+◌, ◌-◌, ◌==◌, Bool, true, false, if◌then◌else◌, List, [], ◌∷◌, ◌++◌, refl, sym, ap, ap₂, ◌∙◌, append_assoc, Option, Some, None, Result, Ok, Err, subst, inl, inr, IfSome, IfOk, OnOk, is_err, MatchResult, String, Consumes, without, gap_of, is_before, placed, in_place, all_placed, all_in_place, IsIdle, TaskOutcome, Done, WrongWords, Refused, Faulted, CannotRead, CannotWrite, CannotReplace, NoMemory, Ending, TellsText, TellsKept, ShowsKept, IsOutputFailure, RefusesText, RefusesTextFile, KeptText}
+use Rattle.std.specs.declared.alloc.Global.{Global}
+use Rattle.std.specs.String.{string_bytes}
+use Rattle.std.proofs.KnownBytes.{Consumes-trans}
+use Rattle.messages.specs.Lines.{text_line}
+use Rattle.commands.specs.Saying.{Says, LacksMemory}
 use Rattle.std.specs.declared.alloc.AllocError.{AllocError}
 use Rattle.isa_model.specs.Code.Instructions.{Program}
 use Rattle.assembler.specs.declared.errors.AsmError.{AsmError}

@@ -9,16 +9,15 @@ use Rattle.image.specs.Images.{image_bytes}
 use Rattle.image.specs.Refusals.{refusal_of}
 use Rattle.walks.specs.declared.refusals.Refusal.{Refusal}
 use Rattle.bounds.specs.Bounds.{Bounded, IsVerified}
-use Rattle.table_entries.specs.declared.errors.WriteTableError.{WriteTableError}
-use Rattle.table_entries.specs.declared.errors.WriteTableError.TheVariants.{Memory, Explored, Writer}
+use Rattle.table_entries.specs.declared.errors.WriteTableError.TheVariants.{Memory}
 use Rattle.assembler.specs.declared.errors.AsmError.{AsmError}
 use Rattle.commands.specs.declared.texts.KeptText.{KeptText}
 use Rattle.commands.specs.Texts.{spelled}
 use Rattle.commands.specs.declared.outcomes.TaskOutcome.{TaskOutcome}
 use Rattle.commands.specs.declared.outcomes.TaskOutcome.TheVariants.{Done, Refused, NoMemory}
 use Rattle.messages.specs.Forms.{file_form_of}
-use Rattle.commands.specs.Statuses.{IsWriteFailure, IsWriteFailureBy}
-use Rattle.messages.specs.Lines.{image_line, verdict_line, text_line, bound_line, explored_line, is_memory, table_line, is_table_memory}
+use Rattle.commands.specs.Statuses.{IsWriteFailure}
+use Rattle.messages.specs.Lines.{image_line, verdict_line, text_line, bound_line, is_memory, table_line, is_table_memory}
 use Rattle.commands.specs.Saying.{Says, LacksMemory}
 use Rattle.stack_state.specs.Starts.{start}
 use Rattle.walks.specs.Accepting.{BoundsAll}
@@ -65,15 +64,6 @@ RefusesText source old new result =
 -- the file at this path cannot be written, or memory ran out
 abbrev pub IsStoreFailure : List ℕ → TaskOutcome → Type 0
 IsStoreFailure path result = (result ≡ NoMemory) ⊎ IsWriteFailure path result
-
--- how the task ends if the table was not written to the file at this path, with this error
-abbrev pub EndsUnwritten : List ℕ → WriteTableError → Option (List ℕ) → Option (List ℕ)
-    → TaskOutcome → Type 0
-EndsUnwritten path Memory old new result = LacksMemory old new result
-EndsUnwritten path Explored old new result =
-    LacksMemory old new result ⊎ Says old new explored_line (Refused rejection.Explored) result
-EndsUnwritten path (Writer kind) old new result =
-    IsWriteFailureBy path (Some kind) result × (new ≡ old)
 
 -- an image was written, and then standard output says the line; or a beginning of the image was,
 -- and standard output got nothing

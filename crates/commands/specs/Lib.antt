@@ -1,10 +1,8 @@
 pub mod Commands
-pub mod Executing
 pub mod Files
 pub mod Flushing
 pub mod Judging
 pub mod Known
-pub mod Proving
 pub mod Saying
 pub mod Statuses
 pub mod Streams

@@ -1,19 +1,16 @@
-//! The proof tables that the commands read and write.
+//! The proof tables that the commands read.
 
 ghost use Rattle.std.specs.Prelude.{◌≡◌, IfOk, IfErr, OnOk};
-ghost use Rattle.bounds.specs.Bounds.{IsVerified};
 ghost use Rattle.words.specs.Requests.{files_of, table_files_of};
-ghost use Rattle.commands.specs.Commands.{ShowsNone, IsShown, RechecksFile, RunsShown, ProvesTold};
+ghost use Rattle.commands.specs.Commands.{ShowsNone, IsShown, RechecksFile, RunsShown};
 
 use super::endings::Ending;
 use super::files::run_on;
 use super::images::load_image;
 use super::outcomes::TaskOutcome;
-use super::outputs::create_table;
-use super::proving::store_table;
 use super::reading::read_table;
 use super::rechecks::shown;
-use super::verdicts::{accepted, bound_line, judge};
+use super::verdicts::accepted;
 use bounds::Verified;
 use std::alloc::Global;
 use std::io::Write;
@@ -80,46 +77,5 @@ pub fn run_shown<'a, R: Files + Clock, W: Write>(
             run_on(rt, alloc, verified, paths, &read, out)
         }
         Err(ending) => ending,
-    }
-}
-
-/// Proves a program: its image is read and judged, then the table is written, and then standard
-/// output says the most steps of a run. If the program is refused, no file is made for the table.
-/// Before a large table is written, standard error gets how many bytes it has.
-pub fn prove_file<'a, R: Files + Clock, W1: Write, W2: Write>(
-    rt: &R,
-    alloc: Global,
-    paths: TablePaths<'a>,
-    out: &mut W1,
-    err: &mut W2,
-) -> Ending<'a>
-    ensures { ProvesTold (table_files_of paths.entry) (W1.contents out.old) (W1.contents out.new)
-        (W2.contents err.old) (W2.contents err.new) result }
-{
-    let image = match load_image(rt, alloc, paths.image, out) {
-        Ok(image) => image,
-        Err(outcome) => return Ending::plain(outcome),
-    };
-    let verified = match judge(rt, alloc, image, out) {
-        Ok(verified) => verified,
-        Err(ending) => return ending,
-    };
-    let Ok(line) = bound_line(alloc, &verified) else {
-        return Ending::plain(TaskOutcome::NoMemory);
-    };
-    match create_table(rt, alloc, paths) {
-        Ok(mut file) => {
-            let outcome = store_table(
-                alloc,
-                &verified,
-                line.as_str(),
-                paths.table,
-                out,
-                err,
-                &mut file,
-            );
-            Ending::plain(outcome)
-        }
-        Err(outcome) => Ending::plain(outcome),
     }
 }

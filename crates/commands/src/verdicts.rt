@@ -1,10 +1,9 @@
-//! What standard output says of programs and of a table that was not written, with what is known
-//! where a program is refused.
+//! What standard output says of programs, with what is known where one is refused.
 
 ghost use Rattle.std.specs.Prelude.{◌≡◌, OnOk, IfOk, IfErr, false, MatchResult};
 ghost use Rattle.std.specs.String.{string_bytes};
 ghost use Rattle.commands.specs.Statuses.{is_silent};
-ghost use Rattle.commands.specs.Judging.{Accepts, EndsUnwritten, RefusesProgram, SaysRefused, Verifies};
+ghost use Rattle.commands.specs.Judging.{Accepts, RefusesProgram, SaysRefused, Verifies};
 ghost use Rattle.messages.specs.Lines.{bound_line};
 ghost use Rattle.commands.specs.Saying.{Says, LacksMemory};
 ghost use Rattle.bounds.specs.Bounds.{IsVerified};
@@ -27,7 +26,6 @@ use messages::{Rejection, STANDARD_OUTPUT, reason, verdict_line};
 use std::alloc::{AllocError, Global};
 use std::io::Write;
 use std::rt::{Clock, Files};
-use table_entries::WriteTableError;
 use walks::Refusal;
 
 /// Writes a line, and ends the task with this outcome.
@@ -93,28 +91,6 @@ pub fn accepted<'a, W: Write>(alloc: Global, verified: &Verified, out: &mut W) -
     ensures { Accepts verified.now (W.contents out.old) (W.contents out.new) result }
 {
     say_made(bound_line(alloc, verified), TaskOutcome::Done, out)
-}
-
-/// Returns how the task ends if a table was not written to the file at the path: if the program
-/// could not be explored again, writes so.
-pub fn say_unwritten<'a, W: Write>(
-    path: &'a str,
-    error: WriteTableError,
-    out: &mut W,
-) -> TaskOutcome<'a>
-    ensures { EndsUnwritten path.now error (W.contents out.old) (W.contents out.new) result }
-{
-    match error {
-        WriteTableError::Memory => TaskOutcome::NoMemory,
-        WriteTableError::Explored => {
-            say_line(
-                "refused P10\n",
-                TaskOutcome::Refused(Rejection::Explored),
-                out,
-            )
-        }
-        WriteTableError::Writer(kind) => TaskOutcome::CannotWrite(path, Some(kind)),
-    }
 }
 
 // How a task that judged this program ended. If the program was refused, this looks for what is

@@ -5,8 +5,13 @@
 //! the calls around it.
 #![tactic(auto)]
 
-pub use commands::execute;
-use commands::{TaskOutcome, buffered, execute_given, is_pipe, is_unwatched, piped};
+mod codes;
+mod executing;
+mod proving;
+mod requests;
+
+use commands::{TaskOutcome, buffered, is_pipe, is_unwatched, piped};
+use executing::execute_given;
 use std::process::ExitCode;
 use words::given_words;
 

@@ -1,4 +1,5 @@
-use Rattle.commands.proofs.Common.{◌≡◌, ◌++◌, sym, subst, take, rules, arith, Consumes, Consumes-trans}
+use Rattle.commands.proofs.Common.{◌≡◌, ◌++◌, sym, subst, take, rules, arith, Consumes}
+use Rattle.std.proofs.KnownBytes.{Consumes-trans}
 use Rattle.std.proofs.lemmas.Grind.{common_steps}
 use Rattle.table_entries.specs.Settled.{IsTableSettled}
 use Rattle.commands.proofs.SettledBytes.{settled_held}

@@ -1,4 +1,5 @@
-use Rattle.commands.proofs.Common.{◌∙◌, Some, ap, refl, sym, rules, waiting}
+use Rattle.std.proofs.Common.{◌∙◌, Some, ap, refl, sym, rules}
+use Rattle.exact_io.specs.Waiting.{waiting}
 use Rattle.commands.proofs.Delivered.{fails_at_the_end}
 use Rattle.commands.proofs.streams.outcome_of.Goals as goal
 

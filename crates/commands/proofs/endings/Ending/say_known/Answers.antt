@@ -1,5 +1,4 @@
-use Rattle.std.proofs.Common.{refl, string_bytes}
-use Rattle.commands.proofs.Common.{message_of, ok_text, err_text, ok_behind, err_behind}
+use Rattle.commands.proofs.Common.{refl, string_bytes, message_of, ok_text, err_text, ok_behind, err_behind}
 use Rattle.commands.proofs.endings.Ending.say_known.Goals as goal
 
 pub returns-in-Some-clause-err : goal.returns-in-Some-clause-err

@@ -1,0 +1,10 @@
+mod Common
+mod ExecutingLaws
+mod FilesSilence
+mod Knowing
+mod ProvingLaws
+mod Served
+mod Silence
+mod Sizes
+mod StatusesLaws
+mod Telling

@@ -1,0 +1,3 @@
+pub mod Executing
+pub mod Proving
+pub mod Serving
