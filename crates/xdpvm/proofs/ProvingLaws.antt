@@ -46,8 +46,10 @@ pub table_stored : (files : TableFiles)
     → IsBoundOf v.program v.bound → line ≡ bound_line v.bound
     → StoresTable v.program line files.table before after now new told_old told_new o
     → r.outcome ≡ o → r.why ≡ None → ProvesTold files old new told_old told_new r
-table_stored files old mid now new before after told_old told_new v line o r e f h is stores same none =
-    let some : ProvesSome v.program v.bound files.table old new told_old told_new r.outcome = record {
+table_stored files old mid now new before after told_old told_new v line o r e f h is stores same
+    none =
+    let some : ProvesSome v.program v.bound files.table old new told_old told_new r.outcome =
+    record {
       before = before;
       after = after;
       stores =

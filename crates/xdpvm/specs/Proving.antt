@@ -20,7 +20,7 @@ use Rattle.words.specs.Requests.{TableFiles}
 use Rattle.table_entries.specs.declared.errors.WriteTableError.TheVariants.{Memory, Explored, Writer}
 use Rattle.messages.specs.declared.rejections.Rejection.TheVariants as rejection
 
--- what standard error gets before a large table of so many bytes is written
+-- the line about a large table's size, which standard error gets before the table is written
 abbrev pub size_text : ℕ → List ℕ
 size_text size = codes "the proof table has " ++ (decimal size ++ codes " bytes\n")
 
