@@ -1,3 +1,4 @@
 pub mod Ends
 pub mod Failures
+pub mod Runs
 pub mod Tables

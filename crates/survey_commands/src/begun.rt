@@ -1,7 +1,10 @@
 //! What a run on a frame stream begins with: the image, what `verify` says of it, and the maps.
 
-ghost use Rattle.std.specs.Prelude.{◌≡◌, ◌≤◌, IfOk};
+ghost use Rattle.std.specs.Prelude.{◌≡◌, IfOk};
+ghost use Rattle.isa_model.specs.Code.Instructions.{Program};
+ghost use Rattle.image.specs.Images.{IsImage, image_bytes};
 ghost use Rattle.maps.specs.Maps.{rows_of};
+ghost use Rattle.survey_commands.specs.Runs.{SaysOf};
 
 use crate::failures::SurveyError;
 use crate::files::read_image;
@@ -22,11 +25,11 @@ use std::io::{ErrorKind, Read, Write};
 use std::rt::Files;
 use words::RunAsked;
 
-/// Why a run does not begin: standard output or standard error says it, or it is a failure.
+/// Why a run does not begin.
 #[derive(Drop)]
 pub enum NotBegun {
-    /// It was said, and this is the status.
-    Said(u8),
+    /// The image or the text of its maps is refused, which was said.
+    Refused,
     Failed(SurveyError),
 }
 
@@ -45,10 +48,10 @@ impl From<AllocError> for NotBegun {
 impl NotBegun {
     /// The status, or the failure.
     pub fn ended(self) -> Result<u8, SurveyError>
-        ensures { IfOk result (λ status. status ≤ 5) }
+        ensures { IfOk result (λ status. status ≡ 2) }
     {
         match self {
-            NotBegun::Said(status) => Ok(if status > 5 { 5 } else { status }),
+            NotBegun::Refused => Ok(2),
             NotBegun::Failed(failure) => Err(failure),
         }
     }
@@ -62,7 +65,10 @@ pub fn load<R: Files, W1: Write, W2: Write>(
     path: &str,
     out: &mut W1,
     err: &mut W2,
-) -> Result<(Vec<u8>, Image), NotBegun> {
+) -> Result<(Vec<u8>, Image), NotBegun>
+    ensures spelled { IfOk result (λ loaded. loaded.0.items ≡ image_bytes loaded.1) }
+    ensures fits { IfOk result (λ loaded. IsImage loaded.1) }
+{
     let bytes = match read_image(rt, alloc, path) {
         Ok(bytes) => bytes,
         Err(error) => {
@@ -73,14 +79,17 @@ pub fn load<R: Files, W1: Write, W2: Write>(
         Ok(image) => Ok((bytes, image)),
         Err(ImageError::Memory) => Err(NotBegun::Failed(SurveyError::Memory)),
         Err(error) => match say_malformed(alloc, bytes.as_slice(), error, out, err) {
-            Ok(status) => Err(NotBegun::Said(status)),
+            Ok(()) => Err(NotBegun::Refused),
             Err(failure) => Err(NotBegun::Failed(failure)),
         },
     }
 }
 
 /// The image of bytes that were parsed before.
-pub fn parsed_again(alloc: Global, bytes: &[u8]) -> Result<Image, SurveyError> {
+pub fn parsed_again(alloc: Global, bytes: &[u8]) -> Result<Image, SurveyError>
+    ensures { (p : Program) → IsImage p → bytes.now ≡ image_bytes p
+        → IfOk result (λ image. image ≡ p) }
+{
     match Image::parse(alloc, bytes) {
         Ok(image) => Ok(image),
         Err(_) => Err(SurveyError::Memory),
@@ -99,7 +108,9 @@ pub fn judged<W: Write>(
     alloc: Global,
     image: Image,
     err: &mut W,
-) -> Result<BoundVerdict, AllocError> {
+) -> Result<BoundVerdict, AllocError>
+    ensures { IfOk result (SaysOf image) }
+{
     match verify(alloc, image) {
         Ok(verified) => Ok(BoundVerdict::Bound(verified.bound())),
         Err((Refusal::Memory | Refusal::Flow(FlowError::Memory), _)) => Ok(BoundVerdict::Unknown),
@@ -133,7 +144,7 @@ fn text_refused<W1: Write, W2: Write>(
             if rejection.say(err).is_ok() {
                 let _ = rejection.say_code(err);
             }
-            NotBegun::Said(2)
+            NotBegun::Refused
         }
         Err(failure) => NotBegun::Failed(failure),
     }
@@ -201,7 +212,10 @@ pub fn begin<R: Files, W1: Write, W2: Write>(
     out: &mut W1,
     err: &mut W2,
 ) -> Result<Begun<<R as Files>::File>, NotBegun>
-    ensures { IfOk result (λ begun. rows_of begun.maps ≡ begun.image.maps) }
+    ensures spelled { IfOk result (λ begun. begun.bytes.items ≡ image_bytes begun.image) }
+    ensures fits { IfOk result (λ begun. IsImage begun.image) }
+    ensures again { IfOk result (λ begun. begun.again ≡ begun.image) }
+    ensures rows { IfOk result (λ begun. rows_of begun.maps ≡ begun.image.maps) }
 {
     let (bytes, image) = load(rt, alloc, asked.image, out, err)?;
     let again = match parsed_again(alloc, bytes.as_slice()) {

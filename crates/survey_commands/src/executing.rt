@@ -1,6 +1,7 @@
 //! What the program does for its arguments, and the status that it ends with.
 
 ghost use Rattle.std.specs.Prelude.{◌≤◌, IfOk};
+ghost use Rattle.survey_commands.specs.Ends.{IsStatusOf};
 
 use crate::failures::SurveyError;
 use crate::hits::print_hits;
@@ -21,7 +22,8 @@ fn serve<R: Files + Clock + AllocGlobal + Clone + Drop, W1: Write, W2: Write>(
     out: &mut W1,
     err: &mut W2,
 ) -> Result<u8, SurveyError>
-    ensures { IfOk result (λ status. status ≤ 5) }
+    ensures ends { IfOk result (IsStatusOf asked.now) }
+    ensures most { IfOk result (λ status. status ≤ 5) }
 {
     match asked {
         SurveyAsked::Survey(wanted) => survey(rt, wanted, has_progress, out, err),

@@ -1,7 +1,8 @@
 //! How often each instruction of an image is run over the frames of a stream.
 
-ghost use Rattle.std.specs.Prelude.{◌≡◌, ◌≤◌, IfOk};
-ghost use Rattle.survey_commands.specs.Ends.{finish_status};
+ghost use Rattle.std.specs.Prelude.{◌≡◌, IfOk};
+ghost use Rattle.survey_commands.specs.Ends.{IsHitsStatus, finish_status};
+ghost use Rattle.survey_commands.specs.Runs.{CountsOf};
 
 use crate::begun::{Begun, NotBegun, begin, judged, parsed_again};
 use crate::failures::SurveyError;
@@ -49,7 +50,9 @@ fn count<R: Files + Clock + AllocGlobal, W1: Write, W2: Write>(
     asked: RunAsked<'_>,
     out: &mut W1,
     err: &mut W2,
-) -> Result<Counted, NotBegun> {
+) -> Result<Counted, NotBegun>
+    ensures { IfOk result (CountsOf asked.entry.limit.steps) }
+{
     let alloc = rt.alloc();
     let Begun {
         bytes,
@@ -104,7 +107,7 @@ pub fn print_hits<R: Files + Clock + AllocGlobal, W1: Write, W2: Write>(
     out: &mut W1,
     err: &mut W2,
 ) -> Result<u8, SurveyError>
-    ensures { IfOk result (λ status. status ≤ 5) }
+    ensures { IfOk result IsHitsStatus }
 {
     match count(rt, asked, out, err) {
         Ok(counted) => write_counted(rt, asked, format, &counted, out, err),

@@ -1,6 +1,7 @@
 //! The log, the listing and the graph of one image.
 
-ghost use Rattle.std.specs.Prelude.{◌≤◌, IfOk};
+ghost use Rattle.std.specs.Prelude.{IfOk};
+ghost use Rattle.survey_commands.specs.Ends.{IsLookStatus};
 
 use crate::failures::{SurveyError, no_slot_line};
 use crate::files::read_image;
@@ -47,20 +48,18 @@ fn tell_malformed<W: Write>(bytes: &[u8], error: ImageError, err: &mut W) -> io:
     rejection.say_code(err)
 }
 
-/// Says that bytes are not an image, as `xdpvm verify` does, and returns the status.
+/// Says that bytes are not an image, as `xdpvm verify` does.
 pub fn say_malformed<W1: Write, W2: Write>(
     alloc: Global,
     bytes: &[u8],
     error: ImageError,
     out: &mut W1,
     err: &mut W2,
-) -> Result<u8, SurveyError>
-    ensures { IfOk result (λ status. status ≤ 2) }
-{
+) -> Result<(), SurveyError> {
     let line = image_line(alloc, error)?;
     say(alloc, line.as_str(), out)?;
     let _ = tell_malformed(bytes, error, err);
-    Ok(2)
+    Ok(())
 }
 
 /// Says on standard error why a program is refused, the instruction, and what is known there. After
@@ -104,7 +103,7 @@ fn look_into<W1: Write, W2: Write>(
     out: &mut W1,
     err: &mut W2,
 ) -> Result<u8, SurveyError>
-    ensures { IfOk result (λ status. status ≤ 2) }
+    ensures { IfOk result IsLookStatus }
 {
     match write_look(alloc, image, look, out) {
         Ok(()) => Ok(0),
@@ -179,7 +178,7 @@ pub fn look_at<R: Files + AllocGlobal, W1: Write, W2: Write>(
     out: &mut W1,
     err: &mut W2,
 ) -> Result<u8, SurveyError>
-    ensures { IfOk result (λ status. status ≤ 2) }
+    ensures { IfOk result IsLookStatus }
 {
     let alloc = rt.alloc();
     match image_in(rt, path, out, err)? {

@@ -1,6 +1,7 @@
 //! The page on what the search explores of an image.
 
-ghost use Rattle.std.specs.Prelude.{◌≤◌, IfOk};
+ghost use Rattle.std.specs.Prelude.{IfOk};
+ghost use Rattle.survey_commands.specs.Ends.{IsLookStatus};
 
 use crate::failures::SurveyError;
 use crate::looks::{image_in, tell};
@@ -35,7 +36,7 @@ fn refused_text(
 
 /// What `verify` says of a program, and the status.
 fn told_of(alloc: Global, image: &Image, overview: &Overview) -> Result<(String, u8), SurveyError>
-    ensures { IfOk result (λ told. told.1 ≤ 2) }
+    ensures { IfOk result (λ told. IsLookStatus told.1) }
 {
     match overview.ended {
         Ok(bound) => Ok((format!(in alloc; "ok bound {bound}\n")?, 0)),
@@ -75,7 +76,7 @@ pub fn show_page<R: Files + AllocGlobal, W1: Write, W2: Write>(
     out: &mut W1,
     err: &mut W2,
 ) -> Result<u8, SurveyError>
-    ensures { IfOk result (λ status. status ≤ 2) }
+    ensures { IfOk result IsLookStatus }
 {
     let alloc = rt.alloc();
     let Some(image) = image_in(rt, path, out, err)? else {

@@ -1,7 +1,8 @@
 //! The run of one frame of a stream, step by step.
 
-ghost use Rattle.std.specs.Prelude.{◌≡◌, ◌≤◌, IfOk};
-ghost use Rattle.survey_commands.specs.Ends.{found_status, missing_status};
+ghost use Rattle.std.specs.Prelude.{◌≡◌, IfOk};
+ghost use Rattle.survey_commands.specs.Ends.{IsStepsStatus, found_status, missing_status};
+ghost use Rattle.survey_commands.specs.Runs.{FindsOf};
 
 use crate::begun::{Begun, NotBegun, begin, judged};
 use crate::failures::SurveyError;
@@ -54,7 +55,9 @@ fn find<R: Files + Clock + AllocGlobal, W1: Write, W2: Write>(
     frame: u32,
     out: &mut W1,
     err: &mut W2,
-) -> Result<Found, NotBegun> {
+) -> Result<Found, NotBegun>
+    ensures { IfOk result (FindsOf asked.entry.limit.steps frame) }
+{
     let alloc = rt.alloc();
     let Begun {
         bytes: _,
@@ -189,7 +192,7 @@ pub fn print_steps<R: Files + Clock + AllocGlobal, W1: Write, W2: Write>(
     out: &mut W1,
     err: &mut W2,
 ) -> Result<u8, SurveyError>
-    ensures { IfOk result (λ status. status ≤ 5) }
+    ensures { IfOk result IsStepsStatus }
 {
     match find(rt, asked, frame, out, err) {
         Ok(found) => write_found(rt, asked, frame, is_json, &found, out, err),

@@ -1,6 +1,7 @@
 //! Surveys: the rows of all images.
 
-ghost use Rattle.std.specs.Prelude.{◌≤◌, IfOk};
+ghost use Rattle.std.specs.Prelude.{IfOk};
+ghost use Rattle.survey_commands.specs.Ends.{IsSurveyStatus};
 
 use crate::failures::{SurveyError, empty_line, unnamed_line};
 use crate::files::read_image;
@@ -279,7 +280,7 @@ pub fn survey<R: Files + Clock + AllocGlobal + Clone + Drop, W1: Write, W2: Writ
     out: &mut W1,
     err: &mut W2,
 ) -> Result<u8, SurveyError>
-    ensures { IfOk result (λ status. status ≤ 5) }
+    ensures { IfOk result IsSurveyStatus }
 {
     let named = all_named(rt, survey, err)?;
     let summary = survey_named(rt, survey, named.as_slice(), has_progress, out, err)?;
