@@ -37,11 +37,11 @@ IsHitsStatus status = (status ≡ 2) ⊎ ((finish : Finish) × (status ≡ finis
 abbrev pub IsStepsStatus : ℕ → Type 0
 IsStepsStatus status = (status ≡ 2) ⊎ ((found : FrameFound) × (status ≡ found_status found))
 
--- a survey: it says how many images got which verdict
+-- a survey: the status of some counts of verdicts
 abbrev pub IsSurveyStatus : ℕ → Type 0
 IsSurveyStatus status = (summary : Summary) × (status ≡ status_of summary)
 
--- what is asked for
+-- by what is asked for
 abbrev pub IsStatusOf : SurveyAsked → ℕ → Type 0
 IsStatusOf (asked.Survey wanted) status = IsSurveyStatus status
 IsStatusOf (asked.Log path part) status = IsLookStatus status
